@@ -1,0 +1,195 @@
+-- Laws of the list functions and of tests.
+use mathlib.Core.Path.{_≡_, refl, sym, ap, ap₂, _∙_}
+use mathlib.Core.List.{List, [], _∷_, _++_, map, append-assoc}
+use mathlib.Core.Bool.{Bool, true, false, _&&_, _||_, not, cond}
+use Prim.Native.Nat.{ℕ, zero, suc, _+_, _≤_, _<_}
+use native.Mathlib.Omega.{arith}
+use lib.Dec.{T, eqb, eqb→eq, eqb-refl}
+use lib.ListN.{length}
+use Rattle.lists.specs.Lists.{select, every, some?, empty?, nth, gather, same-list, position, distinct}
+
+-- ---- tests
+
+pub and-l : (a b : Bool) → T (a && b) → T a
+and-l true b t = tt
+and-l false b t = absurd t
+
+pub and-r : (a b : Bool) → T (a && b) → T b
+and-r true b t = t
+and-r false b t = absurd t
+
+pub and-both : (a b : Bool) → T a → T b → T (a && b)
+and-both true b s t = t
+and-both false b s t = absurd s
+
+pub or-l : (a b : Bool) → T a → T (a || b)
+or-l true b t = tt
+or-l false b t = absurd t
+
+pub or-r : (a b : Bool) → T b → T (a || b)
+or-r true b t = tt
+or-r false b t = t
+
+pub or-cases {ℓ} : {X : Type ℓ} (a b : Bool) → T (a || b) → (T a → X) → (T b → X) → X
+or-cases true b t f g = f tt
+or-cases false b t f g = g t
+
+pub T-true : (b : Bool) → T b → b ≡ true
+T-true true t = refl
+T-true false t = absurd t
+
+pub T-false : (b : Bool) → T (not b) → b ≡ false
+T-false true t = absurd t
+T-false false t = refl
+
+-- what a test gives, by its two cases
+pub cond-cases : {A X : Type 0} (b : Bool) (x y : A) {z : A} → cond b x y ≡ z → (T b → x ≡ z → X) → (T (not b) → y ≡ z → X) → X
+cond-cases true x y e f g = f tt e
+cond-cases false x y e f g = g tt e
+
+-- `search parts` finds a part of a conjunction in reach
+pub ruleset parts = (and-l, and-r)
+
+-- ---- lists
+
+module _ {A : Type 0} where
+  pub data All (P : A → Type 0) : List A → Type 0 where
+    all-nil : All P []
+    all-cons : {x : A} {xs : List A} → P x → All P xs → All P (x ∷ xs)
+
+  pub all-select : {P Q : A → Type 0} {xs : List A} (p : A → Bool) → ((x : A) → T (p x) → P x → Q x) → All P xs → All Q (select p xs)
+  unfolding select
+  all-select p f all-nil = all-nil
+  all-select {Q} p f (all-cons {x} {xs} h hs) = go (p x) (λ t. f x t h) (all-select p f hs)
+    where
+      go : (b : Bool) → (T b → Q x) → All Q (select p xs) → All Q (cond b (x ∷ select p xs) (select p xs))
+      go true q r = all-cons (q tt) r
+      go false q r = r
+
+  pub all-weaken : {P Q : A → Type 0} {xs : List A} → ((x : A) → P x → Q x) → All P xs → All Q xs
+  all-weaken f all-nil = all-nil
+  all-weaken f (all-cons {x} h hs) = all-cons (f x h) (all-weaken f hs)
+
+  pub all-head : {P : A → Type 0} {x : A} {xs : List A} → All P (x ∷ xs) → P x
+  all-head (all-cons h hs) = h
+
+  pub all-tail : {P : A → Type 0} {x : A} {xs : List A} → All P (x ∷ xs) → All P xs
+  all-tail (all-cons h hs) = hs
+
+  pub all-any : (xs : List A) → All (λ x. Unit {0}) xs
+  all-any [] = all-nil
+  all-any (x ∷ xs) = all-cons tt (all-any xs)
+
+  pub all-both : {P Q : A → Type 0} {xs : List A} → All P xs → All Q xs → All (λ x. P x × Q x) xs
+  all-both all-nil k = all-nil
+  all-both (all-cons h hs) k = all-cons (h, all-head k) (all-both hs (all-tail k))
+
+  pub all-append : {P : A → Type 0} {xs ys : List A} → All P xs → All P ys → All P (xs ++ ys)
+  all-append all-nil k = k
+  all-append (all-cons h hs) k = all-cons h (all-append hs k)
+
+  -- two lists that a test and a fact give alike
+  pub select-all : (p : A → Bool) → ((x : A) → T (p x)) → (xs : List A) → select p xs ≡ xs
+  unfolding select
+  select-all p f [] = refl
+  select-all p f (x ∷ xs) = go (p x) (f x) (select-all p f xs)
+    where
+      go : (b : Bool) → T b → select p xs ≡ xs → cond b (x ∷ select p xs) (select p xs) ≡ x ∷ xs
+      go true t e = ap (λ l. x ∷ l) e
+      go false t e = absurd t
+
+  -- a first test that the second asks anyway
+  pub select-select : (p q : A → Bool) → ((x : A) → T (q x) → T (p x)) → (xs : List A) → select q (select p xs) ≡ select q xs
+  unfolding select
+  select-select p q f [] = refl
+  select-select p q f (x ∷ xs) = go (p x) (q x) refl (f x) (select-select p q f xs)
+    where
+      go : (a b : Bool) → q x ≡ b → (T (q x) → T a) → select q (select p xs) ≡ select q xs → select q (cond a (x ∷ select p xs) (select p xs)) ≡ cond b (x ∷ select q xs) (select q xs)
+      go true true e g i = rw (e, i)
+      go true false e g i = rw (e, i)
+      go false true e g i = absurd (g (rw e tt))
+      go false false e g i = i
+
+module _ {A B : Type 0} where
+  pub all-map : {P : A → Type 0} {Q : B → Type 0} {xs : List A} (f : A → B) → ((x : A) → P x → Q (f x)) → All P xs → All Q (map f xs)
+  all-map f g all-nil = all-nil
+  all-map f g (all-cons {x} h hs) = all-cons (g x h) (all-map f g hs)
+
+  pub all-gather : {P : A → Type 0} {Q : B → Type 0} {f : A → List B} {xs : List A} → ((x : A) → P x → All Q (f x)) → All P xs → All Q (gather f xs)
+  unfolding gather
+  all-gather g all-nil = all-nil
+  all-gather g (all-cons {x} h hs) = all-append (g x h) (all-gather g hs)
+
+  pub gather-same : {f g : A → List B} {xs : List A} → All (λ x. f x ≡ g x) xs → gather f xs ≡ gather g xs
+  unfolding gather
+  gather-same all-nil = refl
+  gather-same (all-cons h hs) = ap₂ _++_ h (gather-same hs)
+
+  pub select-map : (p : B → Bool) (f : A → B) (xs : List A) → select p (map f xs) ≡ map f (select (λ x. p (f x)) xs)
+  unfolding select
+  select-map p f [] = refl
+  select-map p f (x ∷ xs) = go (p (f x)) (select-map p f xs)
+    where
+      go : (b : Bool) → select p (map f xs) ≡ map f (select (λ x. p (f x)) xs) → cond b (f x ∷ select p (map f xs)) (select p (map f xs)) ≡ map f (cond b (x ∷ select (λ x. p (f x)) xs) (select (λ x. p (f x)) xs))
+      go true e = ap (λ l. f x ∷ l) e
+      go false e = e
+
+  pub gather-append : (f : A → List B) (xs ys : List A) → gather f (xs ++ ys) ≡ gather f xs ++ gather f ys
+  unfolding gather
+  gather-append f [] ys = refl
+  gather-append f (x ∷ xs) ys = ap (λ l. f x ++ l) (gather-append f xs ys) ∙ sym (append-assoc (f x) (gather f xs) (gather f ys))
+
+pub append-nil : {A : Type 0} (xs : List A) → xs ++ [] ≡ xs
+append-nil [] = refl
+append-nil (x ∷ xs) = ap (λ l. x ∷ l) (append-nil xs)
+
+-- ---- lists of numbers
+
+pub same-list→eq : (xs ys : List ℕ) → T (same-list xs ys) → xs ≡ ys
+unfolding same-list
+same-list→eq [] [] h = refl
+same-list→eq [] (y ∷ ys) h = absurd h
+same-list→eq (x ∷ xs) [] h = absurd h
+same-list→eq (x ∷ xs) (y ∷ ys) h = ap₂ _∷_ (eqb→eq x y (search parts)) (same-list→eq xs ys (search parts))
+
+pub same-list-refl : (xs : List ℕ) → T (same-list xs xs)
+unfolding same-list
+same-list-refl [] = tt
+same-list-refl (x ∷ xs) = and-both (eqb x x) (same-list xs xs) (eqb-refl x) (same-list-refl xs)
+
+-- what stands among lists stands at its position
+pub position-nth : (n : List ℕ) (ns : List (List ℕ)) → T (some? (same-list n) ns) → nth [] ns (position n ns) ≡ n
+unfolding some? nth position
+position-nth n [] t = absurd t
+position-nth n (m ∷ ns) t = go (same-list n m) refl t (position-nth n ns)
+  where
+    go : (b : Bool) → same-list n m ≡ b → T (b || some? (same-list n) ns) → (T (some? (same-list n) ns) → nth [] ns (position n ns) ≡ n)
+        → nth [] (m ∷ ns) (cond b 0 (suc (position n ns))) ≡ n
+    go true e t f = sym (same-list→eq n m (rw e tt))
+    go false e t f = f t
+
+pub position-below : (n : List ℕ) (ns : List (List ℕ)) → T (some? (same-list n) ns) → position n ns < length ns
+unfolding some? position
+position-below n [] t = absurd t
+position-below n (m ∷ ns) t = go (same-list n m) t (position-below n ns)
+  where
+    go : (b : Bool) → T (b || some? (same-list n) ns) → (T (some? (same-list n) ns) → position n ns < length ns) → cond b 0 (suc (position n ns)) < suc (length ns)
+    go true t f = omega arith
+    go false t f = let h = f t in omega arith
+
+pub among-nth : (ns : List (List ℕ)) (i : ℕ) → i < length ns → T (some? (same-list (nth [] ns i)) ns)
+unfolding some? nth
+among-nth [] i h = absurd (omega arith)
+among-nth (m ∷ ns) zero h = or-l (same-list m m) _ (same-list-refl m)
+among-nth (m ∷ ns) (suc i) h = or-r (same-list (nth [] ns i) m) _ (among-nth ns i (omega arith))
+
+-- where no list stands twice, each stands at its own place
+pub nth-position : (ns : List (List ℕ)) (i : ℕ) → T (distinct same-list ns) → i < length ns → position (nth [] ns i) ns ≡ i
+unfolding some? nth position distinct
+nth-position [] i d h = absurd (omega arith)
+nth-position (m ∷ ns) zero d h = rw (T-true (same-list m m) (same-list-refl m))
+nth-position (m ∷ ns) (suc i) d h = go (same-list (nth [] ns i) m) refl (nth-position ns i (search parts) (omega arith))
+  where
+    go : (b : Bool) → same-list (nth [] ns i) m ≡ b → position (nth [] ns i) ns ≡ i → cond b 0 (suc (position (nth [] ns i) ns)) ≡ suc i
+    go true e p = absurd (rw (T-true (some? (same-list m) ns) (rw (same-list→eq (nth [] ns i) m (rw e tt)) at (among-nth ns i (omega arith)))) at (and-l (not (some? (same-list m) ns)) _ d))
+    go false e p = ap suc p

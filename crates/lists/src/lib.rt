@@ -1,0 +1,1 @@
+// Definitions on lists and tests: see specs/.

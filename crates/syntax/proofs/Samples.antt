@@ -1,0 +1,24 @@
+-- Texts that read back, by computation.
+use mathlib.Core.Path.{_≡_, refl}
+use mathlib.Core.List.{List, [], _∷_, _++_, map}
+use mathlib.Core.Option.{Option, none, some}
+use Rattle.syntax.specs.Grammar.{Bytes, bytes, line-text, query-text, Line, clear}
+use Rattle.syntax.specs.Readers.{parse-line, bind, readers-compute}
+
+back : Bytes → Option Bytes
+back bs = bind (parse-line bs) (λ l. some (line-text l))
+
+samples : List Bytes
+samples =
+    bytes "(stream test lot unit volts)"
+    ∷ bytes "(grant fitter read (of test) (show test.unit test.volts) (when (= test.lot self.lot)))"
+    ∷ bytes "(grant seller avg (of test) (show test.volts) (window 60 60))"
+    ∷ bytes "(grant a max (of b c) (show *) (when (and (= a.b -7) (not (or (< a.c 2147483648)))) (>= a.b self.x)) (from 10) (to 200) (window 1 0))"
+    ∷ bytes "(clock 10)" ∷ bytes "(row test 7 1 -30)" ∷ bytes "(clear)" ∷ bytes "(caller (roles))" ∷ bytes "(caller (roles a b) (self lot 7) (self x -1))"
+    ∷ bytes "(ask (pick (< figure 3) (avg test.volts 60 60 (join (= a.b c.d) (keep a.b (in a)) (in c)))))"
+    ∷ bytes "(line 1 (in test))"
+    ∷ []
+
+samples-back : map back samples ≡ map some samples
+unfolding readers-compute back samples
+samples-back = refl

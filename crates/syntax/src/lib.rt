@@ -1,0 +1,1 @@
+// Definitions of the lines' texts: see specs/.
