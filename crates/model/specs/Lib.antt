@@ -1,0 +1,9 @@
+pub mod Conditions
+pub mod Queries
+pub mod Aggregates
+pub mod Meaning
+pub mod Grants
+pub mod Checks
+pub mod Routes
+pub mod Rewriting
+pub mod Answers

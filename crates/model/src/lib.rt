@@ -1,0 +1,1 @@
+// Definitions of queries, grants, views, routes and answers: see specs/.
