@@ -1,0 +1,114 @@
+-- The refusal table, line form by line form: checks 3, 2, 6, 4, 5, 7 and 8, in that order. What goes before them and after them stands with the calls.
+use mathlib.Core.List.{List, [], _∷_, _++_, map}
+use mathlib.Core.Bool.{Bool, true, false, _&&_, _||_, not}
+use mathlib.Core.Option.{Option, none, some}
+use Prim.Native.Nat.{ℕ}
+use lib.IntN.{ℤ}
+use lib.Dec.{leb, ltb, eqb}
+use lib.ListN.{length}
+use Rattle.refusal.specs.declared.Refusal.{Refusal}
+use Rattle.refusal.specs.declared.Refusal.the-variants.{Bound, Undeclared, Repeated, Misplaced, WindowSize, ClockBack, StreamFull}
+use Rattle.lists.specs.Lists.{every, some?, gather, distinct, nth, same-list}
+use Rattle.syntax.specs.Grammar as G
+use Rattle.syntax.specs.Grammar.{Bytes, Ref, Show, Span, Right, Form, GrantLine, Entry}
+use Rattle.model.specs.Queries.{Schema, Record, Grant}
+use Rattle.model.specs.Checks.{placed, sized, grant-placed}
+use Rattle.calls.specs.Names.{stream-names, columns-named, stream-number, is-self, natural, resolve, resolve-grant, cond-refs, form-streams, form-refs, form-keeps}
+use Rattle.calls.specs.Bounds.{max-streams, max-rows, max-grants, short, is-value, is-time, form-bounded, stream-bounded, grant-bounded, caller-bounded}
+use Rattle.calls.specs.Validity.{reserved, entry-names}
+use Rattle.calls.specs.Refusals.{Check, refuse, refusals-compute}
+
+-- ---- names
+
+unfoldable pub declared : Schema → Bytes → Bool
+declared d n = some? (same-list n) (stream-names d)
+
+-- `self.NAME` names no column
+unfoldable pub ref-declared : Schema → Ref → Bool
+ref-declared d (G.dotted n m) = is-self n || declared d n && some? (same-list m) (columns-named d (stream-number d n))
+ref-declared d G.time = true
+ref-declared d G.figure = true
+
+unfoldable pub same-ref : Ref → Ref → Bool
+same-ref (G.dotted n m) (G.dotted k l) = same-list n k && same-list m l
+same-ref (G.dotted n m) G.time = false
+same-ref (G.dotted n m) G.figure = false
+same-ref G.time (G.dotted k l) = false
+same-ref G.time G.time = true
+same-ref G.time G.figure = false
+same-ref G.figure (G.dotted k l) = false
+same-ref G.figure G.time = false
+same-ref G.figure G.figure = true
+
+unfoldable pub show-refs : Show → List Ref
+show-refs G.everything = []
+show-refs (G.listed rs) = rs
+
+-- ---- (stream S C ..)
+
+unfoldable pub stream-table : Schema → Bytes → List Bytes → List Check
+stream-table d s cs =
+    refuse Bound (not (stream-bounded s cs && ltb (length d) max-streams))
+    ∷ refuse Repeated (declared d s || not (distinct same-list cs))
+    ∷ refuse Misplaced (some? reserved (s ∷ cs))
+    ∷ []
+
+-- ---- the clock and rows
+
+unfoldable pub clock-table : Record → ℤ → List Check
+clock-table x n =
+    refuse Bound (not (is-time n))
+    ∷ refuse ClockBack (ltb (natural n) (x .clock))
+    ∷ []
+
+-- a row of a stream by its number
+unfoldable pub row-table : Record → ℕ → List ℤ → List Check
+row-table x s vs =
+    refuse Bound (not (every is-value vs))
+    ∷ refuse Undeclared (leb (length (x .schema)) s)
+    ∷ refuse Misplaced (not (eqb (length vs) (length (columns-named (x .schema) s))))
+    ∷ refuse StreamFull (leb max-rows (length (nth [] (x .rows) s)))
+    ∷ []
+
+-- ---- (grant ..)
+
+-- `window` stands only with the aggregate rights
+unfoldable pub window-allowed : Right → Option Span → Bool
+window-allowed G.read none = true
+window-allowed G.read (some w) = false
+window-allowed (G.figures f) w = true
+
+unfoldable pub grant-table : Schema → List Grant → GrantLine → List Check
+grant-table d gs g =
+    refuse Bound (not (grant-bounded g && ltb (length gs) max-grants))
+    ∷ refuse Undeclared (not (every (declared d) (g .of) && every (ref-declared d) (show-refs (g .show) ++ gather cond-refs (g .when))))
+    ∷ refuse Repeated (not (distinct same-list (g .of) && distinct same-ref (show-refs (g .show))))
+    ∷ refuse Misplaced (not (grant-placed d (resolve-grant d g) && window-allowed (g .right) (g .window)))
+    ∷ []
+
+-- ---- (caller ..)
+
+unfoldable pub caller-table : List Bytes → List Entry → List Check
+caller-table rs es =
+    refuse Bound (not (caller-bounded rs es))
+    ∷ refuse Repeated (not (distinct same-list rs && distinct same-list (entry-names es)))
+    ∷ []
+
+-- ---- queries
+
+unfoldable pub query-declared : Schema → Form → Bool
+query-declared d q = every (declared d) (form-streams q) && every (ref-declared d) (form-refs q)
+
+unfoldable pub query-table : Schema → Form → List Check
+query-table d q =
+    refuse Bound (not (form-bounded q))
+    ∷ refuse Undeclared (not (query-declared d q))
+    ∷ refuse Repeated (not (every (distinct same-ref) (form-keeps q)))
+    ∷ refuse Misplaced (not (placed d (resolve d q)))
+    ∷ refuse WindowSize (not (sized (resolve d q)))
+    ∷ []
+
+-- To unfold this is to unfold every definition above.
+unfoldable pub tables-compute : Unit {0}
+unfolding refusals-compute declared ref-declared same-ref show-refs stream-table clock-table row-table window-allowed grant-table caller-table query-declared query-table
+tables-compute = tt

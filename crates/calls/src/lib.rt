@@ -1,0 +1,1 @@
+// Definitions of the calls and of their refusals: see specs/.
