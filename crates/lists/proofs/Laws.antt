@@ -6,6 +6,7 @@ use Prim.Native.Nat.{ℕ, zero, suc, _+_, _≤_, _<_}
 use native.Mathlib.Omega.{arith}
 use lib.Dec.{T, eqb, eqb→eq, eqb-refl}
 use lib.ListN.{length}
+pub use Rattle.lists.specs.Lists.{All, all-nil, all-cons}
 use Rattle.lists.specs.Lists.{select, every, some?, empty?, nth, gather, same-list, position, distinct}
 
 -- ---- tests
@@ -53,10 +54,6 @@ pub ruleset parts = (and-l, and-r)
 -- ---- lists
 
 module _ {A : Type 0} where
-  pub data All (P : A → Type 0) : List A → Type 0 where
-    all-nil : All P []
-    all-cons : {x : A} {xs : List A} → P x → All P xs → All P (x ∷ xs)
-
   pub all-select : {P Q : A → Type 0} {xs : List A} (p : A → Bool) → ((x : A) → T (p x) → P x → Q x) → All P xs → All Q (select p xs)
   unfolding select
   all-select p f all-nil = all-nil

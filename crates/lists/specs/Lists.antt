@@ -33,6 +33,11 @@ module _ {A : Type 0} where
   distinct same [] = true
   distinct same (x ∷ xs) = not (some? (same x) xs) && distinct same xs
 
+-- a fact of each item
+pub data All {A : Type 0} (P : A → Type 0) : List A → Type 0 where
+  all-nil : All P []
+  all-cons : {x : A} {xs : List A} → P x → All P xs → All P (x ∷ xs)
+
 -- for each item of a list the items that it gives, in order
 unfoldable pub gather : {A B : Type 0} → (A → List B) → List A → List B
 gather f [] = []

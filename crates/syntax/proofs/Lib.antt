@@ -1,1 +1,10 @@
 mod Samples
+pub mod Steps
+pub mod Lexical
+pub mod Terms
+pub mod Items
+pub mod Conditions
+pub mod Queries
+pub mod Grants
+pub mod Lengths
+pub mod Lines
