@@ -7,3 +7,4 @@ pub mod Checks
 pub mod Routes
 pub mod Rewriting
 pub mod Answers
+pub mod Alike

@@ -1,0 +1,139 @@
+-- Columns that stand only once.
+use mathlib.Core.Path.{_≡_}
+use mathlib.Core.List.{List, [], _∷_, _++_, map}
+use mathlib.Core.Bool.{Bool, true, false, _&&_, _||_, not, cond}
+use Prim.Native.Nat.{ℕ, zero, suc, _≤_}
+use native.Mathlib.Omega.{arith}
+use lib.ListN.{length}
+use lib.Dec.{T, eqb, eqb→eq, eqb-refl}
+use Rattle.lists.specs.Lists.{select, some?, gather, nth, count-from, distinct}
+use Rattle.lists.proofs.Laws.{and-both, or-l, or-r, or-cases, parts}
+use Rattle.model.specs.Queries.{Schema, no-stream, Col, col, same-col, columns-of}
+use Rattle.model.specs.Checks.{has}
+use Rattle.model.proofs.Columns.{same-col→eq, same-col-refl, has-append, has-append-r}
+
+-- ---- tests that fail
+
+not-by : (a b : Bool) → (T a → T b) → T (not b) → T (not a)
+not-by true b f n = go b (f tt) n
+  where
+    go : (b : Bool) → T b → T (not b) → T (not true)
+    go true t n = n
+    go false t n = t
+not-by false b f n = tt
+
+not-of : (a : Bool) → (T a → ⊥) → T (not a)
+not-of true f = f tt
+not-of false f = tt
+
+clash : (a : Bool) → T a → T (not a) → ⊥
+clash true t n = n
+clash false t n = t
+
+-- ---- parts of a list
+
+module _ {A : Type 0} where
+  some-select : (p q : A → Bool) (xs : List A) → T (some? q (select p xs)) → T (some? q xs)
+  unfolding some? select
+  some-select p q [] t = t
+  some-select p q (x ∷ xs) t = go (p x) t (some-select p q xs)
+    where
+      go : (b : Bool) → T (some? q (cond b (x ∷ select p xs) (select p xs))) → (T (some? q (select p xs)) → T (some? q xs)) → T (q x || some? q xs)
+      go true t f = or-cases (q x) (some? q (select p xs)) t (λ u. or-l (q x) _ u) (λ u. or-r (q x) _ (f u))
+      go false t f = or-r (q x) _ (f t)
+
+  some-append : (q : A → Bool) (xs ys : List A) → T (some? q xs) → T (some? q (xs ++ ys))
+  unfolding some?
+  some-append q [] ys t = absurd t
+  some-append q (x ∷ xs) ys t = or-cases (q x) (some? q xs) t (λ u. or-l (q x) _ u) (λ u. or-r (q x) _ (some-append q xs ys u))
+
+  module _ (same : A → A → Bool) where
+    pub distinct-select : (p : A → Bool) (xs : List A) → T (distinct same xs) → T (distinct same (select p xs))
+    unfolding distinct select
+    distinct-select p [] h = tt
+    distinct-select p (x ∷ xs) h = go (p x) (distinct-select p xs (search parts))
+      where
+        go : (b : Bool) → T (distinct same (select p xs)) → T (distinct same (cond b (x ∷ select p xs) (select p xs)))
+        go true k = and-both (not (some? (same x) (select p xs))) _ (not-by (some? (same x) (select p xs)) (some? (same x) xs) (some-select p (same x) xs) (search parts)) k
+        go false k = k
+
+    pub distinct-l : (xs ys : List A) → T (distinct same (xs ++ ys)) → T (distinct same xs)
+    unfolding distinct
+    distinct-l [] ys h = tt
+    distinct-l (x ∷ xs) ys h = and-both (not (some? (same x) xs)) _ (not-by (some? (same x) xs) (some? (same x) (xs ++ ys)) (some-append (same x) xs ys) (search parts)) (distinct-l xs ys (search parts))
+
+    pub distinct-r : (xs ys : List A) → T (distinct same (xs ++ ys)) → T (distinct same ys)
+    unfolding distinct
+    distinct-r [] ys h = h
+    distinct-r (x ∷ xs) ys h = distinct-r xs ys (search parts)
+
+-- ---- lists of columns
+
+pub distinct-append : (xs ys : List Col) → T (distinct same-col xs) → T (distinct same-col ys) → ((c : Col) → T (has xs c) → T (has ys c) → ⊥) → T (distinct same-col (xs ++ ys))
+unfolding distinct has some?
+distinct-append [] ys h k f = k
+distinct-append (x ∷ xs) ys h k f =
+    and-both (not (some? (same-col x) (xs ++ ys))) _
+    (not-of (has (xs ++ ys) x) (λ t. has-append x xs ys t (λ u. clash (has xs x) u (search parts)) (f x (or-l (same-col x x) _ (same-col-refl x)))))
+    (distinct-append xs ys (search parts) k (λ c u. f c (or-r (same-col c x) _ u)))
+
+pub distinct-apart : (xs ys : List Col) → T (distinct same-col (xs ++ ys)) → (c : Col) → T (has xs c) → T (has ys c) → ⊥
+unfolding distinct has some?
+distinct-apart [] ys h c t u = absurd t
+distinct-apart (x ∷ xs) ys h c t u =
+    or-cases (same-col c x) (some? (same-col c) xs) t
+    (λ v. clash (has (xs ++ ys) x) (has-append-r x xs ys (rw (same-col→eq c x v) at u)) (search parts))
+    (λ v. distinct-apart xs ys (search parts) c v u)
+
+-- ---- the columns of streams
+
+-- every column of a stream names it
+names : (s : ℕ) (ns : List ℕ) (c : Col) → T (has (map (col s) ns) c) → (e : ℕ) × (c ≡ col s e)
+unfolding has some?
+names s [] c t = absurd t
+names s (n ∷ ns) c t = or-cases (same-col c (col s n)) _ t (λ u. (n, same-col→eq c (col s n) u)) (λ u. names s ns c u)
+
+same-stream : (s t : ℕ) (c : Col) → (e : ℕ) × (c ≡ col s e) → (f : ℕ) × (c ≡ col t f) → s ≡ t
+same-stream s t c (e, p) (f, q) = cc
+
+beyond : (s a b n : ℕ) → T (has (map (col s) (count-from b n)) (col s a)) → b ≤ a
+unfolding has some? count-from same-col
+beyond s a b zero t = absurd t
+beyond s a b (suc n) t =
+    or-cases (eqb s s && eqb a b) _ t
+    (λ u. let e = eqb→eq a b (search parts) in omega arith)
+    (λ u. let h = beyond s a (suc b) n u in omega arith)
+
+counted-once : (s a n : ℕ) → T (distinct same-col (map (col s) (count-from a n)))
+unfolding distinct count-from has
+counted-once s a zero = tt
+counted-once s a (suc n) =
+    and-both (not (some? (same-col (col s a)) (map (col s) (count-from (suc a) n)))) _
+    (not-of (has (map (col s) (count-from (suc a) n)) (col s a)) (λ t. let h = beyond s a (suc a) n t in omega arith)) (counted-once s (suc a) n)
+
+module _ (d : Schema) where
+  pub columns-distinct : (s : ℕ) → T (distinct same-col (columns-of d s))
+  unfolding columns-of
+  columns-distinct s = counted-once s 0 _
+
+  one-stream : (s t : ℕ) (c : Col) → T (has (columns-of d s) c) → T (has (columns-of d t) c) → s ≡ t
+  unfolding columns-of
+  one-stream s t c h k = same-stream s t c (names s (numbers s) c h) (names t (numbers t) c k)
+    where
+      numbers : ℕ → List ℕ
+      numbers s = count-from 0 (length (nth no-stream d s .columns))
+
+  among-streams : (s : ℕ) (ss : List ℕ) (c : Col) → T (has (columns-of d s) c) → T (has (gather (columns-of d) ss) c) → T (some? (eqb s) ss)
+  unfolding gather some?
+  among-streams s [] c h k = unfold has in k
+  among-streams s (t ∷ ss) c h k =
+      has-append c (columns-of d t) (gather (columns-of d) ss) k
+      (λ u. or-l (eqb s t) _ (rw (one-stream s t c h u) (eqb-refl t)))
+      (λ u. or-r (eqb s t) _ (among-streams s ss c h u))
+
+  pub gather-distinct : (ss : List ℕ) → T (distinct eqb ss) → T (distinct same-col (gather (columns-of d) ss))
+  unfolding gather distinct
+  gather-distinct [] h = tt
+  gather-distinct (s ∷ ss) h =
+      distinct-append (columns-of d s) (gather (columns-of d) ss) (columns-distinct s) (gather-distinct ss (search parts))
+      (λ c t u. clash (some? (eqb s) ss) (among-streams s ss c t u) (search parts))

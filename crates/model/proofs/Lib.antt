@@ -1,0 +1,12 @@
+pub mod Columns
+pub mod Ways
+pub mod Rewriting
+pub mod Interference
+pub mod Limits
+pub mod Accepted
+pub mod Distinct
+pub mod Keeps
+pub mod Weights
+pub mod Widths
+pub mod Windows
+pub mod Averages
