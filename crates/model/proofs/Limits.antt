@@ -124,6 +124,7 @@ module _ (who : Caller) (g : Grant) where
 pub limits-placed : (d : Schema) (who : Caller) (g : Grant) → T (grant-placed d g) → (c : Cond Compare) (cs : List (Cond Compare)) → limits who g ≡ c ∷ cs
     → T (pickable (all (conds-of c cs))) × T (within (cond-cols (all (conds-of c cs))) (gather (columns-of d) (g .of)))
 unfolding grant-placed
-limits-placed d who g h c cs e =
-    (pickable-all c cs (rw e at (limits-pickable who g (gather (columns-of d) (g .of)) (search parts))),
-    within-all (gather (columns-of d) (g .of)) c cs (rw e at (limits-within who g (gather (columns-of d) (g .of)) (search parts))))
+limits-placed d who g h c cs e = (
+  pickable-all c cs (rw e at (limits-pickable who g (gather (columns-of d) (g .of)) (search parts))),
+  within-all (gather (columns-of d) (g .of)) c cs (rw e at (limits-within who g (gather (columns-of d) (g .of)) (search parts))),
+)

@@ -176,10 +176,16 @@ module _ (d : Schema) (who : Caller) (catalogue : List Grant) (K : Grant → Typ
       (λ s n k b t. (λ i. side-seen d who s n, λ i. free-seen d who (source s) n, λ w z. on-view (source s) n k b w t))
       (λ c q x t h. (h .0, h .1, λ w z. on-pick c x (search parts) t (h .2 (search parts) z)))
       (λ cs q x h. (h .0, h .1, λ w z. on-keep cs x (h .1 (search parts)) (h .2 (search parts) z)))
-      (λ a b q r x y t h i. (λ s. s, λ n. and-both (no-aggregate (line d who x)) (no-aggregate (line d who y)) (h .1 (search parts)) (i .1 (search parts)),
-      λ w z. on-join a b x y (h .0 (search parts)) (i .0 (search parts)) t (h .2 (search parts) (search parts)) (i .2 (search parts) (search parts))))
-      (λ a b q r n k o t. (λ s. absurd s, λ s. free-over d who (join a b q r) n s,
-      λ w z. on-keep _ _ (free-picks d who (picks r) _ (free-picks d who (picks q) _ (free-seen d who (join a b q r) n))) (pair-picked a b q r n w t (on-view (join a b q r) n k o w t))))
+      (λ a b q r x y t h i. (
+        λ s. s,
+        λ n. and-both (no-aggregate (line d who x)) (no-aggregate (line d who y)) (h .1 (search parts)) (i .1 (search parts)),
+        λ w z. on-join a b x y (h .0 (search parts)) (i .0 (search parts)) t (h .2 (search parts) (search parts)) (i .2 (search parts) (search parts)),
+      ))
+      (λ a b q r n k o t. (
+        λ s. absurd s,
+        λ s. free-over d who (join a b q r) n s,
+        λ w z. on-keep _ _ (free-picks d who (picks r) _ (free-picks d who (picks q) _ (free-seen d who (join a b q r) n))) (pair-picked a b q r n w t (on-view (join a b q r) n k o w t)),
+      ))
       (λ f c size offset q x t h. (λ s. s, λ n. n, λ w z. on-aggregate f c size offset x (h .1 (search parts)) t (search parts) (h .2 (search parts) (search parts))))
       (λ f c size offset q n k b t. (λ s. s, λ n. n, λ w z. on-figures f c size offset q n k b w (search parts) t))
       q)

@@ -1,0 +1,248 @@
+-- What accepted grant and caller lines store is valid.
+use mathlib.Core.Path.{_≡_, refl, sym, ap, _∙_, subst}
+use mathlib.Core.List.{List, [], _∷_, _++_, map}
+use mathlib.Core.Bool.{Bool, true, false, _&&_, _||_, not, cond}
+use mathlib.Core.Option.{Option, none, some}
+use Prim.Native.Nat.{ℕ, zero, suc, _+_, _≤_, _<_}
+use native.Mathlib.Omega.{arith}
+use lib.IntN.{ℤ, pos, negsuc}
+use lib.Dec.{T, leb, ltb, eqb, leb→le, le→leb, ltb→lt, lt→ltb, eqb→eq, eqb-refl, not-T, T-not}
+use lib.ListN.{length, length-append, length-map}
+use Rattle.lists.specs.Lists.{every, some?, empty?, nth, distinct, same-list, position, gather, count-from}
+use Rattle.lists.proofs.Laws.{parts, and-l, and-r, and-both, or-cases, T-true, T-false, same-list→eq, same-list-refl, position-nth, position-below}
+use Rattle.syntax.specs.Grammar as G
+use Rattle.syntax.specs.Grammar.{Bytes, Line, Cond, test, all, any, neg, Conds, last, more, Ref, Operand, Test, Show, Span, Right, GrantLine, Entry, name?, ref?, operand?, test?, cond?, conds?, some-all, show?, grant?, entry?, line?}
+use Rattle.model.specs.Conditions.{tests, tests-of, map-cond, map-conds}
+use Rattle.model.specs.Queries.{Stream, Schema, no-stream, col, columns-of, Term, column, time, number, self, Compare, Grant, Caller}
+use Rattle.model.specs.Checks.{grant-placed}
+use Rattle.calls.specs.Names
+use Rattle.calls.specs.Names.{stream-names, columns-named, stream-number, is-self, term-of, operand-of, compare-of, natural, shown-columns, map-option, size-of, offset-of, resolve-grant, operand-refs, operand-numbers, cond-refs, cond-numbers}
+use Rattle.calls.specs.Bounds.{short, short-ref, is-value, is-time, is-limit, is-span, top, max-grants, max-roles, max-entries, max-streams, cond-bounded, grant-bounded, caller-bounded, show-bounded}
+use Rattle.calls.specs.Validity.{valid-name, valid-stream, valid-schema, valid-term, valid-cond, valid-limit, valid-window, valid-grant, valid-catalogue, entry-names, valid-caller}
+use Rattle.calls.specs.Refusals.{Check, refuse, passes, written}
+use Rattle.calls.specs.Tables.{declared, window-allowed, grant-table, caller-table}
+use Rattle.calls.proofs.Passing.{not-not, not-or-l, not-or-r, pass-first, pass-rest, pass-test}
+
+-- ---- lists
+
+every-map : {A B : Type 0} (p : B → Bool) (f : A → B) (q : A → Bool) → ((a : A) → T (q a) → T (p (f a))) → (xs : List A) → T (every q xs) → T (every p (map f xs))
+unfolding every
+every-map p f q h [] t = tt
+every-map p f q h (x ∷ xs) t = and-both (p (f x)) (every p (map f xs)) (h x (search parts)) (every-map p f q h xs (search parts))
+
+every-both : {A : Type 0} (p q r : A → Bool) → ((a : A) → T (p a) → T (q a) → T (r a)) → (xs : List A) → T (every p xs) → T (every q xs) → T (every r xs)
+unfolding every
+every-both p q r h [] t u = tt
+every-both p q r h (x ∷ xs) t u = and-both (r x) (every r xs) (h x (search parts) (search parts)) (every-both p q r h xs (search parts) (search parts))
+
+-- ---- streams of a grant
+
+below : (d : Schema) (n : Bytes) → T (declared d n) → T (ltb (stream-number d n) (length d))
+unfolding declared stream-number stream-names
+below d n t = lt→ltb (position n (map (λ s. s .name) d)) (length d) (rw (length-map d (λ (s : Stream). s .name)) at (position-below n (map (λ s. s .name) d) t))
+
+-- two declared names with one number are one name
+number-one : (d : Schema) (n m : Bytes) → T (declared d n) → T (declared d m) → stream-number d n ≡ stream-number d m → n ≡ m
+unfolding declared stream-number
+number-one d n m t u e = sym (position-nth n (stream-names d) t) ∙ ap (nth [] (stream-names d)) e ∙ position-nth m (stream-names d) u
+
+numbers-apart : (d : Schema) (n : Bytes) (ns : List Bytes) → T (declared d n) → T (every (declared d) ns) → T (not (some? (same-list n) ns))
+    → T (not (some? (eqb (stream-number d n)) (map (stream-number d) ns)))
+unfolding every some?
+numbers-apart d n [] t u v = tt
+numbers-apart d n (m ∷ ns) t u v =
+    not-T (eqb (stream-number d n) (stream-number d m) || some? (eqb (stream-number d n)) (map (stream-number d) ns)) (λ w.
+    or-cases (eqb (stream-number d n) (stream-number d m)) (some? (eqb (stream-number d n)) (map (stream-number d) ns)) w
+    (λ e. T-not (same-list n m) (not-or-l (same-list n m) (some? (same-list n) ns) v) (rw (number-one d n m t (search parts) (eqb→eq (stream-number d n) (stream-number d m) e)) (same-list-refl m)))
+    (λ e. T-not (some? (eqb (stream-number d n)) (map (stream-number d) ns)) (numbers-apart d n ns t (search parts) (not-or-r (same-list n m) (some? (same-list n) ns) v)) e))
+
+numbers-distinct : (d : Schema) (ns : List Bytes) → T (every (declared d) ns) → T (distinct same-list ns) → T (distinct eqb (map (stream-number d) ns))
+unfolding every distinct
+numbers-distinct d [] t u = tt
+numbers-distinct d (n ∷ ns) t u =
+    and-both (not (some? (eqb (stream-number d n)) (map (stream-number d) ns))) (distinct eqb (map (stream-number d) ns))
+    (numbers-apart d n ns (search parts) (search parts) (search parts)) (numbers-distinct d ns (search parts) (search parts))
+
+-- ---- what it shows
+
+some-columns : (d : Schema) (s : ℕ) → T (every valid-stream d) → s < length d → T (not (empty? (columns-of d s)))
+unfolding every valid-stream columns-of nth count-from empty?
+some-columns [] s v l = absurd (omega arith)
+some-columns (r ∷ d) zero v l = go (r .columns) (search parts)
+  where
+    go : (cs : List Bytes) → T (not (empty? cs)) → T (not (empty? (map (col 0) (count-from 0 (length cs)))))
+    go [] t = t
+    go (c ∷ cs) t = tt
+some-columns (r ∷ d) (suc s) v l = go (length (nth no-stream d s .columns)) (unfold columns-of count-from empty? nth in some-columns d s (search parts) (omega arith))
+  where
+    go : (n : ℕ) → T (not (empty? (map (col s) (count-from 0 n)))) → T (not (empty? (map (col (suc s)) (count-from 0 n))))
+    go zero t = t
+    go (suc n) t = tt
+
+append-some : {A : Type 0} (xs ys : List A) → T (not (empty? xs)) → T (not (empty? (xs ++ ys)))
+unfolding empty?
+append-some [] ys t = absurd t
+append-some (x ∷ xs) ys t = tt
+
+map-some : {A B : Type 0} (f : A → B) (xs : List A) → T (not (empty? xs)) → T (not (empty? (map f xs)))
+unfolding empty?
+map-some f [] t = t
+map-some f (x ∷ xs) t = tt
+
+shows-some : (d : Schema) (ns : List Bytes) (w : Show) → T (valid-schema d) → T (some-all name? ns) → T (every (declared d) ns) → T (show? w) → T (not (empty? (shown-columns d (map (stream-number d) ns) w)))
+unfolding some-all shown-columns show? gather every valid-schema empty?
+shows-some d [] w v t u k = absurd (and-l false true t)
+shows-some d (n ∷ ns) G.everything v t u k =
+    append-some (columns-of d (stream-number d n)) _ (some-columns d (stream-number d n) (search parts) (ltb→lt (stream-number d n) (length d) (below d n (search parts))))
+shows-some d (n ∷ ns) (G.listed rs) v t u k = map-some (Names.column-of d) rs (search parts)
+
+-- ---- its conditions
+
+mutual
+  unfolding tests map-cond
+
+  pub tests-map : {A B : Type 0} (f : A → B) (c : Cond A) → tests (map-cond f c) ≡ map f (tests c)
+  tests-map f (test a) = refl
+  tests-map f (all cs) = tests-maps f cs
+  tests-map f (any cs) = tests-maps f cs
+  tests-map f (neg c) = tests-map f c
+
+  tests-maps : {A B : Type 0} (f : A → B) (cs : Conds A) → tests-of (map-conds f cs) ≡ map f (tests-of cs)
+  tests-maps f (last c) = tests-map f c
+  tests-maps f (more c cs) = mathlib.Core.Path.ap₂ _++_ (tests-map f c) (tests-maps f cs) ∙ sym (mathlib.Core.List.map-append f (tests c) (tests-of cs))
+
+pub every-append-l : {A : Type 0} (p : A → Bool) (xs ys : List A) → T (every p (xs ++ ys)) → T (every p xs)
+unfolding every
+every-append-l p [] ys t = tt
+every-append-l p (x ∷ xs) ys t = and-both (p x) (every p xs) (search parts) (every-append-l p xs ys (search parts))
+
+pub every-append-r : {A : Type 0} (p : A → Bool) (xs ys : List A) → T (every p (xs ++ ys)) → T (every p ys)
+unfolding every
+every-append-r p [] ys t = t
+every-append-r p (x ∷ xs) ys t = every-append-r p xs ys (search parts)
+
+pub every-append : {A : Type 0} (p : A → Bool) (xs ys : List A) → T (every p xs) → T (every p ys) → T (every p (xs ++ ys))
+unfolding every
+every-append p [] ys t u = u
+every-append p (x ∷ xs) ys t u = and-both (p x) (every p (xs ++ ys)) (search parts) (every-append p xs ys (search parts) u)
+
+pub every-gather : {A B : Type 0} (p : B → Bool) (f : A → List B) (xs : List A) → T (every p (gather f xs)) → T (every (λ x. every p (f x)) xs)
+unfolding every gather
+every-gather p f [] t = tt
+every-gather p f (x ∷ xs) t = and-both (every p (f x)) (every (λ x. every p (f x)) xs) (every-append-l p (f x) (gather f xs) t) (every-gather p f xs (every-append-r p (f x) (gather f xs) t))
+
+mutual
+  unfolding cond? tests every
+
+  pub cond-tests : (c : Cond Test) → T (cond? c) → T (every test? (tests c))
+  cond-tests (test t) h = and-both (test? t) true h tt
+  cond-tests (all cs) h = conds-tests cs h
+  cond-tests (any cs) h = conds-tests cs h
+  cond-tests (neg c) h = cond-tests c h
+
+  conds-tests : (cs : Conds Test) → T (conds? cs) → T (every test? (tests-of cs))
+  conds-tests (last c) h = cond-tests c h
+  conds-tests (more c cs) h = every-append test? (tests c) (tests-of cs) (cond-tests c (search parts)) (conds-tests cs (search parts))
+
+self-valid : (d : Schema) (r : Ref) → T (ref? r) → T (short-ref r) → T (valid-term (term-of d r))
+unfolding ref? short-ref term-of valid-term valid-name
+self-valid d (G.dotted n m) t u = go (is-self n)
+  where
+    go : (b : Bool) → T (valid-term (cond b (self m) (column (Names.col-of d n m))))
+    go true = and-both (name? m) (short m) (search parts) (search parts)
+    go false = tt
+self-valid d G.time t u = tt
+self-valid d G.figure t u = tt
+
+operand-valid : (d : Schema) (o : Operand) → T (operand? o) → T (every short-ref (operand-refs o)) → T (every is-value (operand-numbers o)) → T (valid-term (operand-of d o))
+unfolding operand? operand-refs operand-numbers operand-of valid-term every
+operand-valid d (G.ref r) t u v = self-valid d r t (search parts)
+operand-valid d (G.number z) t u v = search parts
+
+cond-valid : (d : Schema) (c : Cond Test) → T (cond? c) → T (cond-bounded c) → T (valid-cond (map-cond (compare-of d) c))
+unfolding cond-bounded cond-refs cond-numbers valid-cond compare-of
+cond-valid d c t u =
+    rw (tests-map (compare-of d) c)
+    (every-map _ (compare-of d) (λ t. test? t && every short-ref (t .left ∷ operand-refs (t .right)) && every is-value (operand-numbers (t .right)))
+    (λ t h. both t h)
+    (tests c)
+    (every-both (λ t. test? t && every short-ref (t .left ∷ operand-refs (t .right))) (λ t. every is-value (operand-numbers (t .right))) _ (λ t a b. and-both (test? t && every short-ref (t .left ∷ operand-refs (t .right))) (every is-value (operand-numbers (t .right))) a b) (tests c)
+    (every-both test? (λ t. every short-ref (t .left ∷ operand-refs (t .right))) _ (λ t a b. and-both (test? t) (every short-ref (t .left ∷ operand-refs (t .right))) a b) (tests c) (cond-tests c t) (every-gather short-ref (λ t. t .left ∷ operand-refs (t .right)) (tests c) (search parts)))
+    (every-gather is-value (λ t. operand-numbers (t .right)) (tests c) (search parts))))
+  where
+    both : (t : Test) → T (test? t && every short-ref (t .left ∷ operand-refs (t .right)) && every is-value (operand-numbers (t .right))) → T (valid-term (term-of d (t .left)) && valid-term (operand-of d (t .right)))
+    both t h = unfold test? every in and-both (valid-term (term-of d (t .left))) (valid-term (operand-of d (t .right))) (self-valid d (t .left) (search parts) (search parts)) (operand-valid d (t .right) (search parts) (search parts) (search parts))
+
+-- ---- its numbers
+
+limit-valid : (n : Option ℤ) → T (is-limit n) → T (valid-limit (map-option natural n))
+unfolding is-limit is-time map-option natural valid-limit
+limit-valid none t = tt
+limit-valid (some (pos n)) t = t
+limit-valid (some (negsuc n)) t = absurd t
+
+natural-top : (n : ℤ) → T (is-time n) → T (leb (natural n) top)
+unfolding is-time natural
+natural-top (pos n) t = t
+natural-top (negsuc n) t = absurd t
+
+window-valid : (r : Right) (w : Option Span) → T (window-allowed r w) → T (is-span w) → T (valid-window r (size-of w) (offset-of w))
+unfolding window-allowed is-span valid-window size-of offset-of top
+window-valid G.read none t u = tt
+window-valid G.read (some w) t u = absurd t
+window-valid (G.figures f) none t u = tt
+window-valid (G.figures f) (some w) t u =
+    and-both (leb (natural (w .size)) top) (leb (natural (w .offset)) top) (natural-top (w .size) (search parts)) (natural-top (w .offset) (search parts))
+
+-- ---- a whole grant
+
+nine : (a b c d e f g h i : Bool) → T a → T b → T c → T d → T e → T f → T g → T h → T i → T (a && b && c && d && e && f && g && h && i)
+nine true true true true true true true true true p q r s t u v w x = tt
+
+six : (a b c d e f : Bool) → T a → T b → T c → T d → T e → T f → T (a && b && c && d && e && f)
+six true true true true true true p q r s t u = tt
+
+pass-bounds : (g : GrantLine) → T (grant-bounded g) → T (short (g .role)) × T (every cond-bounded (g .when)) × T (is-limit (g .from)) × T (is-limit (g .to)) × T (is-span (g .window))
+unfolding grant-bounded
+pass-bounds g t = (search parts depth 8, search parts depth 8, search parts depth 8, search parts depth 8, search parts depth 8)
+
+-- an accepted grant line stores a valid grant
+pub grant-stored : (d : Schema) (gs : List Grant) (g : GrantLine) → T (valid-schema d) → T (grant? g) → T (passes (grant-table d gs g)) → T (valid-grant d (resolve-grant d g))
+unfolding grant? grant-table valid-grant resolve-grant grant-bounded valid-name
+grant-stored d gs g v h t =
+    let b = pass-test _ (grant-bounded g && ltb (length gs) max-grants) _ t in
+    let t2 = pass-rest _ _ _ t in
+    let u = pass-test _ (every (declared d) (g .of) && _) _ t2 in
+    let t6 = pass-rest _ _ _ t2 in
+    let r = pass-test _ (distinct same-list (g .of) && _) _ t6 in
+    let m = pass-test _ (grant-placed d (resolve-grant d g) && window-allowed (g .right) (g .window)) _ (pass-rest _ _ _ t6) in
+    let ss : List ℕ = map (stream-number d) (g .of) in
+    let shown = shown-columns d ss (g .show) in
+    let when = map (map-cond (compare-of d)) (g .when) in
+    let limits = pass-bounds g (and-l (grant-bounded g) _ b) in
+    nine (name? (g .role) && short (g .role)) (every (λ s. ltb s (length d)) ss) (distinct eqb ss) (not (empty? shown)) (grant-placed d (resolve-grant d g)) (every valid-cond when)
+    (valid-limit (map-option natural (g .from))) (valid-limit (map-option natural (g .to))) (valid-window (g .right) (size-of (g .window)) (offset-of (g .window)))
+    (and-both (name? (g .role)) (short (g .role)) (search parts) (limits .0))
+    (every-map (λ s. ltb s (length d)) (stream-number d) (declared d) (below d) (g .of) (search parts))
+    (numbers-distinct d (g .of) (search parts) (search parts))
+    (shows-some d (g .of) (g .show) v (search parts) (search parts) (search parts))
+    (search parts)
+    (every-map valid-cond (map-cond (compare-of d)) (λ c. cond? c && cond-bounded c) (λ c k. cond-valid d c (search parts) (search parts)) (g .when)
+    (every-both cond? cond-bounded (λ c. cond? c && cond-bounded c) (λ c a b. and-both (cond? c) (cond-bounded c) a b) (g .when) (search parts) (limits .1)))
+    (limit-valid (g .from) (limits .2)) (limit-valid (g .to) (limits .3)) (window-valid (g .right) (g .window) (search parts) (limits .4))
+
+every-entry : (es : List Entry) → T (every entry? es) → T (every (λ e. short (e .name) && is-value (e .value)) es) → T (every (λ e. valid-name (e .name) && is-value (e .value)) es)
+unfolding entry? valid-name
+every-entry es t u =
+    every-both entry? (λ e. short (e .name) && is-value (e .value)) (λ e. name? (e .name) && short (e .name) && is-value (e .value))
+    (λ e a b. and-both (name? (e .name) && short (e .name)) (is-value (e .value)) (and-both (name? (e .name)) (short (e .name)) a (search parts)) (search parts)) es t u
+
+-- and an accepted caller line gives a valid caller
+pub caller-stored : (rs : List Bytes) (es : List Entry) → T (line? (G.caller rs es)) → T (passes (caller-table rs es)) → T (valid-caller (record { roles = rs; profile = es }))
+unfolding line? caller-table valid-caller caller-bounded valid-name
+caller-stored rs es h t =
+    let b = pass-test _ (caller-bounded rs es) _ t in
+    let r = pass-test _ (distinct same-list rs && distinct same-list (entry-names es)) [] (pass-rest _ _ _ t) in
+    six (leb (length rs) max-roles) (every (λ n. name? n && short n) rs) (distinct same-list rs) (leb (length es) max-entries) (every (λ e. valid-name (e .name) && is-value (e .value)) es) (distinct same-list (entry-names es))
+    (search parts) (every-both name? short (λ n. name? n && short n) (λ n a b. and-both (name? n) (short n) a b) rs (search parts) (search parts)) (search parts)
+    (search parts) (every-entry es (search parts) (search parts)) (search parts)
