@@ -23,7 +23,7 @@ use Rattle.calls.specs.Refusals.{Check, refuse, first, passes, written, 
 use Rattle.calls.specs.Tables.{query-declared, same-ref, query-table}
 use Rattle.calls.specs.Calls.{Call, after}
 use Rattle.calls.specs.Queries.{lent-valid, query-routes, asked-checks, answer, answer-checks, asked, ask, line-given, line-checks, lined, line}
-use Rattle.calls.proofs.Passing.{pass-test, pass-rest}
+use Rattle.calls.proofs.Passing.{pass-rest, query-accepted}
 
 -- checks that fail before the answer counts make the answers no matter
 reply-same : {A : Type 0} (cs gs hs : List Check) (out other lent : List A) → (T (passes cs) → (gs ≡ hs) × (out ≡ other)) → reply (first (cs ++ gs)) out lent ≡ reply (first (cs ++ hs)) other lent
@@ -35,13 +35,6 @@ reply-same (c ∷ cs) gs hs out other lent f = go (c .fails) f (reply-same cs gs
         → reply (cond b (some (c .refusal)) (first (cs ++ gs))) out lent ≡ reply (cond b (some (c .refusal)) (first (cs ++ hs))) other lent
     go true f i = refl
     go false f i = i f
-
--- a query that passes its own table may be asked
-query-fine : (d : Schema) (f : Form) → T (passes (query-table d f)) → T (placed d (resolve d f)) × T (sized (resolve d f))
-unfolding query-table
-query-fine d f t =
-    let u = pass-rest _ _ _ (pass-rest _ _ _ (pass-rest _ _ _ t)) in
-    (pass-test _ (placed d (resolve d f)) _ u, pass-test _ (sized (resolve d f)) [] (pass-rest _ _ _ u))
 
 module _ (k : ℕ) (d : Schema) (xs ys : List (List Row)) (who : Caller) (gs : List Grant) where
   abbrev X : Record
@@ -56,7 +49,10 @@ module _ (k : ℕ) (d : Schema) (xs ys : List (List Row)) (who : Caller) (gs : L
 
   cells-same : Alike X Y who gs → (f : Form) → T (passes (query-table d f)) → answer X gs who (some f) ≡ answer Y gs who (some f)
   unfolding answer query-routes placed
-  cells-same a f t = let h = query-fine d f t in same-cells X Y who gs a (resolve d f) (search parts) (h .1)
+  cells-same a f t =
+      let h = query-accepted d f t in
+      let p = h .places in
+      same-cells X Y who gs a (resolve d f) (search parts) (h .sizes)
 
   checks-same : (f : Form) (lent : List ℤ) → answer X gs who (some f) ≡ answer Y gs who (some f) → answer-checks X gs who lent f ≡ answer-checks Y gs who lent f
   unfolding answer-checks query-routes

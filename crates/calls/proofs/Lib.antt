@@ -4,5 +4,8 @@ pub mod Samples
 pub mod Passing
 pub mod Valid
 pub mod Stored
+pub mod Naming
+pub mod Printed
+pub mod Lengths
 pub mod Interference
 pub mod Traces

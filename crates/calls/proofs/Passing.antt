@@ -6,8 +6,14 @@ use mathlib.Core.Option.{Option, none, some}
 use Prim.Native.Nat.{ℕ}
 use lib.Dec.{T}
 use Rattle.refusal.specs.declared.Refusal.{Refusal}
-use Rattle.syntax.specs.Grammar.{Bytes}
+use Rattle.lists.specs.Lists.{every, distinct}
+use Rattle.syntax.specs.Grammar.{Bytes, Form}
+use Rattle.model.specs.Queries.{Schema}
+use Rattle.model.specs.Checks.{placed, sized}
+use Rattle.calls.specs.Names.{resolve, form-keeps}
+use Rattle.calls.specs.Bounds.{form-bounded}
 use Rattle.calls.specs.Refusals.{Check, refuse, first, passes, written}
+use Rattle.calls.specs.Tables.{same-ref, query-declared, query-table}
 
 pub not-not : (b : Bool) → T (not (not b)) → T b
 not-not true t = tt
@@ -36,6 +42,10 @@ pass-rest r false cs t = t
 pub pass-test : (r : Refusal) (b : Bool) (cs : List Check) → T (passes (refuse r (not b) ∷ cs)) → T b
 pass-test r b cs t = not-not b (pass-first r (not b) cs t)
 
+-- both at once
+pub pass : (r : Refusal) (b : Bool) (cs : List Check) → T (passes (refuse r (not b) ∷ cs)) → T b × T (passes cs)
+pass r b cs t = (pass-test r b cs t, pass-rest r (not b) cs t)
+
 -- a table passes where it gives no refusal
 pub passes-first : (cs : List Check) → first cs ≡ none → T (passes cs)
 unfolding passes first
@@ -61,3 +71,23 @@ pub written-passes : {A X : Type 0} (spare : ℕ) (bs : Bytes) (o : Option A) (c
 unfolding written
 written-passes spare bs none checks t k = absurd (pass-first _ true [] (pass-rest _ _ _ t))
 written-passes spare bs (some a) checks t k = k a refl (pass-rest _ _ (checks a) (pass-rest _ false _ (pass-rest _ _ _ t)))
+
+-- ---- queries
+
+-- a query that passes its table
+pub record Accepted (d : Schema) (f : Form) : Type 0 where
+  pub bounded : T (form-bounded f)
+  pub names : T (query-declared d f)
+  pub once : T (every (distinct same-ref) (form-keeps f))
+  pub places : T (placed d (resolve d f))
+  pub sizes : T (sized (resolve d f))
+
+pub query-accepted : (d : Schema) (f : Form) → T (passes (query-table d f)) → Accepted d f
+unfolding query-table
+query-accepted d f h =
+    let (b, h₁) = pass _ (form-bounded f) _ h in
+    let (n, h₂) = pass _ (query-declared d f) _ h₁ in
+    let (o, h₃) = pass _ (every (distinct same-ref) (form-keeps f)) _ h₂ in
+    let (p, h₄) = pass _ (placed d (resolve d f)) _ h₃ in
+    let (z, h₅) = pass _ (sized (resolve d f)) _ h₄ in
+    record { bounded = b; names = n; once = o; places = p; sizes = z }

@@ -9,12 +9,13 @@ use lib.IntN.{ℤ, pos, negsuc}
 use lib.Dec.{T, leb, ltb, eqb, leb→le, le→leb, ltb→lt, lt→ltb, eqb→eq, eqb-refl, not-T, T-not}
 use lib.ListN.{length, length-append, length-map}
 use Rattle.lists.specs.Lists.{every, some?, empty?, nth, distinct, same-list, position, gather, count-from}
-use Rattle.lists.proofs.Laws.{parts, and-l, and-r, and-both, or-cases, T-true, T-false, same-list→eq, same-list-refl, position-nth, position-below}
+use Rattle.lists.proofs.Laws.{every-append, every-map, every-both, every-gather, parts, and-l, and-r, and-both, or-cases, T-true, T-false, same-list→eq, same-list-refl, position-nth, position-below}
 use Rattle.syntax.specs.Grammar as G
 use Rattle.syntax.specs.Grammar.{Bytes, Line, Cond, test, all, any, neg, Conds, last, more, Ref, Operand, Test, Show, Span, Right, GrantLine, Entry, name?, ref?, operand?, test?, cond?, conds?, some-all, show?, grant?, entry?, line?}
 use Rattle.model.specs.Conditions.{tests, tests-of, map-cond, map-conds}
 use Rattle.model.specs.Queries.{Stream, Schema, no-stream, col, columns-of, Term, column, time, number, self, Compare, Grant, Caller}
 use Rattle.model.specs.Checks.{grant-placed}
+use Rattle.model.proofs.Conditions.{tests-map}
 use Rattle.calls.specs.Names
 use Rattle.calls.specs.Names.{stream-names, columns-named, stream-number, is-self, term-of, operand-of, compare-of, natural, shown-columns, map-option, size-of, offset-of, resolve-grant, operand-refs, operand-numbers, cond-refs, cond-numbers}
 use Rattle.calls.specs.Bounds.{short, short-ref, is-value, is-time, is-limit, is-span, top, max-grants, max-roles, max-entries, max-streams, cond-bounded, grant-bounded, caller-bounded, show-bounded}
@@ -22,18 +23,6 @@ use Rattle.calls.specs.Validity.{valid-name, valid-stream, valid-schema,
 use Rattle.calls.specs.Refusals.{Check, refuse, passes, written}
 use Rattle.calls.specs.Tables.{declared, window-allowed, grant-table, caller-table}
 use Rattle.calls.proofs.Passing.{not-not, not-or-l, not-or-r, pass-first, pass-rest, pass-test}
-
--- ---- lists
-
-every-map : {A B : Type 0} (p : B → Bool) (f : A → B) (q : A → Bool) → ((a : A) → T (q a) → T (p (f a))) → (xs : List A) → T (every q xs) → T (every p (map f xs))
-unfolding every
-every-map p f q h [] t = tt
-every-map p f q h (x ∷ xs) t = and-both (p (f x)) (every p (map f xs)) (h x (search parts)) (every-map p f q h xs (search parts))
-
-every-both : {A : Type 0} (p q r : A → Bool) → ((a : A) → T (p a) → T (q a) → T (r a)) → (xs : List A) → T (every p xs) → T (every q xs) → T (every r xs)
-unfolding every
-every-both p q r h [] t u = tt
-every-both p q r h (x ∷ xs) t u = and-both (r x) (every r xs) (h x (search parts) (search parts)) (every-both p q r h xs (search parts) (search parts))
 
 -- ---- streams of a grant
 
@@ -99,39 +88,6 @@ shows-some d (n ∷ ns) (G.listed rs) v t u k = map-some (Names.column-of d) rs 
 -- ---- its conditions
 
 mutual
-  unfolding tests map-cond
-
-  pub tests-map : {A B : Type 0} (f : A → B) (c : Cond A) → tests (map-cond f c) ≡ map f (tests c)
-  tests-map f (test a) = refl
-  tests-map f (all cs) = tests-maps f cs
-  tests-map f (any cs) = tests-maps f cs
-  tests-map f (neg c) = tests-map f c
-
-  tests-maps : {A B : Type 0} (f : A → B) (cs : Conds A) → tests-of (map-conds f cs) ≡ map f (tests-of cs)
-  tests-maps f (last c) = tests-map f c
-  tests-maps f (more c cs) = mathlib.Core.Path.ap₂ _++_ (tests-map f c) (tests-maps f cs) ∙ sym (mathlib.Core.List.map-append f (tests c) (tests-of cs))
-
-pub every-append-l : {A : Type 0} (p : A → Bool) (xs ys : List A) → T (every p (xs ++ ys)) → T (every p xs)
-unfolding every
-every-append-l p [] ys t = tt
-every-append-l p (x ∷ xs) ys t = and-both (p x) (every p xs) (search parts) (every-append-l p xs ys (search parts))
-
-pub every-append-r : {A : Type 0} (p : A → Bool) (xs ys : List A) → T (every p (xs ++ ys)) → T (every p ys)
-unfolding every
-every-append-r p [] ys t = t
-every-append-r p (x ∷ xs) ys t = every-append-r p xs ys (search parts)
-
-pub every-append : {A : Type 0} (p : A → Bool) (xs ys : List A) → T (every p xs) → T (every p ys) → T (every p (xs ++ ys))
-unfolding every
-every-append p [] ys t u = u
-every-append p (x ∷ xs) ys t u = and-both (p x) (every p (xs ++ ys)) (search parts) (every-append p xs ys (search parts) u)
-
-pub every-gather : {A B : Type 0} (p : B → Bool) (f : A → List B) (xs : List A) → T (every p (gather f xs)) → T (every (λ x. every p (f x)) xs)
-unfolding every gather
-every-gather p f [] t = tt
-every-gather p f (x ∷ xs) t = and-both (every p (f x)) (every (λ x. every p (f x)) xs) (every-append-l p (f x) (gather f xs) t) (every-gather p f xs (every-append-r p (f x) (gather f xs) t))
-
-mutual
   unfolding cond? tests every
 
   pub cond-tests : (c : Cond Test) → T (cond? c) → T (every test? (tests c))
@@ -163,7 +119,7 @@ cond-valid : (d : Schema) (c : Cond Test) → T (cond? c) → T (cond-bounded c)
 unfolding cond-bounded cond-refs cond-numbers valid-cond compare-of
 cond-valid d c t u =
     rw (tests-map (compare-of d) c)
-    (every-map _ (compare-of d) (λ t. test? t && every short-ref (t .left ∷ operand-refs (t .right)) && every is-value (operand-numbers (t .right)))
+    (every-map (λ t. test? t && every short-ref (t .left ∷ operand-refs (t .right)) && every is-value (operand-numbers (t .right))) _ (compare-of d)
     (λ t h. both t h)
     (tests c)
     (every-both (λ t. test? t && every short-ref (t .left ∷ operand-refs (t .right))) (λ t. every is-value (operand-numbers (t .right))) _ (λ t a b. and-both (test? t && every short-ref (t .left ∷ operand-refs (t .right))) (every is-value (operand-numbers (t .right))) a b) (tests c)
@@ -223,11 +179,11 @@ grant-stored d gs g v h t =
     nine (name? (g .role) && short (g .role)) (every (λ s. ltb s (length d)) ss) (distinct eqb ss) (not (empty? shown)) (grant-placed d (resolve-grant d g)) (every valid-cond when)
     (valid-limit (map-option natural (g .from))) (valid-limit (map-option natural (g .to))) (valid-window (g .right) (size-of (g .window)) (offset-of (g .window)))
     (and-both (name? (g .role)) (short (g .role)) (search parts) (limits .0))
-    (every-map (λ s. ltb s (length d)) (stream-number d) (declared d) (below d) (g .of) (search parts))
+    (every-map (declared d) (λ s. ltb s (length d)) (stream-number d) (below d) (g .of) (search parts))
     (numbers-distinct d (g .of) (search parts) (search parts))
     (shows-some d (g .of) (g .show) v (search parts) (search parts) (search parts))
     (search parts)
-    (every-map valid-cond (map-cond (compare-of d)) (λ c. cond? c && cond-bounded c) (λ c k. cond-valid d c (search parts) (search parts)) (g .when)
+    (every-map (λ c. cond? c && cond-bounded c) valid-cond (map-cond (compare-of d)) (λ c k. cond-valid d c (search parts) (search parts)) (g .when)
     (every-both cond? cond-bounded (λ c. cond? c && cond-bounded c) (λ c a b. and-both (cond? c) (cond-bounded c) a b) (g .when) (search parts) (limits .1)))
     (limit-valid (g .from) (limits .2)) (limit-valid (g .to) (limits .3)) (window-valid (g .right) (g .window) (search parts) (limits .4))
 

@@ -1,6 +1,6 @@
 -- Laws of the list functions and of tests.
 use mathlib.Core.Path.{_≡_, refl, sym, ap, ap₂, _∙_}
-use mathlib.Core.List.{List, [], _∷_, _++_, map, append-assoc}
+use mathlib.Core.List.{List, [], _∷_, _++_, map, append-assoc, List·Memᴰ, List·Memᴰ·head, List·Memᴰ·tail}
 use mathlib.Core.Bool.{Bool, true, false, _&&_, _||_, not, cond}
 use Prim.Native.Nat.{ℕ, zero, suc, _+_, _≤_, _<_}
 use native.Mathlib.Omega.{arith}
@@ -135,6 +135,68 @@ module _ {A B : Type 0} where
   unfolding gather
   gather-append f [] ys = refl
   gather-append f (x ∷ xs) ys = ap (λ l. f x ++ l) (gather-append f xs ys) ∙ sym (append-assoc (f x) (gather f xs) (gather f ys))
+
+-- ---- tests of every item
+
+module _ {A : Type 0} where
+  pub every-append : (p : A → Bool) (xs ys : List A) → T (every p xs) → T (every p ys) → T (every p (xs ++ ys))
+  unfolding every
+  every-append p [] ys h k = k
+  every-append p (x ∷ xs) ys h k = and-both (p x) (every p (xs ++ ys)) (search parts) (every-append p xs ys (search parts) k)
+
+  pub every-append-l : (p : A → Bool) (xs ys : List A) → T (every p (xs ++ ys)) → T (every p xs)
+  unfolding every
+  every-append-l p [] ys t = tt
+  every-append-l p (x ∷ xs) ys t = and-both (p x) (every p xs) (search parts) (every-append-l p xs ys (search parts))
+
+  pub every-append-r : (p : A → Bool) (xs ys : List A) → T (every p (xs ++ ys)) → T (every p ys)
+  unfolding every
+  every-append-r p [] ys t = t
+  every-append-r p (x ∷ xs) ys t = every-append-r p xs ys (search parts)
+
+  pub every-map : {B : Type 0} (p : A → Bool) (q : B → Bool) (f : A → B) → ((x : A) → T (p x) → T (q (f x))) → (xs : List A) → T (every p xs) → T (every q (map f xs))
+  unfolding every
+  every-map p q f i [] h = tt
+  every-map p q f i (x ∷ xs) h = and-both (q (f x)) (every q (map f xs)) (i x (search parts)) (every-map p q f i xs (search parts))
+
+  pub every-both : (p q r : A → Bool) → ((a : A) → T (p a) → T (q a) → T (r a)) → (xs : List A) → T (every p xs) → T (every q xs) → T (every r xs)
+  unfolding every
+  every-both p q r h [] t u = tt
+  every-both p q r h (x ∷ xs) t u = and-both (r x) (every r xs) (h x (search parts) (search parts)) (every-both p q r h xs (search parts) (search parts))
+
+  pub every-member : (p : A → Bool) (x : A) (xs : List A) → List·Memᴰ x xs → T (every p xs) → T (p x)
+  unfolding every
+  every-member p x xs (List·Memᴰ·head {x = y} {xs = ys} e) t = let h : T (p y) = search parts in rw e h
+  every-member p x xs (List·Memᴰ·tail {x = y} {xs = ys} m) t = every-member p x ys m (search parts)
+
+  pub every-all : (p : A → Bool) (xs : List A) → T (every p xs) → All (λ x. T (p x)) xs
+  unfolding every
+  every-all p [] h = all-nil
+  every-all p (x ∷ xs) h = all-cons {x = x} (search parts) (every-all p xs (search parts))
+
+  pub all-every : (p : A → Bool) {xs : List A} → All (λ x. T (p x)) xs → T (every p xs)
+  unfolding every
+  all-every p all-nil = tt
+  all-every p (all-cons {x} {xs} h hs) = and-both (p x) (every p xs) h (all-every p hs)
+
+  pub all-left : {P : A → Type 0} (xs ys : List A) → All P (xs ++ ys) → All P xs
+  all-left [] ys h = all-nil
+  all-left (x ∷ xs) ys h = all-cons (all-head h) (all-left xs ys (all-tail h))
+
+  pub all-right : {P : A → Type 0} (xs ys : List A) → All P (xs ++ ys) → All P ys
+  all-right [] ys h = h
+  all-right (x ∷ xs) ys h = all-right xs ys (all-tail h)
+
+  pub all-nth : {P : A → Type 0} (d : A) {xs : List A} (n : ℕ) → All P xs → n < length xs → P (nth d xs n)
+  unfolding nth
+  all-nth d n all-nil l = absurd (omega arith)
+  all-nth d zero (all-cons h hs) l = h
+  all-nth d (suc n) (all-cons h hs) l = all-nth d n hs (omega arith)
+
+pub every-gather : {A B : Type 0} (p : B → Bool) (f : A → List B) (xs : List A) → T (every p (gather f xs)) → T (every (λ x. every p (f x)) xs)
+unfolding every gather
+every-gather p f [] t = tt
+every-gather p f (x ∷ xs) t = and-both (every p (f x)) (every (λ x. every p (f x)) xs) (every-append-l p (f x) (gather f xs) t) (every-gather p f xs (every-append-r p (f x) (gather f xs) t))
 
 pub append-nil : {A : Type 0} (xs : List A) → xs ++ [] ≡ xs
 append-nil [] = refl

@@ -1,3 +1,4 @@
+pub mod Conditions
 pub mod Columns
 pub mod Ways
 pub mod Rewriting
@@ -10,3 +11,6 @@ pub mod Weights
 pub mod Widths
 pub mod Windows
 pub mod Averages
+pub mod Belonging
+pub mod Decoding
+pub mod Samples

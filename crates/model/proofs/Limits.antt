@@ -1,51 +1,29 @@
 -- The conditions of a grant's line may stand in a query over the grant's streams.
 use mathlib.Core.Path.{_≡_, refl, sym, ap, ap₂, _∙_}
-use mathlib.Core.List.{List, [], _∷_, _++_, map, map-append}
+use mathlib.Core.List.{List, [], _∷_, _++_, map}
 use mathlib.Core.Bool.{Bool, _&&_}
 use mathlib.Core.Option.{Option, none, some}
 use Prim.Native.Nat.{ℕ}
 use lib.Dec.{T}
 use Rattle.lists.specs.Lists.{every, gather}
-use Rattle.lists.proofs.Laws.{and-both, parts, gather-append}
+use Rattle.lists.proofs.Laws.{and-both, parts, gather-append, every-append, every-map}
 use Rattle.syntax.specs.Grammar.{Op, le, ge, Cond, test, all, any, neg, Conds, last, more, Entry}
 use Rattle.model.specs.Conditions.{tests, tests-of, conds-of, map-cond, map-conds}
 use Rattle.model.specs.Queries.{Schema, Col, columns-of, Term, column, time, number, self, Compare, Grant, Caller}
 use Rattle.model.specs.Grants.{fill-term, fill-compare, fill, limit, limits}
 use Rattle.model.specs.Checks.{within, term-cols, cond-cols, pick-left, pick-right, pickable, when-left, when-right, grantable, grant-placed}
+use Rattle.model.proofs.Conditions.{tests-map}
 use Rattle.model.proofs.Columns.{within-both}
 
 -- ---- lists
 
 module _ {A : Type 0} where
-  pub every-append : (p : A → Bool) (xs ys : List A) → T (every p xs) → T (every p ys) → T (every p (xs ++ ys))
-  unfolding every
-  every-append p [] ys h k = k
-  every-append p (x ∷ xs) ys h k = and-both (p x) (every p (xs ++ ys)) (search parts) (every-append p xs ys (search parts) k)
-
-  every-map : {B : Type 0} (p : A → Bool) (q : B → Bool) (f : A → B) → ((x : A) → T (p x) → T (q (f x))) → (xs : List A) → T (every p xs) → T (every q (map f xs))
-  unfolding every
-  every-map p q f i [] h = tt
-  every-map p q f i (x ∷ xs) h = and-both (q (f x)) (every q (map f xs)) (i x (search parts)) (every-map p q f i xs (search parts))
-
   gather-map : {B C : Type 0} (f : A → List C) (g : B → List C) (h : A → B) → ((x : A) → g (h x) ≡ f x) → (xs : List A) → gather g (map h xs) ≡ gather f xs
   unfolding gather
   gather-map f g h e [] = refl
   gather-map f g h e (x ∷ xs) = ap₂ _++_ (e x) (gather-map f g h e xs)
 
 -- ---- the caller's values put in
-
-mutual
-  unfolding tests map-cond
-
-  tests-map : {A B : Type 0} (f : A → B) (c : Cond A) → tests (map-cond f c) ≡ map f (tests c)
-  tests-map f (test a) = refl
-  tests-map f (all cs) = tests-of-map f cs
-  tests-map f (any cs) = tests-of-map f cs
-  tests-map f (neg c) = tests-map f c
-
-  tests-of-map : {A B : Type 0} (f : A → B) (cs : Conds A) → tests-of (map-conds f cs) ≡ map f (tests-of cs)
-  tests-of-map f (last c) = tests-map f c
-  tests-of-map f (more c cs) = ap₂ _++_ (tests-map f c) (tests-of-map f cs) ∙ sym (map-append f (tests c) (tests-of cs))
 
 module _ (p : List Entry) where
   term-fill : (t : Term) → term-cols (fill-term p t) ≡ term-cols t

@@ -1,0 +1,104 @@
+-- Small queries and grants, by computation.
+use mathlib.Core.Path.{_≡_, refl}
+use mathlib.Core.List.{List, [], _∷_, map}
+use Prim.Native.Nat.{ℕ}
+use lib.IntN.{ℤ, pos, negsuc}
+use lib.ListN.{replicate}
+use mathlib.Core.Option.{none, some}
+use Rattle.syntax.specs.Grammar.{Op, eq, gt, min, max, count, avg, sum, Right, read, figures, Cond, test, neg}
+use Rattle.model.specs.Queries.{Stream, Schema, Col, col, figure, Term, column, time, number, self, Compare, Query, source, pick, keep, join, aggregate, Grant, Caller, Row, Table, Record}
+use Rattle.model.specs.Meaning.{plain, meaning-computes}
+use Rattle.model.specs.Routes.{routes}
+use Rattle.model.specs.Rewriting.{rewritten}
+use Rattle.model.specs.Answers.{route-table, answer-cells, answers-compute}
+
+abbrev two : Stream
+two = record { name = []; columns = [] ∷ [] ∷ [] }
+
+abbrev at : ℕ → ℤ → ℤ → Row
+at t v w = record { at = t; values = v ∷ w ∷ [] }
+
+abbrev x : Record
+x =
+    record {
+      clock = 10;
+      schema = two ∷ two ∷ [];
+      rows = (at 2 (pos 1) (pos 10) ∷ at 5 (pos 2) (pos 20) ∷ at 5 (pos 1) (pos 30) ∷ []) ∷ (at 3 (pos 1) (negsuc 0) ∷ at 9 (pos 1) (pos 4) ∷ []) ∷ [];
+    }
+
+abbrev joined : Query ℕ
+joined = join (col 1 0) (col 0 0) (source 0) (source 1)
+
+abbrev above : Term → ℤ → Cond Compare
+above t z = test (record { op = gt; left = t; right = number z })
+
+-- left row by left row, and within it right row by right row; the time is the later of the two
+pairs-sample : plain x (keep (col 1 1 ∷ col 0 1 ∷ []) joined) .rows ≡ at 3 (negsuc 0) (pos 10) ∷ at 9 (pos 4) (pos 10) ∷ at 5 (negsuc 0) (pos 30) ∷ at 9 (pos 4) (pos 30) ∷ []
+unfolding meaning-computes
+pairs-sample = refl
+
+picks-sample : plain x (pick (neg (above (column (col 0 1)) (pos 10))) (pick (above time (pos 1)) (source 0))) .rows ≡ at 2 (pos 1) (pos 10) ∷ []
+unfolding meaning-computes
+picks-sample = refl
+
+abbrev ends : ℤ → ℤ → ℤ → List Row
+ends a b c = record { at = 3; values = a ∷ [] } ∷ record { at = 5; values = b ∷ [] } ∷ record { at = 7; values = c ∷ [] } ∷ []
+
+-- windows of length 3 from 0, 2, 4, ..: the row at 2 is in two of them, those at 5 in the one from 4, and the open one from 8 gives nothing
+windows-sample : map (λ f. plain x (aggregate f (col 0 1) 3 2 (source 0)) .rows) (min ∷ max ∷ count ∷ avg ∷ sum ∷ []) ≡
+    ends (pos 10) (pos 10) (pos 20) ∷ ends (pos 10) (pos 10) (pos 30) ∷ ends (pos 1) (pos 1) (pos 2) ∷ ends (pos 10) (pos 10) (pos 25) ∷ ends (pos 10) (pos 10) (pos 50) ∷ []
+unfolding meaning-computes
+windows-sample = refl
+
+-- ---- under grants
+
+abbrev is : Term → Term → Cond Compare
+is a b = test (record { op = eq; left = a; right = b })
+
+-- the first withholds the column that its condition names, and has times; the second is on the pair
+abbrev grants : List Grant
+grants =
+    record { role = 7 ∷ []; right = read; of = 0 ∷ []; shown = col 0 1 ∷ []; when = is (column (col 0 0)) (self (8 ∷ [])) ∷ []; from = some 3; to = some 9; size = 0; offset = 0 }
+    ∷ record { role = 7 ∷ []; right = read; of = 0 ∷ 1 ∷ []; shown = col 0 1 ∷ col 1 1 ∷ []; when = is (column (col 0 0)) (column (col 1 0)) ∷ []; from = none; to = none; size = 0; offset = 0 }
+    ∷ []
+
+abbrev who : Caller
+who = record { roles = (7 ∷ []) ∷ []; profile = record { name = 8 ∷ []; value = pos 1 } ∷ [] }
+
+abbrev rows-by-route : Query ℕ → List (List Row)
+rows-by-route q = map (λ r. route-table x who r .rows) (routes (x .schema) who grants q)
+
+-- the same by the rewritten queries, run with no grants
+abbrev rows-by-line : Query ℕ → List (List Row)
+rows-by-line q = map (λ r. plain x (rewritten (x .schema) who r) .rows) (routes (x .schema) who grants q)
+
+abbrev one-value : ℕ → ℤ → Row
+one-value t v = record { at = t; values = v ∷ [] }
+
+abbrev of-view : List (List Row)
+of-view = (one-value 5 (pos 30) ∷ []) ∷ []
+
+-- a kept column that is withheld is missing; the answer counts the rows of the view alone
+view-sample : rows-by-route (keep (col 0 0 ∷ col 0 1 ∷ []) (source 0)) ≡ of-view
+unfolding answers-compute
+view-sample = refl
+
+line-sample : rows-by-line (keep (col 0 0 ∷ col 0 1 ∷ []) (source 0)) ≡ of-view
+unfolding answers-compute
+line-sample = refl
+
+cells-sample : answer-cells x who (routes (x .schema) who grants (source 0)) ≡ pos 1 ∷ pos 1 ∷ pos 0 ∷ pos 2 ∷ pos 1 ∷ pos 5 ∷ pos 30 ∷ []
+unfolding answers-compute
+cells-sample = refl
+
+abbrev of-pair : List (List Row)
+of-pair = (one-value 3 (negsuc 0) ∷ one-value 9 (pos 4) ∷ []) ∷ []
+
+-- a pick of the left side stands above the pair's view
+pair-sample : rows-by-route (keep (col 1 1 ∷ []) (join (col 0 0) (col 1 0) (pick (neg (above (column (col 0 1)) (pos 10))) (source 0)) (source 1))) ≡ of-pair
+unfolding answers-compute
+pair-sample = refl
+
+pair-line-sample : rows-by-line (keep (col 1 1 ∷ []) (join (col 0 0) (col 1 0) (pick (neg (above (column (col 0 1)) (pos 10))) (source 0)) (source 1))) ≡ of-pair
+unfolding answers-compute
+pair-line-sample = refl
