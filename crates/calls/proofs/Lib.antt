@@ -1,6 +1,7 @@
 pub mod Claims
 pub mod Examples
 pub mod Samples
+pub mod Order
 pub mod Passing
 pub mod Valid
 pub mod Stored
