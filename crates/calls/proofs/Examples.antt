@@ -119,6 +119,7 @@ table =
     -- the query call itself: a refusal comes alone, and cells past the answer keep what they held
     ∷ replies (one-stream 1) reading reader (bytes "(in test") (pos 9 ∷ []) (refused Malformed)
     ∷ replies (one-stream 1) reading reader (bytes "(in test)") (replicate 6 (pos 9)) (refused NoRoom)
+    ∷ replies (one-stream 1) reading reader (bytes "(in test)") (replicate 7 (pos 9)) (filled 7 (pos 1 ∷ pos 1 ∷ pos 0 ∷ pos 2 ∷ pos 1 ∷ pos 5 ∷ pos 7 ∷ []))
     ∷ replies (one-stream 1) reading reader (bytes "(in test)") (replicate 9 (pos 9)) (filled 7 (pos 1 ∷ pos 1 ∷ pos 0 ∷ pos 2 ∷ pos 1 ∷ pos 5 ∷ pos 7 ∷ pos 9 ∷ pos 9 ∷ []))
     ∷ []
 
