@@ -1,4 +1,5 @@
--- Refusal 12: what may be lent to a call. A record, a grant or a caller is valid where calls or lines could have made it.
+-- Refusal 12: what may be lent to a call. Counts and numbers are within their bounds, names are names, streams and columns exist, terms stand where they may,
+-- and times neither fall nor pass the clock. All that calls and accepted lines make is valid.
 use mathlib.Core.List.{List, [], _∷_}
 use mathlib.Core.Bool.{Bool, true, false, _&&_, _||_, not}
 use mathlib.Core.Option.{Option, none, some}
