@@ -10,3 +10,5 @@ pub mod Printed
 pub mod Lengths
 pub mod Interference
 pub mod Traces
+pub mod Extending
+pub mod Running

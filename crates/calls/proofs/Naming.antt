@@ -14,7 +14,7 @@ use Rattle.syntax.specs.Grammar.{Bytes, bytes, Cond, test, all, any, neg, Conds
 use Rattle.model.specs.Conditions.{tests, tests-of, map-cond, map-conds}
 use Rattle.model.specs.Queries.{Schema, no-stream, Col, col, figure, same-col, columns-of, Term, column, time, number, self, Compare, Query, source, pick, keep, join, aggregate, header, forms}
 use Rattle.model.specs.Checks.{has, within, linked, term-cols, cond-cols, pick-left, pick-right, pickable, allowed, placed, fitting, sized, keeps}
-use Rattle.model.proofs.Conditions.{tests-map}
+use Rattle.model.proofs.Conditions.{tests-map, cond-back}
 use Rattle.model.proofs.Columns.{same-col→eq, same-col-refl}
 use Rattle.calls.specs.Names.{stream-names, columns-named, stream-number, col-of, is-self, term-of, column-of, operand-of, compare-of, natural, resolve, ref-of, left-of, right-of, test-of, form-of, operand-refs, cond-refs, form-streams, form-refs, form-keeps}
 use Rattle.calls.specs.Bounds.{form-count}
@@ -73,21 +73,6 @@ module _ {A B : Type 0} (f : A → B) where
 
 -- ---- conditions
 
-module _ {A B : Type 0} where
-  mutual
-    unfolding tests map-cond
-
-    -- functions that undo each other on the comparisons that occur
-    pub cond-back : (f : A → B) (g : B → A) (c : Cond A) → All (λ t. g (f t) ≡ t) (tests c) → map-cond g (map-cond f c) ≡ c
-    cond-back f g (test t) h = ap test (all-head h)
-    cond-back f g (all cs) h = ap all (conds-back f g cs h)
-    cond-back f g (any cs) h = ap any (conds-back f g cs h)
-    cond-back f g (neg c) h = ap neg (cond-back f g c h)
-
-    conds-back : (f : A → B) (g : B → A) (cs : Conds A) → All (λ t. g (f t) ≡ t) (tests-of cs) → map-conds g (map-conds f cs) ≡ cs
-    conds-back f g (last c) h = ap last (cond-back f g c h)
-    conds-back f g (more c cs) h = ap₂ more (cond-back f g c (all-left (tests c) _ h)) (conds-back f g cs (all-right (tests c) _ h))
-
 mutual
   unfolding tests cond?
 
@@ -109,7 +94,7 @@ unfolding has some?
 all-has c all-nil h = absurd h
 all-has c (all-cons {x = d} {xs = ds} l ls) h = or-cases (same-col c d) (some? (same-col c) ds) h (λ u. rw (same-col→eq c d u) l) (λ u. all-has c ls u)
 
-all-within : {P : Col → Type 0} {ds : List Col} (cs : List Col) → All P ds → T (within cs ds) → All P cs
+pub all-within : {P : Col → Type 0} {ds : List Col} (cs : List Col) → All P ds → T (within cs ds) → All P cs
 unfolding within every
 all-within [] ls h = all-nil
 all-within (c ∷ cs) ls h = all-cons (all-has c ls (search parts)) (all-within cs ls (search parts))
@@ -461,7 +446,7 @@ module _ (d : Schema) where
   unfolding cond-refs
   cond-named c h = cond-back (compare-of d) (test-of d) c (tests-named (tests c) h)
 
-  unknown : {n c : ℕ} → n ≡ length d → Known d (col n c) → ⊥
+  pub unknown : {n c : ℕ} → n ≡ length d → Known d (col n c) → ⊥
   unknown e (known-col l m) = omega arith
 
   column-named : (r : Ref) → T (ref-declared d r) → Known d (column-of d r) → ref-of d (column-of d r) ≡ r

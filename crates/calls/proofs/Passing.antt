@@ -42,6 +42,12 @@ pass-rest r false cs t = t
 pub pass-test : (r : Refusal) (b : Bool) (cs : List Check) → T (passes (refuse r (not b) ∷ cs)) → T b
 pass-test r b cs t = not-not b (pass-first r (not b) cs t)
 
+-- a check that holds off, in front of checks that do
+pub pass-put : (r : Refusal) (b : Bool) (cs : List Check) → T b → T (passes cs) → T (passes (refuse r (not b) ∷ cs))
+unfolding passes refuse
+pass-put r true cs t u = u
+pass-put r false cs t u = absurd t
+
 -- both at once
 pub pass : (r : Refusal) (b : Bool) (cs : List Check) → T (passes (refuse r (not b) ∷ cs)) → T b × T (passes cs)
 pass r b cs t = (pass-test r b cs t, pass-rest r (not b) cs t)

@@ -26,7 +26,7 @@ use Rattle.calls.proofs.Passing.{not-not, not-or-l, not-or-r, pass-firs
 
 -- ---- streams of a grant
 
-below : (d : Schema) (n : Bytes) → T (declared d n) → T (ltb (stream-number d n) (length d))
+pub below : (d : Schema) (n : Bytes) → T (declared d n) → T (ltb (stream-number d n) (length d))
 unfolding declared stream-number stream-names
 below d n t = lt→ltb (position n (map (λ s. s .name) d)) (length d) (rw (length-map d (λ (s : Stream). s .name)) at (position-below n (map (λ s. s .name) d) t))
 

@@ -118,7 +118,7 @@ free-all (n ∷ ns) a b c =
     (and-both (name? n && short n) (not (reserved n)) (and-both (name? n) (short n) (search parts) (search parts)) (not-or-l (reserved n) (some? reserved ns) c))
     (free-all ns (search parts) (search parts) (not-or-r (reserved n) (some? reserved ns) c))
 
-names-add : (d : Schema) (s : Stream) → stream-names (d ++ (s ∷ [])) ≡ stream-names d ++ (s .name ∷ [])
+pub names-add : (d : Schema) (s : Stream) → stream-names (d ++ (s ∷ [])) ≡ stream-names d ++ (s .name ∷ [])
 unfolding stream-names
 names-add [] s = refl
 names-add (r ∷ d) s = ap (λ l. r .name ∷ l) (names-add d s)
@@ -174,7 +174,7 @@ stream-read : (bs : Bytes) (s : Stream) → read-stream bs ≡ some s → T (lin
 unfolding read-stream
 stream-read bs s e = from (parse-line bs) stream-of e (λ l p q. rw (stream-line l s q) at (line-parsed-printed bs l p .0))
 
-valid-effect : (x : Record) (c : Call) → T (valid-record x) → T (passes (call-checks x c)) → T (valid-record (effect x c))
+pub valid-effect : (x : Record) (c : Call) → T (valid-record x) → T (passes (call-checks x c)) → T (valid-record (effect x c))
 unfolding valid-record call-checks effect clock-table row-table with-stream
 valid-effect x (stream bs) v t =
     written-passes 0 bs (read-stream bs) _ (pass-rest _ _ _ t)

@@ -198,6 +198,25 @@ unfolding every gather
 every-gather p f [] t = tt
 every-gather p f (x ∷ xs) t = and-both (every p (f x)) (every (λ x. every p (f x)) xs) (every-append-l p (f x) (gather f xs) t) (every-gather p f xs (every-append-r p (f x) (gather f xs) t))
 
+module _ {A : Type 0} where
+  pub nth-before : (e : A) (xs ys : List A) (n : ℕ) → n < length xs → nth e (xs ++ ys) n ≡ nth e xs n
+  unfolding nth
+  nth-before e [] ys n l = absurd (omega arith)
+  nth-before e (x ∷ xs) ys zero l = refl
+  nth-before e (x ∷ xs) ys (suc n) l = nth-before e xs ys n (omega arith)
+
+  pub some-before : (p : A → Bool) (xs ys : List A) → T (some? p xs) → T (some? p (xs ++ ys))
+  unfolding some?
+  some-before p [] ys t = absurd t
+  some-before p (x ∷ xs) ys t = or-cases (p x) (some? p xs) t (λ u. or-l (p x) _ u) (λ u. or-r (p x) _ (some-before p xs ys u))
+
+  pub map-same : {B : Type 0} (f g : A → B) {xs : List A} → All (λ x. f x ≡ g x) xs → map f xs ≡ map g xs
+  map-same f g all-nil = refl
+  map-same f g (all-cons h hs) = ap₂ _∷_ h (map-same f g hs)
+
+  pub every-weaken : (p q : A → Bool) → ((x : A) → T (p x) → T (q x)) → (xs : List A) → T (every p xs) → T (every q xs)
+  every-weaken p q f xs t = every-both p p q (λ x a b. f x a) xs t t
+
 pub append-nil : {A : Type 0} (xs : List A) → xs ++ [] ≡ xs
 append-nil [] = refl
 append-nil (x ∷ xs) = ap (λ l. x ∷ l) (append-nil xs)
@@ -252,3 +271,12 @@ nth-position (m ∷ ns) (suc i) d h = go (same-list (nth [] ns i) m) refl (nth-p
     go : (b : Bool) → same-list (nth [] ns i) m ≡ b → position (nth [] ns i) ns ≡ i → cond b 0 (suc (position (nth [] ns i) ns)) ≡ suc i
     go true e p = absurd (rw (T-true (some? (same-list m) ns) (rw (same-list→eq (nth [] ns i) m (rw e tt)) at (among-nth ns i (omega arith)))) at (and-l (not (some? (same-list m) ns)) _ d))
     go false e p = ap suc p
+
+pub position-before : (n : List ℕ) (ns ms : List (List ℕ)) → T (some? (same-list n) ns) → position n (ns ++ ms) ≡ position n ns
+unfolding some? position
+position-before n [] ms t = absurd t
+position-before n (m ∷ ns) ms t = go (same-list n m) t (position-before n ns ms)
+  where
+    go : (b : Bool) → T (b || some? (same-list n) ns) → (T (some? (same-list n) ns) → position n (ns ++ ms) ≡ position n ns) → cond b 0 (suc (position n (ns ++ ms))) ≡ cond b 0 (suc (position n ns))
+    go true t f = refl
+    go false t f = ap suc (f t)
