@@ -1,14 +1,7 @@
-pub mod Claims
 pub mod Examples
 pub mod Samples
 pub mod Order
 pub mod Passing
 pub mod Valid
 pub mod Stored
-pub mod Naming
-pub mod Printed
-pub mod Lengths
 pub mod Interference
-pub mod Traces
-pub mod Extending
-pub mod Running

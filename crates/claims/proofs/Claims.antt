@@ -17,20 +17,20 @@ use Rattle.model.specs.Rewriting.{rewritten}
 use Rattle.model.specs.Answers.{route-table}
 use Rattle.model.specs.Alike.{Alike}
 use Rattle.model.proofs.Weights as Weights
 use Rattle.calls.specs.Names.{resolve}
 use Rattle.calls.specs.Bounds.{form-count, form-bounded, max-forms}
 use Rattle.calls.specs.Validity.{valid-schema, valid-record, valid-catalogue, valid-caller}
 use Rattle.calls.specs.Refusals.{passes}
 use Rattle.calls.specs.Tables.{query-table}
 use Rattle.calls.specs.Calls.{Call, after}
 use Rattle.calls.specs.Queries.{query-routes, ask, line, route-line, run-line}
 use Rattle.calls.proofs.Passing.{query-accepted}
 use Rattle.calls.proofs.Valid as Valid
-use Rattle.calls.proofs.Naming.{resolved-forms, placed-allowed}
-use Rattle.calls.proofs.Printed as Printed
-use Rattle.calls.proofs.Lengths as Lengths
-use Rattle.calls.proofs.Lengths.{Written}
+use Rattle.claims.proofs.Naming.{resolved-forms, placed-allowed}
+use Rattle.claims.proofs.Printed as Printed
+use Rattle.claims.proofs.Lengths as Lengths
+use Rattle.claims.proofs.Lengths.{Written}
 use Rattle.calls.proofs.Interference.{same-asked, same-lined}
 
 -- ---- the record
 

@@ -7,10 +7,10 @@ use Rattle.syntax.specs.Grammar.{Bytes, Line, line?}
 use Rattle.syntax.specs.Readers.{parse-line}
 use Rattle.model.specs.Queries.{Record, Grant, Caller}
 use Rattle.model.specs.Alike.{Alike}
 use Rattle.calls.specs.Refusals.{Reply}
 use Rattle.calls.specs.Calls.{Call, next, run, fresh, after}
 use Rattle.calls.specs.Queries.{ask}
-use Rattle.calls.proofs.Claims.{same-after}
+use Rattle.claims.proofs.Claims.{same-after}
 
 -- State is what goes in with a call and comes back or is left; `record-of` is the record that it stands for, a definition that the contracts cite.
 -- Promise c s t is the contract of the call c, from a state s to a state t; Answer is that of a query.

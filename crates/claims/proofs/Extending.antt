@@ -15,16 +15,16 @@ use Rattle.model.specs.Conditions.{tests, tests-of, map-cond, map-conds}
 use Rattle.model.specs.Queries.{Stream, Schema, no-stream, col, columns-of, column, self, Grant}
 use Rattle.model.specs.Checks.{grant-placed}
 use Rattle.model.proofs.Conditions.{cond-same}
 use Rattle.calls.specs.Names.{stream-names, columns-named, stream-number, col-of, is-self, term-of, column-of, operand-of, compare-of, natural, shown-columns, map-option, size-of, offset-of, resolve-grant, operand-refs, cond-refs}
 use Rattle.calls.specs.Bounds.{grant-bounded, max-grants}
 use Rattle.calls.specs.Validity.{valid-grant}
 use Rattle.calls.specs.Refusals.{Check, refuse, passes}
 use Rattle.calls.specs.Tables.{declared, ref-declared, same-ref, show-refs, window-allowed, grant-table}
 use Rattle.calls.proofs.Passing.{pass, pass-put}
 use Rattle.calls.proofs.Valid.{names-add}
 use Rattle.calls.proofs.Stored.{below}
-use Rattle.calls.proofs.Naming.{Known, columns-known, all-within, unknown}
-use Rattle.calls.proofs.Lengths.{Written}
+use Rattle.claims.proofs.Naming.{Known, columns-known, all-within, unknown}
+use Rattle.claims.proofs.Lengths.{Written}
 
 -- ---- streams and columns
 

@@ -19,19 +19,19 @@ use Rattle.syntax.specs.Readers.{bind, parse-line}
 use Rattle.syntax.proofs.Lines.{line-parsed-printed}
 use Rattle.model.specs.Queries.{Stream, Schema, Record, Caller}
 use Rattle.model.specs.Routes.{Route}
 use Rattle.calls.specs.Names.{stream-names, stream-number, resolve-grant}
 use Rattle.calls.specs.Bounds.{short, top, max-streams, max-grants, max-line, max-roles, max-entries, max-routes, shallow, grant-bounded}
 use Rattle.calls.specs.Validity.{valid-schema, rows-match, valid-record, valid-grant, valid-catalogue, entry-names, valid-caller}
 use Rattle.calls.specs.Refusals.{Check, refuse, first, passes, written, Reply, refused, filled, reply}
 use Rattle.calls.specs.Tables.{stream-table, clock-table, row-table, grant-table, caller-table, query-table}
 use Rattle.calls.specs.Calls.{Call, stream, clock, row, clear, stream-of, read-stream, call-checks, with-stream, effect, next, run, fresh, grant-of, read-grant-line, grant-checks, with-grant, caller-of, read-caller, caller-checks, nobody}
 use Rattle.calls.specs.Queries.{lent-valid, query-routes, asked-checks, answer-checks, asked, route-line, line-of, some-bytes, no-line, line-given, line-checks, lined}
 use Rattle.calls.specs.Scripts.{Fixture, Outcome, quiet, refusal, cells, text, changed, told, with-record, called, step-of, step, run-from, new-fixture, script}
 use Rattle.calls.proofs.Passing.{pass-first, pass-rest, pass-test, pass-put, passes-first}
 use Rattle.calls.proofs.Valid.{valid-effect}
 use Rattle.calls.proofs.Stored.{grant-stored, caller-stored}
-use Rattle.calls.proofs.Lengths.{line-length, query-text-length, line-text-length, Written, line-fits}
-use Rattle.calls.proofs.Extending.{grant-later, written-later}
+use Rattle.claims.proofs.Lengths.{line-length, query-text-length, line-text-length, Written, line-fits}
+use Rattle.claims.proofs.Extending.{grant-later, written-later}
 
 -- ---- sound fixtures
 

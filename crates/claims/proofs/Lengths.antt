@@ -19,15 +19,15 @@ use Rattle.model.specs.Checks.{allowed, grant-placed}
 use Rattle.model.specs.Routes.{Route, routes}
 use Rattle.model.specs.Rewriting.{rewritten}
 use Rattle.model.proofs.Weights.{Costs, cols-cost, under-cost, weight, weighed}
 use Rattle.calls.specs.Names.{columns-named, stream-number, col-of, is-self, term-of, operand-of, compare-of, natural, resolve, map-option, resolve-grant, ref-of, left-of, right-of, test-of, form-of, operand-refs, cond-refs}
 use Rattle.calls.specs.Bounds.{max-columns, max-name, max-grants, top, is-value, is-time, short, is-limit, grant-bounded}
 use Rattle.calls.specs.Validity.{valid-name, free-name, valid-stream, valid-schema, valid-caller}
 use Rattle.calls.specs.Refusals.{passes}
 use Rattle.calls.specs.Tables.{declared, ref-declared, same-ref, show-refs, window-allowed, grant-table, query-table}
 use Rattle.calls.specs.Queries.{route-line}
 use Rattle.calls.proofs.Stored.{cond-tests}
 use Rattle.calls.proofs.Passing.{pass, query-accepted}
-use Rattle.calls.proofs.Naming.{Known, known-col, known-figure, columns-known, filled-stream, name-free, column-free, stream-valid, dotted-named, self-named, resolved-named, placed-allowed}
+use Rattle.claims.proofs.Naming.{Known, known-col, known-figure, columns-known, filled-stream, name-free, column-free, stream-valid, dotted-named, self-named, resolved-named, placed-allowed}
 
 -- ---- lengths, in bytes
 

@@ -19,13 +19,13 @@ use Rattle.model.specs.Answers.{route-table}
 use Rattle.model.proofs.Rewriting.{rewriting}
 use Rattle.model.proofs.Accepted.{accepted, sized-rewritten}
 use Rattle.model.proofs.Keeps.{keeps-some, keeps-distinct}
 use Rattle.calls.specs.Names.{resolve, form-of, form-keeps}
 use Rattle.calls.specs.Validity.{valid-schema, valid-record, valid-grant, valid-catalogue}
 use Rattle.calls.specs.Refusals.{passes}
 use Rattle.calls.specs.Tables.{query-declared, same-ref, query-table}
 use Rattle.calls.specs.Queries.{query-routes, route-line, runnable, run-line}
-use Rattle.calls.proofs.Naming.{named-resolves, named-formed, named-declared, named-distinct, resolved-distinct, placed-allowed}
+use Rattle.claims.proofs.Naming.{named-resolves, named-formed, named-declared, named-distinct, resolved-distinct, placed-allowed}
 use Rattle.calls.proofs.Passing.{Accepted, query-accepted}
 
 -- a rewritten query as it must be to have a text and to be run
 pub record Runnable (d : Schema) (q : Query ℕ) : Type 0 where

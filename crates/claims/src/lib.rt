@@ -1,0 +1,1 @@
+// What the definitions promise: see proofs/Claims.antt.
