@@ -44,11 +44,16 @@ picks-sample = refl
 abbrev ends : ℤ → ℤ → ℤ → List Row
 ends a b c = record { at = 3; values = a ∷ [] } ∷ record { at = 5; values = b ∷ [] } ∷ record { at = 7; values = c ∷ [] } ∷ []
 
--- windows of length 3 from 0, 2, 4, ..: the row at 2 is in two of them, those at 5 in the one from 4, and the open one from 8 gives nothing
+-- windows of length 3 from 0, 2, 4, ..: the row at 2 is in two of them, and those at 5 in the one from 4
 windows-sample : map (λ f. plain x (aggregate f (col 0 1) 3 2 (source 0)) .rows) (min ∷ max ∷ count ∷ avg ∷ sum ∷ []) ≡
     ends (pos 10) (pos 10) (pos 20) ∷ ends (pos 10) (pos 10) (pos 30) ∷ ends (pos 1) (pos 1) (pos 2) ∷ ends (pos 10) (pos 10) (pos 25) ∷ ends (pos 10) (pos 10) (pos 50) ∷ []
 unfolding meaning-computes
 windows-sample = refl
+
+-- the row at 9 is in the window from 8 to 11 alone, which is open at 10
+open-sample : plain x (aggregate sum (col 1 1) 3 2 (source 1)) .rows ≡ record { at = 5; values = negsuc 0 ∷ [] } ∷ []
+unfolding meaning-computes
+open-sample = refl
 
 -- ---- under grants
 
