@@ -17,6 +17,12 @@ pub enum Refusal {
     NoRoom,
 }
 
+// What a call says: it did what it is for, or the refusal.
+pub enum Verdict {
+    Accepted,
+    Refused(Refusal),
+}
+
 impl Refusal {
     // The number under which callers know the refusal.
     pub fn number(self) -> u32

@@ -1,0 +1,20 @@
+-- `six_bytes`: each code is that of its keyword, and there are no others of this length.
+use mathlib.Core.Path.{refl}
+use Rattle.text.specs.Keywords.{keywords-compute}
+use Rattle.text.proofs.Keywords.{codes, coded-at, coded-none}
+use Rattle.text.proofs.six_bytes.Statement.{statement}
+use Rattle.text.proofs.six_bytes.Tie as tie
+
+pub six-bytes-spec : {M : Type 1} → statement M
+unfolding keywords-compute codes
+six-bytes-spec =
+    tie.close
+    (tie.spec
+    {- returns -}
+    (λ c. coded-at 6 (c .match .keys1) refl)
+    {- returns-2 -}
+    (λ c. coded-at 6 (c .match .keys2) refl)
+    {- returns-3 -}
+    (λ c. coded-at 6 (c .match .keys3) refl)
+    {- returns-4 -}
+    (λ c. coded-none 6 _ (c .match .rest)))
