@@ -1,0 +1,5 @@
+pub mod Codes
+pub mod Lookups
+pub mod Tables
+pub mod Soundness
+pub mod Adding

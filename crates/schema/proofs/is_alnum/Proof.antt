@@ -1,0 +1,19 @@
+use Rattle.schema.proofs.Codes.{class-ends}
+use borrow.Author.Needs.{needs}
+use Rattle.schema.proofs.is_alnum.Statement.{statement}
+use Rattle.schema.proofs.is_alnum.Tie as tie
+
+is-letter-requires : tie.Need-is-letter-requires
+is-letter-requires c κs = search needs
+
+returns : tie.Need-returns
+returns c = search class-ends
+
+returns-2 : tie.Need-returns-2
+returns-2 c = search class-ends
+
+returns-3 : tie.Need-returns-3
+returns-3 c = search class-ends
+
+pub is-alnum-spec : {M : Type 1} → statement M
+is-alnum-spec = tie.close (tie.spec is-letter-requires returns returns-2 returns-3)
