@@ -1,0 +1,52 @@
+-- Values of 32 bits, and what a store of values leaves at each place.
+use mathlib.Core.Path.{_≡_, _∙_}
+use mathlib.Core.List.{List, [], _∷_, _++_}
+use Prim.Native.Nat.{ℕ, zero, suc, _+_, _-_, _<_, _≤_}
+use native.Mathlib.Omega.{arith}
+use lib.IntN.{ℤ, pos, negsuc}
+use lib.Dec.{T, le→leb}
+use lib.ListN.{length, getD, take, drop, List·getD-append}
+use lib.Seq.{paste, getD-append-add, getD-take, getD-drop, length-paste-head, length-take-le}
+use mir.Syntax.{w32}
+use mir.Val.{SFits}
+use Rattle.lists.specs.Lists.{every}
+use Rattle.lists.proofs.Laws.{and-l, and-r, and-both}
+use Rattle.calls.specs.Bounds.{is-value, top}
+
+pub fits-value : (z : ℤ) → SFits w32 z → T (is-value z)
+unfolding is-value top
+fits-value (pos n) h = le→leb n 2147483647 (let k = h .sfits in omega arith)
+fits-value (negsuc n) h = le→leb n 2147483647 (let k = h .sfits in omega arith)
+
+pub every-below : (vs : List ℤ) → ((k : ℕ) → k < length vs → T (is-value (getD vs k (pos 0)))) → T (every is-value vs)
+unfolding every
+every-below [] h = tt
+every-below (v ∷ vs) h = and-both (is-value v) (every is-value vs) (h 0 (omega arith)) (every-below vs (λ k l. h (suc k) (omega arith)))
+
+pub value-at : (vs : List ℤ) (i : ℕ) → T (every is-value vs) → T (is-value (getD vs i (pos 0)))
+unfolding every is-value top
+value-at [] i t = tt
+value-at (v ∷ vs) zero t = and-l (is-value v) (every is-value vs) t
+value-at (v ∷ vs) (suc i) t = value-at vs i (and-r (is-value v) (every is-value vs) t)
+
+-- ---- a part of a list that is replaced
+
+module _ {A : Type 0} (d s : List A) (at n : ℕ) (z : A) (hd : at + n ≤ length d) (hs : n ≤ length s) where
+  in-front : (i : ℕ) → i < at + n → getD (paste d at s n) i z ≡ getD (take at d ++ take n s) i z
+  in-front i h = let e = length-paste-head d at s n (omega arith) hs in List·getD-append (take at d ++ take n s) (drop (at + n) d) z i (omega arith)
+
+  pub paste-in : (k : ℕ) → k < n → getD (paste d at s n) (at + k) z ≡ getD s k z
+  paste-in k h =
+      let e : length (take at d) ≡ at = length-take-le at d (omega arith) in
+      in-front (at + k) (omega arith) ∙ rw e at (getD-append-add (take at d) (take n s) k z) ∙ getD-take n s k z h
+
+  pub paste-before : (i : ℕ) → i < at → getD (paste d at s n) i z ≡ getD d i z
+  paste-before i h =
+      let e : length (take at d) ≡ at = length-take-le at d (omega arith) in
+      in-front i (omega arith) ∙ List·getD-append (take at d) (take n s) z i (omega arith) ∙ getD-take at d i z h
+
+  pub paste-after : (i : ℕ) → at + n ≤ i → getD (paste d at s n) i z ≡ getD d i z
+  paste-after i h =
+      let e : length (take at d ++ take n s) ≡ at + n = length-paste-head d at s n (omega arith) hs in
+      let k : (at + n) + (i - (at + n)) ≡ i = omega arith in
+      rw (e, k) at (getD-append-add (take at d ++ take n s) (drop (at + n) d) (i - (at + n)) z) ∙ rw k at (getD-drop (at + n) d (i - (at + n)) z)
