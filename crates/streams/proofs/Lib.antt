@@ -1,0 +1,4 @@
+pub mod Reading
+pub mod Tests
+pub mod Naming
+pub mod Ends

@@ -1,0 +1,14 @@
+-- `line_of`: by its fields.
+use borrow.Author.Needs.{needs}
+use Rattle.streams.proofs.Reading.{line-mades}
+use Rattle.streams.proofs.line_of.Statement.{statement}
+use Rattle.streams.proofs.line_of.Tie as tie
+
+pub line-of-spec : {M : Type 1} → statement M
+line-of-spec =
+    tie.close
+    (tie.spec
+    {- either-requires -}
+    (λ c κs. search needs)
+    {- returns -}
+    (λ c. search line-mades))
