@@ -1,0 +1,11 @@
+pub mod Places
+pub mod Cutting
+pub mod Fuel
+pub mod Leaves
+pub mod Numbers
+pub mod Conditions
+pub mod Items
+pub mod Forms
+pub mod Verbs
+pub mod Grants
+pub mod Whole

@@ -1,0 +1,16 @@
+-- `clock_end`: its parts in a row.
+use borrow.Author.Needs.{needs}
+use Rattle.shape.proofs.Verbs.{verb-ends}
+use Rattle.shape.proofs.clock_end.Statement.{statement}
+use Rattle.shape.proofs.clock_end.Tie as tie
+
+pub clock-end-spec : {M : Type 1} → statement M
+clock-end-spec =
+    tie.close
+    (tie.spec
+    {- number-end-requires -}
+    (λ c κs. search needs)
+    {- then-byte-requires -}
+    (λ c κs. search needs)
+    {- returns -}
+    (λ c. search verb-ends))
