@@ -8,20 +8,21 @@ use native.Mathlib.Omega.{arith}
 use lib.IntN.{ℤ, pos, negsuc}
 use lib.Dec.{T, leb, ltb, eqb, leb→le, le→leb, ltb→lt, lt→ltb, eqb→eq, eqb-refl, not-T, T-not}
 use lib.ListN.{length, length-append, length-map}
-use Rattle.lists.specs.Lists.{every, some?, empty?, nth, distinct, same-list, position, gather, count-from}
+use Rattle.lists.specs.Lists.{every, some?, select, empty?, nth, distinct, same-list, position, gather, count-from}
 use Rattle.lists.proofs.Laws.{every-append, every-map, every-both, every-gather, parts, and-l, and-r, and-both, or-cases, T-true, T-false, same-list→eq, same-list-refl, position-nth, position-below}
 use Rattle.syntax.specs.Grammar as G
 use Rattle.syntax.specs.Grammar.{Bytes, Line, Cond, test, all, any, neg, Conds, last, more, Ref, Operand, Test, Show, Span, Right, GrantLine, Entry, name?, ref?, operand?, test?, cond?, conds?, some-all, show?, grant?, entry?, line?}
 use Rattle.model.specs.Conditions.{tests, tests-of, map-cond, map-conds}
-use Rattle.model.specs.Queries.{Stream, Schema, no-stream, col, columns-of, Term, column, time, number, self, Compare, Grant, Caller}
-use Rattle.model.specs.Checks.{grant-placed}
+use Rattle.model.specs.Queries.{Stream, Schema, no-stream, Col, col, same-col, columns-of, Term, column, time, number, self, Compare, Grant, Caller}
+use Rattle.model.specs.Checks.{has, within, grant-placed}
 use Rattle.model.proofs.Conditions.{tests-map}
+use Rattle.model.proofs.Columns.{same-col→eq, same-col-refl}
 use Rattle.calls.specs.Names
 use Rattle.calls.specs.Names.{stream-names, columns-named, stream-number, is-self, term-of, operand-of, compare-of, natural, shown-columns, map-option, size-of, offset-of, resolve-grant, operand-refs, operand-numbers, cond-refs, cond-numbers}
 use Rattle.calls.specs.Bounds.{short, short-ref, is-value, is-time, is-limit, is-span, top, max-grants, max-roles, max-entries, max-streams, cond-bounded, grant-bounded, caller-bounded, show-bounded}
 use Rattle.calls.specs.Validity.{valid-name, valid-stream, valid-schema, valid-term, valid-cond, valid-limit, valid-window, valid-grant, valid-catalogue, entry-names, valid-caller}
 use Rattle.calls.specs.Refusals.{Check, refuse, passes, written}
-use Rattle.calls.specs.Tables.{declared, window-allowed, grant-table, caller-table}
+use Rattle.calls.specs.Tables.{declared, window-allowed, show-refs, show-placed, grant-table, caller-table}
 use Rattle.calls.proofs.Passing.{not-not, not-or-l, not-or-r, pass-first, pass-rest, pass-test}
 
 -- ---- streams of a grant
@@ -73,17 +74,31 @@ unfolding empty?
 append-some [] ys t = absurd t
 append-some (x ∷ xs) ys t = tt
 
-map-some : {A B : Type 0} (f : A → B) (xs : List A) → T (not (empty? xs)) → T (not (empty? (map f xs)))
-unfolding empty?
-map-some f [] t = t
-map-some f (x ∷ xs) t = tt
+-- a column that is among others is among those selected of them
+selects-some : (c : Col) (cs ds : List Col) → T (has ds c) → T (not (empty? (select (λ e. has (c ∷ cs) e) ds)))
+unfolding has some? select empty?
+selects-some c cs [] t = absurd t
+selects-some c cs (d ∷ ds) t =
+    or-cases (same-col c d) (some? (same-col c) ds) t
+    (λ e. rw (T-true (same-col d c) (subst (λ x. T (same-col d x)) (sym (same-col→eq c d e)) (same-col-refl d))) tt)
+    (λ e. go (same-col d c || some? (same-col d) cs) (unfold has in selects-some c cs ds e))
+  where
+    go : (b : Bool) → T (not (empty? (select (λ e. has (c ∷ cs) e) ds))) → T (not (empty? (cond b (d ∷ select (λ e. has (c ∷ cs) e) ds) (select (λ e. has (c ∷ cs) e) ds))))
+    go true h = tt
+    go false h = h
 
-shows-some : (d : Schema) (ns : List Bytes) (w : Show) → T (valid-schema d) → T (some-all name? ns) → T (every (declared d) ns) → T (show? w) → T (not (empty? (shown-columns d (map (stream-number d) ns) w)))
-unfolding some-all shown-columns show? gather every valid-schema empty?
-shows-some d [] w v t u k = absurd (and-l false true t)
-shows-some d (n ∷ ns) G.everything v t u k =
-    append-some (columns-of d (stream-number d n)) _ (some-columns d (stream-number d n) (search parts) (ltb→lt (stream-number d n) (length d) (below d n (search parts))))
-shows-some d (n ∷ ns) (G.listed rs) v t u k = map-some (Names.column-of d) rs (search parts)
+lists-some : (f : Ref → Col) (rs : List Ref) (ds : List Col) → T (not (empty? rs)) → T (within (map f rs) ds) → T (not (empty? (select (λ c. has (map f rs) c) ds)))
+unfolding empty? within every
+lists-some f [] ds t w = absurd t
+lists-some f (r ∷ rs) ds t w = selects-some (f r) (map f rs) ds (search parts)
+
+shows-some : (d : Schema) (ns : List Bytes) (w : Show) → T (valid-schema d) → T (some-all name? ns) → T (every (declared d) ns) → T (show? w)
+    → T (within (map (Names.column-of d) (show-refs w)) (gather (columns-of d) (map (stream-number d) ns))) → T (not (empty? (shown-columns d (map (stream-number d) ns) w)))
+unfolding some-all shown-columns show? show-refs valid-schema
+shows-some d [] w v t u k p = absurd (unfold empty? in and-l false true t)
+shows-some d (n ∷ ns) G.everything v t u k p =
+    unfold gather every in append-some (columns-of d (stream-number d n)) _ (some-columns d (stream-number d n) (search parts) (ltb→lt (stream-number d n) (length d) (below d n (search parts))))
+shows-some d (n ∷ ns) (G.listed rs) v t u k p = lists-some (Names.column-of d) rs (gather (columns-of d) (map (stream-number d) (n ∷ ns))) (search parts) p
 
 -- ---- its conditions
 
@@ -171,7 +186,7 @@ grant-stored d gs g v h t =
     let u = pass-test _ (every (declared d) (g .of) && _) _ t2 in
     let t6 = pass-rest _ _ _ t2 in
     let r = pass-test _ (distinct same-list (g .of) && _) _ t6 in
-    let m = pass-test _ (grant-placed d (resolve-grant d g) && window-allowed (g .right) (g .window)) _ (pass-rest _ _ _ t6) in
+    let m = pass-test _ (show-placed d g && (grant-placed d (resolve-grant d g) && window-allowed (g .right) (g .window))) _ (pass-rest _ _ _ t6) in
     let ss : List ℕ = map (stream-number d) (g .of) in
     let shown = shown-columns d ss (g .show) in
     let when = map (map-cond (compare-of d)) (g .when) in
@@ -181,7 +196,7 @@ grant-stored d gs g v h t =
     (and-both (name? (g .role)) (short (g .role)) (search parts) (limits .0))
     (every-map (declared d) (λ s. ltb s (length d)) (stream-number d) (below d) (g .of) (search parts))
     (numbers-distinct d (g .of) (search parts) (search parts))
-    (shows-some d (g .of) (g .show) v (search parts) (search parts) (search parts))
+    (shows-some d (g .of) (g .show) v (search parts) (search parts) (search parts) (unfold show-placed in search parts))
     (search parts)
     (every-map (λ c. cond? c && cond-bounded c) valid-cond (map-cond (compare-of d)) (λ c k. cond-valid d c (search parts) (search parts)) (g .when)
     (every-both cond? cond-bounded (λ c. cond? c && cond-bounded c) (λ c a b. and-both (cond? c) (cond-bounded c) a b) (g .when) (search parts) (limits .1)))

@@ -5,11 +5,12 @@ use mathlib.Core.Option.{Option, none, some}
 use Prim.Native.Nat.{ℕ}
 use lib.IntN.{ℤ, pos, negsuc}
 use lib.ListN.{length}
-use Rattle.lists.specs.Lists.{nth, some?, every, gather, position, same-list}
+use Rattle.lists.specs.Lists.{nth, some?, every, select, gather, position, same-list}
 use Rattle.syntax.specs.Grammar as G
 use Rattle.syntax.specs.Grammar.{Bytes, bytes, Cond, Form, Ref, Operand, Test, GrantLine, Show, Span}
 use Rattle.model.specs.Conditions.{tests, map-cond}
 use Rattle.model.specs.Queries.{Stream, Schema, no-stream, Col, col, figure, columns-of, Term, column, time, number, self, Compare, Query, source, pick, keep, join, aggregate, Grant}
+use Rattle.model.specs.Checks.{has}
 use Rattle.model.specs.Answers.{answers-compute}
 
 unfoldable pub stream-names : Schema → List Bytes
@@ -60,9 +61,10 @@ resolve d (G.keep rs q) = keep (map (column-of d) rs) (resolve d q)
 resolve d (G.join a b q r) = join (column-of d a) (column-of d b) (resolve d q) (resolve d r)
 resolve d (G.aggregate f c size offset q) = aggregate f (column-of d c) (natural size) (natural offset) (resolve d q)
 
+-- the columns of its streams that a grant shows, in the streams' order
 unfoldable pub shown-columns : Schema → List ℕ → Show → List Col
 shown-columns d ss G.everything = gather (columns-of d) ss
-shown-columns d ss (G.listed rs) = map (column-of d) rs
+shown-columns d ss (G.listed rs) = select (λ c. has (map (column-of d) rs) c) (gather (columns-of d) ss)
 
 unfoldable pub map-option : {A B : Type 0} → (A → B) → Option A → Option B
 map-option f none = none

@@ -11,9 +11,9 @@ use Rattle.refusal.specs.declared.Refusal.the-variants.{Bound, Undeclared, Repe
 use Rattle.lists.specs.Lists.{every, some?, gather, distinct, nth, same-list}
 use Rattle.syntax.specs.Grammar as G
 use Rattle.syntax.specs.Grammar.{Bytes, Ref, Show, Span, Right, Form, GrantLine, Entry}
-use Rattle.model.specs.Queries.{Schema, Record, Grant}
-use Rattle.model.specs.Checks.{placed, sized, grant-placed}
-use Rattle.calls.specs.Names.{stream-names, columns-named, stream-number, is-self, natural, resolve, resolve-grant, cond-refs, form-streams, form-refs, form-keeps}
+use Rattle.model.specs.Queries.{Schema, columns-of, Record, Grant}
+use Rattle.model.specs.Checks.{within, placed, sized, grant-placed}
+use Rattle.calls.specs.Names.{stream-names, columns-named, stream-number, is-self, column-of, natural, resolve, resolve-grant, cond-refs, form-streams, form-refs, form-keeps}
 use Rattle.calls.specs.Bounds.{max-streams, max-rows, max-grants, short, is-value, is-time, form-bounded, stream-bounded, grant-bounded, caller-bounded}
 use Rattle.calls.specs.Validity.{reserved, entry-names}
 use Rattle.calls.specs.Refusals.{Check, refuse, refusals-compute}
@@ -78,12 +78,16 @@ window-allowed G.read none = true
 window-allowed G.read (some w) = false
 window-allowed (G.figures f) w = true
 
+-- the columns that it lists are columns of its streams
+unfoldable pub show-placed : Schema → GrantLine → Bool
+show-placed d g = within (map (column-of d) (show-refs (g .show))) (gather (columns-of d) (map (stream-number d) (g .of)))
+
 unfoldable pub grant-table : Schema → List Grant → GrantLine → List Check
 grant-table d gs g =
     refuse Bound (not (grant-bounded g && ltb (length gs) max-grants))
     ∷ refuse Undeclared (not (every (declared d) (g .of) && every (ref-declared d) (show-refs (g .show) ++ gather cond-refs (g .when))))
     ∷ refuse Repeated (not (distinct same-list (g .of) && distinct same-ref (show-refs (g .show))))
-    ∷ refuse Misplaced (not (grant-placed d (resolve-grant d g) && window-allowed (g .right) (g .window)))
+    ∷ refuse Misplaced (not (show-placed d g && (grant-placed d (resolve-grant d g) && window-allowed (g .right) (g .window))))
     ∷ []
 
 -- ---- (caller ..)
@@ -110,5 +114,5 @@ query-table d q =
 
 -- To unfold this is to unfold every definition above.
 unfoldable pub tables-compute : Unit {0}
-unfolding refusals-compute declared ref-declared same-ref show-refs stream-table clock-table row-table window-allowed grant-table caller-table query-declared query-table
+unfolding refusals-compute declared ref-declared same-ref show-refs stream-table clock-table row-table window-allowed show-placed grant-table caller-table query-declared query-table
 tables-compute = tt

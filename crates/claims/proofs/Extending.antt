@@ -7,19 +7,19 @@ use native.Mathlib.Omega.{arith}
 use lib.Dec.{T, ltb, ltb→lt, lt→ltb}
 use lib.ListN.{length, length-append}
 use Rattle.refusal.specs.declared.Refusal.{Refusal}
-use Rattle.lists.specs.Lists.{every, some?, nth, distinct, gather, same-list, position}
+use Rattle.lists.specs.Lists.{every, some?, select, nth, distinct, gather, same-list, position}
 use Rattle.lists.proofs.Laws.{parts, and-both, or-l, or-r, or-cases, T-true, All, all-nil, all-cons, all-head, all-tail, all-weaken, all-left, all-right, all-any, all-gather, every-all, every-both, every-map, every-append-l, every-weaken, nth-before, some-before, map-same, position-before, gather-same}
 use Rattle.syntax.specs.Grammar as G
 use Rattle.syntax.specs.Grammar.{Bytes, Cond, test, all, any, neg, Conds, last, more, Ref, Operand, Test, Show, GrantLine}
 use Rattle.model.specs.Conditions.{tests, tests-of, map-cond, map-conds}
 use Rattle.model.specs.Queries.{Stream, Schema, no-stream, col, columns-of, column, self, Grant}
-use Rattle.model.specs.Checks.{grant-placed}
+use Rattle.model.specs.Checks.{has, grant-placed}
 use Rattle.model.proofs.Conditions.{cond-same}
 use Rattle.calls.specs.Names.{stream-names, columns-named, stream-number, col-of, is-self, term-of, column-of, operand-of, compare-of, natural, shown-columns, map-option, size-of, offset-of, resolve-grant, operand-refs, cond-refs}
 use Rattle.calls.specs.Bounds.{grant-bounded, max-grants}
 use Rattle.calls.specs.Validity.{valid-grant}
 use Rattle.calls.specs.Refusals.{Check, refuse, passes}
-use Rattle.calls.specs.Tables.{declared, ref-declared, same-ref, show-refs, window-allowed, grant-table}
+use Rattle.calls.specs.Tables.{declared, ref-declared, same-ref, show-refs, window-allowed, show-placed, grant-table}
 use Rattle.calls.proofs.Passing.{pass, pass-put}
 use Rattle.calls.proofs.Valid.{names-add}
 use Rattle.calls.proofs.Stored.{below}
@@ -145,12 +145,15 @@ module _ (d : Schema) (s : Stream) where
     streams-later : map (stream-number later) (g .of) ≡ streams
     streams-later = map-same (stream-number later) (stream-number d) (all-weaken number-later (every-all (declared d) (g .of) names))
 
-    show-later : (w : Show) → T (every (ref-declared d) (show-refs w)) → All (Known d) (shown-columns d streams w) → shown-columns later (map (stream-number later) (g .of)) w ≡ shown-columns d streams w
-    unfolding shown-columns show-refs
-    show-later G.everything h k = rw streams-later (gather-later streams streams-below)
-    show-later (G.listed rs) h k = refs-later rs (every-all (ref-declared d) rs h) k
+    all-later : gather (columns-of later) (map (stream-number later) (g .of)) ≡ gather (columns-of d) streams
+    all-later = rw streams-later (gather-later streams streams-below)
 
-    resolve-later : All (Known d) (resolve-grant d g .shown) → resolve-grant later g ≡ resolve-grant d g
+    show-later : (w : Show) → T (every (ref-declared d) (show-refs w)) → All (Known d) (map (column-of d) (show-refs w)) → shown-columns later (map (stream-number later) (g .of)) w ≡ shown-columns d streams w
+    unfolding shown-columns show-refs
+    show-later G.everything h k = all-later
+    show-later (G.listed rs) h k = ap₂ (λ ls cs. select (λ c. has ls c) cs) (refs-later rs (every-all (ref-declared d) rs h) k) all-later
+
+    resolve-later : All (Known d) (map (column-of d) (show-refs (g .show))) → resolve-grant later g ≡ resolve-grant d g
     unfolding resolve-grant
     resolve-later k =
         let all-refs = every-all (ref-declared d) (show-refs (g .show) ++ gather cond-refs (g .when)) refs in
@@ -168,9 +171,16 @@ module _ (d : Schema) (s : Stream) where
           offset = offset-of (g .window);
         }
 
-  shown-known : (g : Grant) → T (grant-placed d g) → All (Known d) (g .shown)
-  unfolding grant-placed
-  shown-known g h = all-within (g .shown) (all-gather {P = λ i. Unit {0}} (λ i u. columns-known d i) (all-any (g .of))) (search parts)
+  shown-known : (g : GrantLine) → T (show-placed d g) → All (Known d) (map (column-of d) (show-refs (g .show)))
+  unfolding show-placed
+  shown-known g h = all-within (map (column-of d) (show-refs (g .show))) (all-gather {P = λ i. Unit {0}} (λ i u. columns-known d i) (all-any (map (stream-number d) (g .of)))) h
+
+  show-placed-later : (g : GrantLine) (names : T (every (declared d) (g .of))) (refs : T (every (ref-declared d) (show-refs (g .show) ++ gather cond-refs (g .when)))) → T (show-placed d g) → T (show-placed later g)
+  unfolding show-placed
+  show-placed-later g names refs h =
+      let known = shown-known g (unfold show-placed in h) in
+      let e = refs-later (show-refs (g .show)) (every-all (ref-declared d) (show-refs (g .show)) (every-append-l (ref-declared d) (show-refs (g .show)) (gather cond-refs (g .when)) refs)) known in
+      rw (e, all-later g names refs) h
 
   -- and so does what an accepted line made
   pub written-later : (g : Grant) → Written d g → Written (d ++ (s ∷ [])) g
@@ -180,8 +190,8 @@ module _ (d : Schema) (s : Stream) where
       let (b, h₁) = pass _ (grant-bounded t && ltb 0 max-grants) _ (w .passed) in
       let (n, h₂) = pass _ (every (declared d) (t .of) && every (ref-declared d) (show-refs (t .show) ++ gather cond-refs (t .when))) _ h₁ in
       let (o, h₃) = pass _ (distinct same-list (t .of) && distinct same-ref (show-refs (t .show))) _ h₂ in
-      let (p, h₄) = pass _ (grant-placed d (resolve-grant d t) && window-allowed (t .right) (t .window)) _ h₃ in
-      let e = resolve-later t (search parts) (search parts) (shown-known (resolve-grant d t) (search parts)) in
+      let (p, h₄) = pass _ (show-placed d t && (grant-placed d (resolve-grant d t) && window-allowed (t .right) (t .window))) _ h₃ in
+      let e = resolve-later t (search parts) (search parts) (shown-known t (search parts)) in
       let q : T (grant-placed later (resolve-grant later t)) = rw (e, placed-later (resolve-grant d t) (unfold resolve-grant in streams-below t (search parts) (search parts))) (search parts) in
       record {
         text = t;
@@ -192,7 +202,7 @@ module _ (d : Schema) (s : Stream) where
             (pass-put _ (every (declared later) (t .of) && every (ref-declared later) (show-refs (t .show) ++ gather cond-refs (t .when))) _
             (and-both (every (declared later) (t .of)) _ (every-weaken (declared d) (declared later) declared-later (t .of) (search parts)) (every-weaken (ref-declared d) (ref-declared later) ref-later _ (search parts)))
             (pass-put _ (distinct same-list (t .of) && distinct same-ref (show-refs (t .show))) _ o
-            (pass-put _ (grant-placed later (resolve-grant later t) && window-allowed (t .right) (t .window)) []
-            (and-both (grant-placed later (resolve-grant later t)) _ q (search parts)) h₄)));
+            (pass-put _ (show-placed later t && (grant-placed later (resolve-grant later t) && window-allowed (t .right) (t .window))) []
+            (and-both (show-placed later t) _ (show-placed-later t (search parts) (search parts) (search parts)) (and-both (grant-placed later (resolve-grant later t)) _ q (search parts))) h₄)));
         made = w .made ∙ sym e;
       }

@@ -23,7 +23,7 @@ use Rattle.calls.specs.Names.{columns-named, stream-number, col-of, is-self, te
 use Rattle.calls.specs.Bounds.{max-columns, max-name, max-grants, top, is-value, is-time, short, is-limit, grant-bounded}
 use Rattle.calls.specs.Validity.{valid-name, free-name, valid-stream, valid-schema, valid-caller}
 use Rattle.calls.specs.Refusals.{passes}
-use Rattle.calls.specs.Tables.{declared, ref-declared, same-ref, show-refs, window-allowed, grant-table, query-table}
+use Rattle.calls.specs.Tables.{declared, ref-declared, same-ref, show-refs, window-allowed, show-placed, grant-table, query-table}
 use Rattle.calls.specs.Queries.{route-line}
 use Rattle.calls.proofs.Stored.{cond-tests}
 use Rattle.calls.proofs.Passing.{pass, query-accepted}
@@ -525,7 +525,7 @@ module _ (d : Schema) (valid : T (valid-schema d)) (who : Caller) (caller : T (v
       let (b, h₁) = pass _ (grant-bounded t && ltb 0 max-grants) _ (w .passed) in
       let (n, h₂) = pass _ (every (declared d) (t .of) && every (ref-declared d) (show-refs (t .show) ++ gather cond-refs (t .when))) _ h₁ in
       let (o, h₃) = pass _ (distinct same-list (t .of) && distinct same-ref (show-refs (t .show))) _ h₂ in
-      let (p, h₄) = pass _ (grant-placed d (resolve-grant d t) && window-allowed (t .right) (t .window)) _ h₃ in
+      let (p, h₄) = pass _ (show-placed d t && (grant-placed d (resolve-grant d t) && window-allowed (t .right) (t .window))) _ h₃ in
       let s = shown-cost d valid (resolve-grant d t) (of-few (resolve-grant d t) (search parts)) in
       let l = limits-text t (w .formed) (search parts) (search parts) (w .fits) in
       let u = under-text d (limits who (resolve-grant d t)) in
