@@ -5,3 +5,4 @@ pub mod Passing
 pub mod Valid
 pub mod Stored
 pub mod Interference
+pub mod Capacity

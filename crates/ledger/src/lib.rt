@@ -245,7 +245,7 @@ impl Ledger {
         let mut next = self;
         next.rows[s] = (count + 1) as u32;
         Entered {
-            verdict: Verdict::Accepted,
+            verdict: Verdict::Accepted, // the row is stored
             ledger: next,
         }
     }

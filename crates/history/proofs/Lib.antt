@@ -1,0 +1,3 @@
+pub mod Declared
+pub mod Steps
+pub mod Traces

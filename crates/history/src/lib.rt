@@ -1,0 +1,1 @@
+// What lists of calls leave: definitions and theorems only.

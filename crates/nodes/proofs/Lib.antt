@@ -1,0 +1,7 @@
+pub mod Counting
+pub mod Words
+pub mod Puts
+pub mod Reaching
+pub mod Stored
+pub mod Tests
+pub mod Conditions
