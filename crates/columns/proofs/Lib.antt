@@ -1,0 +1,5 @@
+pub mod Loops
+pub mod Ends
+pub mod StreamLists
+pub mod ColumnLists
+pub mod Resolving
