@@ -1,0 +1,8 @@
+pub mod Lists
+pub mod Codes
+pub mod Values
+pub mod Tests
+pub mod Sounds
+pub mod Reading
+pub mod Naming
+pub mod Ends
