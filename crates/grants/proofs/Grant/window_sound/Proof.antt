@@ -1,0 +1,18 @@
+use Rattle.grants.proofs.Soundness.{window-ends}
+use Rattle.grants.proofs.Grant.window_sound.Statement.{statement}
+use Rattle.grants.proofs.Grant.window_sound.Tie as tie
+
+pub window-sound-spec : {M : Type 1} → statement M
+window-sound-spec =
+    tie.close
+    (tie.spec
+    {- returns -}
+    (λ c. search window-ends)
+    {- returns-2 -}
+    (λ c. search window-ends)
+    {- returns-3 -}
+    (λ c. search window-ends)
+    {- returns-4 -}
+    (λ c. search window-ends)
+    {- returns-5 -}
+    (λ c. search window-ends))

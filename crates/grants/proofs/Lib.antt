@@ -1,0 +1,3 @@
+pub mod Columns
+pub mod Soundness
+pub mod Valid
