@@ -19,66 +19,9 @@ use Rattle.items.specs.Items.{once}
 use Rattle.callers.specs.Callers.{code-valid, names-of, names-sound}
 use Rattle.callers.proofs.Lists.{the-first}
 
--- ---- one name
-
-self-name : bytes "self" ≡ name-of 1936026726
-unfolding name-of bytes-from
-self-name = refl
-
-time-name : bytes "time" ≡ name-of 1953066341
-unfolding name-of bytes-from
-time-name = refl
-
-figure-name : bytes "figure" ≡ name-of 112602893349477
-unfolding name-of bytes-from
-figure-name = refl
-
-self-valid : valid-name (bytes "self") ≡ true
-unfolding valid-name name? short max-name every letter alnum digit
-self-valid = refl
-
-time-valid : valid-name (bytes "time") ≡ true
-unfolding valid-name name? short max-name every letter alnum digit
-time-valid = refl
-
-figure-valid : valid-name (bytes "figure") ≡ true
-unfolding valid-name name? short max-name every letter alnum digit
-figure-valid = refl
-
-not-reserved : (n : ℕ) → n < 18446744073709551616 → (n ≡ 1936026726 → ⊥) → (n ≡ 1953066341 → ⊥) → (n ≡ 112602893349477 → ⊥) → reserved (name-of n) ≡ false
-unfolding reserved some?
-not-reserved n h s t f =
-    rw (
-      self-name,
-      time-name,
-      figure-name,
-      name-one n 1936026726 h (lit< tt),
-      name-one n 1953066341 h (lit< tt),
-      name-one n 112602893349477 h (lit< tt),
-      ne-eqb n 1936026726 s,
-      ne-eqb n 1953066341 t,
-      ne-eqb n 112602893349477 f,
-    )
-
 pub and-true : (a : Bool) → (a && true) ≡ a
 and-true true = refl
 and-true false = refl
-
-module _ (n : ℕ) where
-  pub valid-self : n ≡ 1936026726 → true ≡ valid-name (name-of n)
-  valid-self e = sym (ap (λ m. valid-name (name-of m)) e ∙ ap valid-name (sym self-name) ∙ self-valid)
-
-  pub valid-time : n ≡ 1953066341 → true ≡ valid-name (name-of n)
-  valid-time e = sym (ap (λ m. valid-name (name-of m)) e ∙ ap valid-name (sym time-name) ∙ time-valid)
-
-  pub valid-figure : n ≡ 112602893349477 → true ≡ valid-name (name-of n)
-  valid-figure e = sym (ap (λ m. valid-name (name-of m)) e ∙ ap valid-name (sym figure-name) ∙ figure-valid)
-
-  pub valid-other : {x : Bool} → x ≡ free-name (name-of n) → n < 18446744073709551616 → (n ≡ 1936026726 → ⊥) → (n ≡ 1953066341 → ⊥) → (n ≡ 112602893349477 → ⊥) → x ≡ valid-name (name-of n)
-  unfolding free-name
-  valid-other e h s t f = e ∙ rw (not-reserved n h s t f) (and-true (valid-name (name-of n)))
-
-pub ruleset valids = (valid-self, valid-time, valid-figure, valid-other)
 
 -- ---- every name
 

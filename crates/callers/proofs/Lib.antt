@@ -1,6 +1,5 @@
 pub mod Lists
 pub mod Codes
-pub mod Values
 pub mod Tests
 pub mod Sounds
 pub mod Reading

@@ -12,7 +12,7 @@ use borrow.Author.Tests.{not-false, lt-ltb, le-ltb, leb-true, leb-false, le-leb}
 use Rattle.refusal.specs.declared.Refusal.{Refusal}
 use Rattle.refusal.specs.declared.Refusal.the-variants.{Bound, Repeated}
 use Rattle.lists.specs.Lists.{All, all-nil, all-cons, every, some?, distinct, count-from, same-list}
-use Rattle.lists.proofs.Laws.{and-l, and-r, and-both, T-true, all-both, all-weaken, all-every, every-all, map-same}
+use Rattle.lists.proofs.Laws.{true-T, and-l, and-r, and-both, T-true, all-both, all-weaken, all-every, every-all, map-same}
 use Rattle.syntax.specs.Grammar.{Bytes, Entry, name?, entry?}
 use Rattle.model.specs.Queries as M
 use Rattle.calls.specs.Bounds.{short, is-value, max-roles, max-entries, caller-bounded}
@@ -22,25 +22,14 @@ use Rattle.calls.specs.Tables.{caller-table}
 use Rattle.text.specs.Words.{code-of, name-of}
 use Rattle.text.proofs.Codes.{name-back, names-same}
 use Rattle.items.specs.Items.{code-short, value-kept, first-of, once}
+use Rattle.items.proofs.Naming.{Named, code-named, distinct-codes, first-taken}
 use Rattle.items.proofs.Folds.{first-length}
 use Rattle.callers.specs.declared.Caller.{Caller}
 use Rattle.callers.specs.declared.CallerLine.{CallerLine}
 use Rattle.callers.specs.Callers.{roles-in, entries-in, role-in, entry-in, caller-of, caller-sound, caller-line, caller-in, line-beyond, line-repeated, line-table}
 use Rattle.callers.proofs.Lists.{getD-mapped, the-first, counted, first-at, all-at}
 
-true-T : (b : Bool) → b ≡ true → T b
-true-T true e = tt
-true-T false e = absurd (let k : _≡_ {A = ℕ} 0 1 = cc in omega arith)
-
 -- ---- names and their numbers
-
--- a name that is not too long
-abbrev Named : Bytes → Type 0
-Named w = T (name? w) × T (short w)
-
-code-named : (w : Bytes) → Named w → code-short w ≡ code-of w
-unfolding code-short
-code-named w g = rw (T-true (short w) (g .1))
 
 name-kept : (w : Bytes) → Named w → name-of (code-short w) ≡ w
 name-kept w g = ap name-of (code-named w g) ∙ name-back w (g .0) (g .1)
@@ -49,25 +38,9 @@ value-same : (z : ℤ) → T (is-value z) → value-kept z ≡ z
 unfolding value-kept
 value-same z g = rw (T-true (is-value z) g)
 
-some-codes : (w : Bytes) → Named w → {cs : List Bytes} → All Named cs → some? (eqb (code-of w)) (map code-of cs) ≡ some? (same-list w) cs
-unfolding some?
-some-codes w g all-nil = refl
-some-codes w g (all-cons {x} {xs} h hs) = ap₂ _||_ (sym (names-same w x (g .0) (g .1) (h .0) (h .1))) (some-codes w g hs)
-
-distinct-codes : {cs : List Bytes} → All Named cs → distinct eqb (map code-of cs) ≡ distinct same-list cs
-unfolding distinct
-distinct-codes all-nil = refl
-distinct-codes (all-cons {x} {xs} h hs) = ap₂ (λ a b. not a && b) (some-codes x h hs) (distinct-codes hs)
-
 named-valid : (w : Bytes) → Named w → T (valid-name w)
 unfolding valid-name
 named-valid w g = and-both (name? w) (short w) (g .0) (g .1)
-
--- the first of a list are the whole list where there are no more
-first-taken : (n : ℕ) (xs : List ℕ) → length xs ≤ n → take (length xs) (first-of n 0 xs) ≡ xs
-first-taken n xs h =
-    let l = first-length 0 n xs in
-    sym (the-first 0 (first-of n 0 xs) (length xs) (omega arith)) ∙ counted 0 (λ i. getD (first-of n 0 xs) i 0) xs (λ i k. first-at 0 n xs i (omega arith))
 
 -- names that are few and not too long stand once where their numbers do
 once-codes : {n : ℕ} (ws : List Bytes) → All Named ws → length ws ≤ 4 → n ≡ length ws → once (first-of 4 0 (map code-short ws)) n ≡ distinct same-list ws
@@ -76,7 +49,7 @@ once-codes {n} ws g h e =
     let l = length-map ws code-short in
     let c : n ≡ length (map code-short ws) = omega arith in
     ap (λ k. distinct eqb (take k (first-of 4 0 (map code-short ws)))) c
-    ∙ ap (distinct eqb) (first-taken 4 (map code-short ws) (omega arith) ∙ map-same code-short code-of (all-weaken code-named g)) ∙ distinct-codes g
+    ∙ ap (distinct eqb) (first-taken 4 0 (map code-short ws) (omega arith) ∙ map-same code-short code-of (all-weaken code-named g)) ∙ distinct-codes g
 
 -- ---- entries
 

@@ -1,6 +1,6 @@
 -- Refusal 12 of a caller, test by test.
 use mathlib.Core.Path.{_≡_, refl, sym, ap, ap₂, _∙_}
-use mathlib.Core.List.{List, [], _∷_, map}
+use mathlib.Core.List.{List, [], _∷_, map, map-map}
 use mathlib.Core.Bool.{Bool, true, false, _&&_, not}
 use Prim.Native.Nat.{_≤_, _<_, min}
 use native.Mathlib.Omega.{arith}
@@ -15,13 +15,12 @@ use Rattle.calls.specs.Bounds.{is-value, max-roles, max-entries}
 use Rattle.calls.specs.Validity.{valid-name, entry-names, valid-caller}
 use Rattle.text.specs.Words.{name-of}
 use Rattle.schema.proofs.Lookups.{every-of-map}
-use Rattle.schema.proofs.Tables.{map-map}
-use Rattle.schema.proofs.Soundness.{length-count}
+use Rattle.lists.proofs.Counting.{count-length}
 use Rattle.callers.specs.declared.Caller.{Caller}
 use Rattle.callers.specs.Callers.{roles-in, entries-in, role-in, entry-in, caller-of, caller-sound, code-valid, names-of, names-sound}
 use Rattle.callers.proofs.Lists.{by-places}
 use Rattle.callers.proofs.Codes.{and-true}
-use Rattle.callers.proofs.Values.{value-at}
+use Rattle.text.proofs.Values.{value-at}
 
 -- ---- what it stands for
 
@@ -69,14 +68,14 @@ module _ (w : Caller) where
   unfolding caller-of roles-in
   few-roles =
       let e = length-map (count-from 0 (roles-in w)) (role-in w) in
-      let k = length-count 0 (roles-in w) in
+      let k = count-length 0 (roles-in w) in
       le-leb (length (caller-of w .roles)) 4 (omega arith)
 
   few-entries : leb (length (caller-of w .profile)) 4 ≡ true
   unfolding caller-of entries-in
   few-entries =
       let e = length-map (count-from 0 (entries-in w)) (entry-in w) in
-      let k = length-count 0 (entries-in w) in
+      let k = count-length 0 (entries-in w) in
       le-leb (length (caller-of w .profile)) 4 (omega arith)
 
   -- ---- the ends

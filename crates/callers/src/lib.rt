@@ -17,13 +17,6 @@ ghost use Rattle.callers.specs.Callers.{caller-of, caller-sound, caller-
 use refusal::Refusal;
 use refusal::Verdict;
 
-// The names that no stream and no column has, and that a role or an entry may have: self, time and figure.
-const SELF: u64 = 1936026726;
-
-const TIME: u64 = 1953066341;
-
-const FIGURE: u64 = 112602893349477;
-
 // Names are numbers, as `text` reads them.
 pub struct Caller {
     pub roles: u32,
@@ -50,32 +43,7 @@ pub struct Identified {
     pub caller: Caller,
 }
 
-fn either(a: bool, b: bool) -> bool
-    ensures { λ r. ⌜ r ≡ (a || b) ⌝ }
-{
-    if a {
-        return true;
-    }
-    b
-}
-
 // ---- names as numbers
-
-// Whether a role or an entry may have the name.
-fn valid_name(code: u64) -> bool
-    ensures { λ r. ⌜ r ≡ valid-name (name-of code) ⌝ }
-{
-    if code == SELF {
-        return true;
-    }
-    if code == TIME {
-        return true;
-    }
-    if code == FIGURE {
-        return true;
-    }
-    schema::free_name(code)
-}
 
 // Whether each of the first n numbers is a name.
 fn all_valid(codes: [u64; 4], n: usize) -> bool
@@ -86,7 +54,7 @@ fn all_valid(codes: [u64; 4], n: usize) -> bool
         if n <= i {
             return true;
         }
-        if !valid_name(codes[i]) {
+        if !schema::valid_name(codes[i]) {
             return false;
         }
         i += 1;
@@ -172,7 +140,7 @@ fn first_four(codes: [u64; 6]) -> [u64; 4]
 fn line_of(rs: items::Names, es: items::Entries) -> CallerLine
     ensures { λ r. ⌜ r ≡ line-of rs es ⌝ }
 {
-    let over = either(rs.long, es.over);
+    let over = text::either(rs.long, es.over);
     let codes = rs.codes;
     let role = first_four(codes);
     let name = es.names;
@@ -317,14 +285,14 @@ impl Caller {
     pub fn with_line(self, line: &[u8]) -> Identified
         ensures { λ r. ⌜ Identifies self (now (line .entry)) r ⌝ }
     {
-        if 512 < line.len() {
+        if text::LINE < line.len() {
             return self.refused(Refusal::Bound);
         }
         let l = caller_line_at(line);
         if !l.ok {
             return self.refused(Refusal::Malformed);
         }
-        if 8 < text::depth(line) {
+        if text::DEPTH < text::depth(line) {
             return self.refused(Refusal::Bound);
         }
         let v = verdict_of(l);

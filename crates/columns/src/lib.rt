@@ -27,15 +27,6 @@ pub struct Columns {
     pub mask: u32,
 }
 
-fn either(a: bool, b: bool) -> bool
-    ensures { λ r. ⌜ r ≡ (a || b) ⌝ }
-{
-    if a {
-        return true;
-    }
-    b
-}
-
 // The name at a place, 0 past the last.
 fn name_in(ks: &[u64], i: usize) -> u64
     ensures { λ r. ⌜ r ≡ getD (now (ks .entry)) i 0 ⌝ }
@@ -92,9 +83,9 @@ fn no_streams() -> Streams
 fn with_stream(r: Streams, long: bool, place: u32, again: bool) -> Streams
     ensures { λ x. ⌜ x ≡ stream-added r long place again ⌝ }
 {
-    let over = either(r.over, long);
-    let unknown = either(r.unknown, place == 4);
-    let repeated = either(r.repeated, again);
+    let over = text::either(r.over, long);
+    let unknown = text::either(r.unknown, place == 4);
+    let repeated = text::either(r.repeated, again);
     let at = r.count as usize;
     let mut places = r.places;
     if 4 <= at {
@@ -190,7 +181,7 @@ fn again_at(s: &[u8], at: usize, first: u64, second: u64, form: bool) -> bool
         if !c.ok {
             return false;
         }
-        found = either(found, same_column(c, first, second));
+        found = text::either(found, same_column(c, first, second));
         i = c.next;
     }
     false
@@ -214,9 +205,9 @@ fn no_columns() -> Columns
 fn with_column(r: Columns, over: bool, code: u32, again: bool) -> Columns
     ensures { λ x. ⌜ x ≡ column-added r over code again ⌝ }
 {
-    let wide = either(r.over, over);
-    let unknown = either(r.unknown, code == 28);
-    let repeated = either(r.repeated, again);
+    let wide = text::either(r.over, over);
+    let unknown = text::either(r.unknown, code == 28);
+    let repeated = text::either(r.repeated, again);
     let mask = masks::with(r.mask, code);
     Columns {
         ok: r.ok,

@@ -27,7 +27,7 @@ use Rattle.schema.proofs.Soundness.{length-schema}
 use Rattle.ledger.specs.declared.Ledger.{Ledger}
 use Rattle.ledger.specs.declared.Entered.{Entered}
 use Rattle.ledger.specs.Records.{refusing, record-of, record-sound, Rowed}
-use Rattle.ledger.proofs.Counting.{map-length}
+use Rattle.lists.proofs.Counting.{map-length}
 use Rattle.ledger.proofs.Records.{width-le}
 use Rattle.ledger.proofs.Verdicts.{not-accepted}
 use Rattle.commands.specs.declared.RowRead.{RowRead}

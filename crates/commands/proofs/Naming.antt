@@ -10,35 +10,18 @@ use lib.Dec.{T}
 use lib.ListN.{length, take, drop, getD}
 use borrow.Author.Tests.{not-true, not-false}
 use Rattle.lists.specs.Lists.{every, count-from}
-use Rattle.lists.proofs.Laws.{and-l, and-r, T-true}
+use Rattle.lists.proofs.Laws.{true-T, and-l, and-r, T-true}
 use Rattle.syntax.specs.Grammar.{name?}
 use Rattle.calls.specs.Bounds.{short, is-value}
 use Rattle.text.specs.Words.{name-of}
 use Rattle.text.proofs.Codes.{name-back}
 use Rattle.items.specs.Items.{code-short, first-of, value-kept}
+use Rattle.items.proofs.Naming.{first-taken}
 use Rattle.commands.specs.declared.RowRead.{RowRead}
 use Rattle.commands.specs.Commands.{Values}
 use Rattle.commands.specs.Reads.{row-read}
 
-pub true-T : (b : Bool) → b ≡ true → T b
-true-T true e = tt
-true-T false e = absurd (let k : _≡_ {A = ℕ} 0 1 = cc in omega arith)
-
 -- ---- the first of a list
-
-taken : {A : Type 0} (f : A) (xs ys : List A) (a n : ℕ) → length ys ≤ n → ((i : ℕ) → getD xs (a + i) f ≡ getD ys i f) → take (length ys) (map (λ i. getD xs i f) (count-from a n)) ≡ ys
-unfolding count-from
-taken f xs [] a n h g = refl
-taken f xs (y ∷ ys) a zero h g = absurd (omega arith)
-taken f xs (y ∷ ys) a (suc n) h g =
-    let z : a + 0 ≡ a = omega arith in
-    let k : length ys ≤ n = omega arith in
-    ap₂ _∷_ (ap (λ i. getD xs i f) (sym z) ∙ g 0)
-    (taken f xs ys (suc a) n k (λ i. let e : suc a + i ≡ a + suc i = omega arith in ap (λ j. getD xs j f) e ∙ g (suc i)))
-
-pub first-taken : {A : Type 0} (n : ℕ) (f : A) (xs : List A) → length xs ≤ n → take (length xs) (first-of n f xs) ≡ xs
-unfolding first-of
-first-taken n f xs h = taken f xs xs 0 n h (λ i. let e : 0 + i ≡ i = omega arith in ap (λ j. getD xs j f) e)
 
 -- values within 32 bits are kept
 values-kept : (vs : List ℤ) → T (every is-value vs) → map value-kept vs ≡ vs

@@ -119,15 +119,6 @@ fn clear_at(s: &[u8]) -> bool
     s.len() == 7
 }
 
-fn either(a: bool, b: bool) -> bool
-    ensures { λ r. ⌜ r ≡ (a || b) ⌝ }
-{
-    if a {
-        return true;
-    }
-    b
-}
-
 // No row line.
 fn no_row() -> RowRead
     ensures { λ r. ⌜ r ≡ row-read none ⌝ }
@@ -145,7 +136,7 @@ fn no_row() -> RowRead
 fn row_of(n: text::Name, vs: items::Values) -> RowRead
     ensures { λ r. ⌜ r ≡ row-line-of n vs ⌝ }
 {
-    let over = either(n.long, vs.wide);
+    let over = text::either(n.long, vs.wide);
     let values = vs.values;
     RowRead {
         ok: true,
@@ -187,14 +178,14 @@ pub fn clock_line(l: Ledger, line: &[u8]) -> Entered
     if !l.sound() {
         return refused(l, Refusal::Lent);
     }
-    if 512 < line.len() {
+    if text::LINE < line.len() {
         return refused(l, Refusal::Bound);
     }
     let c = clock_at(line);
     if !c.ok {
         return refused(l, Refusal::Malformed);
     }
-    if 8 < text::depth(line) {
+    if text::DEPTH < text::depth(line) {
         return refused(l, Refusal::Bound);
     }
     if c.beyond {
@@ -210,13 +201,13 @@ pub fn clear_line(l: Ledger, line: &[u8]) -> Entered
     if !l.sound() {
         return refused(l, Refusal::Lent);
     }
-    if 512 < line.len() {
+    if text::LINE < line.len() {
         return refused(l, Refusal::Bound);
     }
     if !clear_at(line) {
         return refused(l, Refusal::Malformed);
     }
-    if 8 < text::depth(line) {
+    if text::DEPTH < text::depth(line) {
         return refused(l, Refusal::Bound);
     }
     l.clear()
@@ -252,14 +243,14 @@ pub fn row_line(l: Ledger, q: Schema, line: &[u8], times: &mut [u32], values: &m
     if !ledger::rows_sound(l, q, times, values) {
         return refused(l, Refusal::Lent);
     }
-    if 512 < line.len() {
+    if text::LINE < line.len() {
         return refused(l, Refusal::Bound);
     }
     let w = row_at(line);
     if !w.ok {
         return refused(l, Refusal::Malformed);
     }
-    if 8 < text::depth(line) {
+    if text::DEPTH < text::depth(line) {
         return refused(l, Refusal::Bound);
     }
     enter(l, q, w, times, values)

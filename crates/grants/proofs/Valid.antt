@@ -21,7 +21,8 @@ use Rattle.text.specs.Words.{name-of}
 use Rattle.schema.specs.declared.Schema.{Schema}
 use Rattle.schema.specs.Schemas.{streams-in, width-of, schema-of, schema-sound}
 use Rattle.schema.proofs.Tables.{columns-named-in}
-use Rattle.schema.proofs.Soundness.{length-count, length-columns, length-schema}
+use Rattle.lists.proofs.Counting.{count-length}
+use Rattle.schema.proofs.Soundness.{length-columns, length-schema}
 use Rattle.masks.specs.Masks as B
 use Rattle.masks.specs.Masks.{inside}
 use Rattle.masks.proofs.Lists.{has-mask, has-none, inside-has, bits-same}
@@ -145,7 +146,7 @@ module _ (q : Schema) where
 
 streams-length : (g : Grant) → length (streams-of g) ≡ min (g .count) 4
 unfolding streams-of places-of
-streams-length g = length-map (count-from 0 (min (g .count) 4)) (λ i. getD (g .streams) i 0) ∙ length-count 0 (min (g .count) 4)
+streams-length g = length-map (count-from 0 (min (g .count) 4)) (λ i. getD (g .streams) i 0) ∙ count-length 0 (min (g .count) 4)
 
 some-items : {A : Type 0} (xs : List A) → 0 < length xs → T (not (empty? xs))
 unfolding empty?

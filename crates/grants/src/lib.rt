@@ -13,14 +13,6 @@ ghost use Rattle.nodes.specs.Nodes.{nodes-sound};
 ghost use Rattle.grants.specs.Grants.{places-of, streams-of, streams-mask, streams-sound, limit-sound, limits-sound, window-sound, grant-sound};
 use nodes::Node;
 use schema::Schema;
-use schema::free_name;
-
-// The names that a role may have and a column may not: self, time and figure.
-const SELF: u64 = 1936026726;
-
-const TIME: u64 = 1953066341;
-
-const FIGURE: u64 = 112602893349477;
 
 // How many of four places are counted.
 fn places(count: u32) -> usize
@@ -61,22 +53,6 @@ pub fn columns_mask(q: Schema, count: u32, streams: [u32; 4]) -> u32
         i += 1;
     }
     m
-}
-
-// Whether a role may have the name.
-fn role_name(code: u64) -> bool
-    ensures { λ r. ⌜ r ≡ valid-name (name-of code) ⌝ }
-{
-    if code == SELF {
-        return true;
-    }
-    if code == TIME {
-        return true;
-    }
-    if code == FIGURE {
-        return true;
-    }
-    free_name(code)
 }
 
 // A time, or the number that stands for none.
@@ -214,7 +190,7 @@ impl Grant {
     pub fn sound(self, q: Schema, words: &[u32]) -> bool
         ensures { λ r. ⌜ r ≡ grant-sound q self (now (words .entry)) ⌝ }
     {
-        if !role_name(self.role) {
+        if !schema::valid_name(self.role) {
             return false;
         }
         if !self.streams_sound(q) {

@@ -1,6 +1,6 @@
 -- A stream more: the record has its stream, with no rows.
 use mathlib.Core.Path.{_≡_, refl, sym, ap, ap₂, _∙_}
-use mathlib.Core.List.{List, [], _∷_, _++_, map}
+use mathlib.Core.List.{List, [], _∷_, _++_, map, map-append}
 use Prim.Native.Nat.{ℕ, zero, suc, _+_, _*_, _-_, _<_, _≤_, min}
 use native.Mathlib.Nat.{zero-add}
 use native.Mathlib.Omega.{arith}
@@ -15,15 +15,11 @@ use Rattle.schema.specs.Schemas.{streams-in, width-of, columns-in, schema-of}
 use Rattle.schema.specs.declared.Schema.{Schema}
 use Rattle.schema.proofs.Soundness.{length-schema, length-columns}
 use Rattle.schema.proofs.Tables.{columns-named-in}
-use Rattle.schema.proofs.Adding.{count-snoc, map-count}
+use Rattle.schema.proofs.Adding.{map-count}
 use Rattle.ledger.specs.Records.{row-in, count-in, rows-in, record-of, rows-sound}
 use Rattle.ledger.specs.declared.Ledger.{Ledger}
-use Rattle.ledger.proofs.Counting.{every-at}
+use Rattle.lists.proofs.Counting.{count-more, every-at}
 use Rattle.ledger.proofs.Records.{streams-le}
-
-map-snoc : {A B : Type 0} (f : A → B) (xs : List A) (x : A) → map f (xs ++ (x ∷ [])) ≡ map f xs ++ (f x ∷ [])
-map-snoc f [] x = refl
-map-snoc f (y ∷ xs) x = ap (f y ∷_) (map-snoc f xs x)
 
 module _ (q q′ : Schema) (s : Stream) (e : schema-of q′ ≡ schema-of q ++ (s ∷ [])) where
   pub one-more : streams-in q′ ≡ suc (streams-in q)
@@ -55,8 +51,8 @@ module _ (q q′ : Schema) (s : Stream) (e : schema-of q′ ≡ schema-of q ++ (
     all-rows : T (rows-sound l q times values) → map (rows-in l q′ times values) (count-from 0 (streams-in q′)) ≡ map (rows-in l q times values) (count-from 0 (streams-in q)) ++ ([] ∷ [])
     all-rows r =
         ap (λ n. map (rows-in l q′ times values) (count-from 0 n)) one-more
-        ∙ ap (map (rows-in l q′ times values)) (count-snoc 0 (streams-in q))
-        ∙ map-snoc (rows-in l q′ times values) (count-from 0 (streams-in q)) (0 + streams-in q)
+        ∙ ap (map (rows-in l q′ times values)) (count-more 0 (streams-in q))
+        ∙ map-append (rows-in l q′ times values) (count-from 0 (streams-in q)) ((0 + streams-in q) ∷ [])
         ∙ ap₂ (λ xs x. xs ++ (x ∷ [])) (map-count (rows-in l q′ times values) (rows-in l q times values) 0 (streams-in q) (λ i h. rows-before i (omega arith))) (ap (rows-in l q′ times values) (zero-add (streams-in q)) ∙ rows-new r)
 
     pub record-more : T (rows-sound l q times values)

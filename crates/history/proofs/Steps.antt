@@ -13,7 +13,7 @@ use Rattle.refusal.specs.declared.Verdict.{Verdict}
 use Rattle.refusal.specs.declared.Verdict.the-variants.{Accepted, Refused}
 use Rattle.refusal.specs.declared.Refusal.{Refusal}
 use Rattle.refusal.specs.declared.Refusal.the-variants.{Lent}
-use Rattle.lists.proofs.Laws.{parts, and-both, T-true}
+use Rattle.lists.proofs.Laws.{true-T, parts, and-both, T-true}
 use Rattle.syntax.specs.Grammar.{Bytes}
 use Rattle.model.specs.Queries.{Stream, Record}
 use Rattle.calls.specs.Validity.{valid-record}
@@ -68,9 +68,6 @@ stepped x c t = rw (T-true (passes (call-checks x c)) t) refl
 stayed : (x : Record) (c : Call) → passes (call-checks x c) ≡ false → next x c ≡ x
 unfolding next
 stayed x c e = rw e refl
-
-pub true-T : (b : Bool) → b ≡ true → T b
-true-T b e = subst T (sym e) tt
 
 -- ---- the record and what may be lent after a call
 

@@ -4,7 +4,7 @@ use mathlib.Core.List.{List, [], _∷_}
 use Prim.Native.Nat.{ℕ, _≤_}
 use lib.IntN.{ℤ}
 use lib.Dec.{T}
-use Rattle.lists.proofs.Laws.{and-both}
+use Rattle.lists.proofs.Laws.{true-T, and-both}
 use Rattle.calls.specs.Validity.{valid-record}
 use Rattle.calls.specs.Calls.{Call, next, run, fresh, after}
 use Rattle.calls.proofs.Valid.{valid-after}
@@ -14,7 +14,7 @@ use Rattle.schema.proofs.Soundness.{sound-empty}
 use Rattle.ledger.specs.Records.{record-sound, Begun}
 use Rattle.ledger.specs.declared.Ledger.{Ledger}
 use Rattle.history.specs.States.{State, record-in, Sound, Promise}
-use Rattle.history.proofs.Steps.{Step, step, true-T}
+use Rattle.history.proofs.Steps.{Step, step}
 
 -- each call gets what the last one returned or left
 pub data Trace : State → List Call → State → Type 0 where

@@ -6,3 +6,4 @@ pub mod ValueLists
 pub mod Beginnings
 pub mod Profile
 pub mod EntryLists
+pub mod Naming

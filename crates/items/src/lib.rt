@@ -51,15 +51,6 @@ pub struct Entries {
     pub values: [i32; 4],
 }
 
-fn either(a: bool, b: bool) -> bool
-    ensures { λ r. ⌜ r ≡ (a || b) ⌝ }
-{
-    if a {
-        return true;
-    }
-    b
-}
-
 // No name was read.
 fn no_names() -> Names
     ensures { λ r. ⌜ r ≡ no-names ⌝ }
@@ -77,7 +68,7 @@ fn no_names() -> Names
 fn with_name(r: Names, n: text::Name) -> Names
     ensures { λ x. ⌜ x ≡ name-added r (n .long) (n .code) ⌝ }
 {
-    let long = either(r.long, n.long);
+    let long = text::either(r.long, n.long);
     let at = r.count as usize;
     let mut codes = r.codes;
     if 6 <= at {
@@ -176,7 +167,7 @@ fn no_values() -> Values
 fn with_value(r: Values, k: Kept) -> Values
     ensures { λ x. ⌜ x ≡ value-added r (k .wide) (k .value) ⌝ }
 {
-    let wide = either(r.wide, k.wide);
+    let wide = text::either(r.wide, k.wide);
     let place = r.count as usize;
     let mut values = r.values;
     if 6 <= place {
@@ -271,7 +262,7 @@ fn no_entry() -> EntryRead
 fn entry_of(n: text::Name, k: Kept, next: usize) -> EntryRead
     ensures { λ r. ⌜ r ≡ entry-of n k next ⌝ }
 {
-    let over = either(n.long, k.wide);
+    let over = text::either(n.long, k.wide);
     EntryRead {
         ok: true,
         over: over,
@@ -325,7 +316,7 @@ fn no_entries() -> Entries
 fn with_entry(r: Entries, e: EntryRead) -> Entries
     ensures { λ x. ⌜ x ≡ entry-added r (e .over) (e .name) (e .value) ⌝ }
 {
-    let over = either(r.over, e.over);
+    let over = text::either(r.over, e.over);
     let at = r.count as usize;
     let mut names = r.names;
     let mut values = r.values;

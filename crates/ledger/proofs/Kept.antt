@@ -18,7 +18,7 @@ use Rattle.schema.specs.Schemas.{streams-in, width-of}
 use Rattle.schema.specs.declared.Schema.{Schema}
 use Rattle.ledger.specs.declared.Ledger.{Ledger}
 use Rattle.ledger.specs.Records.{count-in, rows-in, ledger-sound, undeclared-empty, times-steady, stream-steady, streams-steady, rows-sound}
-use Rattle.ledger.proofs.Counting.{every-at, every-made, every-set}
+use Rattle.lists.proofs.Counting.{every-at, every-made, every-set}
 use Rattle.ledger.proofs.Records.{ledger, streams-le, width-le}
 use Rattle.ledger.proofs.Rows.{stream-other, stream-same}
 use Rattle.ledger.proofs.Soundness.{sound-tests, steady-rows}

@@ -1,8 +1,7 @@
-pub mod Counting
 pub mod Kept
 pub mod Records
 pub mod Rows
 pub mod Soundness
 pub mod Valid
-pub mod Values
+pub mod Pasting
 pub mod Verdicts

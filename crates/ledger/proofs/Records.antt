@@ -16,7 +16,7 @@ use Rattle.schema.specs.Schemas.{streams-in, stream-in, width-of, schema-of}
 use Rattle.schema.specs.declared.Schema.{Schema}
 use Rattle.ledger.specs.declared.Ledger.{Ledger}
 use Rattle.ledger.specs.Records.{count-in, rows-in, record-of, ledger-sound, times-steady, stream-steady}
-use Rattle.ledger.proofs.Counting.{map-alike, map-length}
+use Rattle.lists.proofs.Counting.{map-alike, map-length}
 
 abbrev pub ledger : ℕ → List ℕ → Ledger
 ledger k ns = record { clock = k; rows = ns }

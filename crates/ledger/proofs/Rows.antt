@@ -14,9 +14,9 @@ use Rattle.schema.specs.Schemas.{streams-in, width-of, schema-of}
 use Rattle.schema.specs.declared.Schema.{Schema}
 use Rattle.ledger.specs.declared.Ledger.{Ledger}
 use Rattle.ledger.specs.Records.{row-in, count-in, rows-in, record-of}
-use Rattle.ledger.proofs.Counting.{count-more, map-alike, map-set, map-places, nth-map}
+use Rattle.lists.proofs.Counting.{count-more, map-alike, map-set, map-places, nth-map}
 use Rattle.ledger.proofs.Records.{ledger, streams-le, width-le}
-use Rattle.ledger.proofs.Values.{paste-in, paste-before, paste-after}
+use Rattle.ledger.proofs.Pasting.{paste-in, paste-before, paste-after}
 
 abbrev pub stamped : ℕ → List ℤ → Row
 stamped k vs = record { at = k; values = vs }

@@ -15,7 +15,7 @@ use Rattle.schema.specs.Schemas.{streams-in, width-of}
 use Rattle.schema.specs.declared.Schema.{Schema}
 use Rattle.ledger.specs.declared.Ledger.{Ledger}
 use Rattle.ledger.specs.Records.{row-in, count-in, rows-in, ledger-sound, undeclared-empty, times-steady, stream-steady, streams-steady, rows-sound}
-use Rattle.ledger.proofs.Counting.{every-alike}
+use Rattle.lists.proofs.Counting.{every-alike}
 
 -- rows in a row of places are steady where the places' times are
 steady-places : (times : List ℕ) (values : List ℤ) (w low k b a n : ℕ) → steady low k (map (λ r. row-in times values w (b + r)) (count-from a n)) ≡ times-steady times low k (b + a) n

@@ -15,9 +15,9 @@ use Rattle.schema.specs.Schemas.{streams-in, width-of, column-name, stream-in, 
 use Rattle.schema.specs.declared.Schema.{Schema}
 use Rattle.ledger.specs.declared.Ledger.{Ledger}
 use Rattle.ledger.specs.Records.{row-in, count-in, rows-in, record-of, ledger-sound, rows-sound}
-use Rattle.ledger.proofs.Counting.{map-length, every-at, every-map}
+use Rattle.lists.proofs.Counting.{map-length, every-at, every-map}
 use Rattle.ledger.proofs.Records.{count-le}
-use Rattle.ledger.proofs.Values.{value-at}
+use Rattle.text.proofs.Values.{value-at}
 
 row-valid : (times : List ℕ) (values : List ℤ) (w p : ℕ) → T (every is-value values) → T (valid-row w (row-in times values w p))
 unfolding valid-row row-in

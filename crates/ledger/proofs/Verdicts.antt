@@ -26,7 +26,7 @@ use Rattle.schema.specs.Schemas.{streams-in, width-of, column-name, stream-in, 
 use Rattle.schema.specs.declared.Schema.{Schema}
 use Rattle.ledger.specs.declared.Ledger.{Ledger}
 use Rattle.ledger.specs.Records.{count-in, rows-in, record-of, ledger-sound, refusing, Clocked, Cleared, Rowed, rows-sound, begun, Begun}
-use Rattle.ledger.proofs.Counting.{map-alike, map-length, nth-map}
+use Rattle.lists.proofs.Counting.{map-alike, map-length, nth-map}
 use Rattle.ledger.proofs.Kept.{empty-sound, empty-rows, clock-sound, clock-rows, clear-sound, clear-rows, row-lengths, row-rows}
 use Rattle.ledger.proofs.Records.{ledger, rows-none, none-declared, cleared}
 use Rattle.ledger.proofs.Rows.{row-more}

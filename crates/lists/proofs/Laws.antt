@@ -1,5 +1,5 @@
 -- Laws of the list functions and of tests.
-use mathlib.Core.Path.{_≡_, refl, sym, ap, ap₂, _∙_}
+use mathlib.Core.Path.{_≡_, refl, sym, ap, ap₂, _∙_, subst}
 use mathlib.Core.List.{List, [], _∷_, _++_, map, append-assoc, List·Memᴰ, List·Memᴰ·head, List·Memᴰ·tail}
 use mathlib.Core.Bool.{Bool, true, false, _&&_, _||_, not, cond}
 use Prim.Native.Nat.{ℕ, zero, suc, _+_, _≤_, _<_}
@@ -34,6 +34,9 @@ or-r false b t = t
 pub or-cases {ℓ} : {X : Type ℓ} (a b : Bool) → T (a || b) → (T a → X) → (T b → X) → X
 or-cases true b t f g = f tt
 or-cases false b t f g = g t
+
+pub true-T : (b : Bool) → b ≡ true → T b
+true-T b e = subst T (sym e) tt
 
 pub T-true : (b : Bool) → T b → b ≡ true
 T-true true t = refl

@@ -20,7 +20,7 @@ use Rattle.calls.specs.Validity.{valid-name, valid-term, valid-cond}
 use Rattle.text.specs.Words.{name-of}
 use Rattle.nodes.specs.declared.Node.{Node}
 use Rattle.nodes.specs.Nodes.{node-at, number-of, term-of, compare-of, link, some-conds, first-cond, headed, cond-in, list-in, conditions-of, comparing, reaches, linked, in-mask, column-in, terms-sound, node-sound, nodes-sound}
-use Rattle.nodes.proofs.Counting.{every-at}
+use Rattle.lists.proofs.Counting.{every-at}
 use Rattle.nodes.proofs.Reaching.{link-falls, list-step, list-stop}
 
 -- ---- terms

@@ -16,7 +16,7 @@ use Rattle.model.specs.Queries.{Compare}
 use Rattle.nodes.specs.declared.Node.{Node}
 use Rattle.nodes.specs.Nodes.{node-at, link, compare-of, some-conds, first-cond, headed, cond-in, list-in, conditions-of, comparing, reaches, linked, terms-sound, node-sound, nodes-sound}
 use Rattle.nodes.specs.Storing.{put-node, fits, conds-list, size, sizes, compared, inner-node, store, store-all, list-size, store-list}
-use Rattle.nodes.proofs.Counting.{every-made}
+use Rattle.lists.proofs.Counting.{every-made}
 use Rattle.nodes.proofs.Puts.{node-put, node-other, length-store, length-all}
 use Rattle.nodes.proofs.Reaching.{Same, Stands, Chain, chain-end, chain-more, chain-list, chain-reaches, chain-join, chain-same, link-same, sound-same}
 

@@ -133,27 +133,6 @@ mask-bit mask code h = rw (lt-ltb code 24 h)
 
 pub ruleset mask-ends = (mask-past, mask-bit)
 
-valid-code : (n : ℕ) → valid-name (name-of n) ≡ name? (name-of n)
-unfolding valid-name
-valid-code n = rw (name-short n) (sym (and-true (name? (name-of n))))
-
-pub entry-self : (n : ℕ) → n ≡ 1936026726 → true ≡ valid-name (name-of n)
-unfolding name-of bytes-from name? letter digit alnum every
-entry-self n e = rw e (sym (valid-code 1936026726))
-
-pub entry-time : (n : ℕ) → n ≡ 1953066341 → true ≡ valid-name (name-of n)
-unfolding name-of bytes-from name? letter digit alnum every
-entry-time n e = rw e (sym (valid-code 1953066341))
-
-pub entry-figure : (n : ℕ) → n ≡ 112602893349477 → true ≡ valid-name (name-of n)
-unfolding name-of bytes-from name? letter digit alnum every
-entry-figure n e = rw e (sym (valid-code 112602893349477))
-
-pub entry-other : (n : ℕ) (x : Bool) → n < 18446744073709551616 → (n ≡ 1936026726 → ⊥) → (n ≡ 1953066341 → ⊥) → (n ≡ 112602893349477 → ⊥) → x ≡ free-name (name-of n) → x ≡ valid-name (name-of n)
-entry-other n x h s t f e = e ∙ sym (free-other n (name? (name-of n)) h s t f refl) ∙ sym (valid-code n)
-
-pub ruleset entry-ends = (entry-self, entry-time, entry-figure, entry-other)
-
 module _ (mask : ℕ) (n : Node) {x : Bool} (p : x ≡ in-mask mask (n .left)) where
   pub terms-left : not x ≡ true → false ≡ terms-sound mask n
   unfolding terms-sound

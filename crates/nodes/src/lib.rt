@@ -6,14 +6,6 @@ ghost use Rattle.calls.specs.Validity.{valid-name};
 ghost use Rattle.text.specs.Words.{name-of};
 ghost use Rattle.nodes.specs.Nodes.{no-node, node-of, node-at, link, comparing, reaches, linked, in-mask, terms-sound, node-sound, nodes-sound};
 ghost use Rattle.nodes.specs.Storing.{first-word, put-node};
-use schema::free_name;
-
-// The names that a profile entry may have and a column may not: self, time and figure.
-const SELF: u64 = 1936026726;
-
-const TIME: u64 = 1953066341;
-
-const FIGURE: u64 = 112602893349477;
 
 // A comparison (heads 1 to 6: `=` `/=` `<` `<=` `>` `>=`) with the codes of its terms, or a condition of conditions (7 `and`, 8 `or`, 9 `not`).
 // `before` is the number of the last node before those of this condition. `value` is a number or the name of a profile entry.
@@ -197,22 +189,6 @@ fn masked(mask: u32, code: u32) -> bool
     (mask >> code) % 2 == 1
 }
 
-// Whether a profile entry may have the name.
-fn entry_name(code: u64) -> bool
-    ensures { λ r. ⌜ r ≡ valid-name (name-of code) ⌝ }
-{
-    if code == SELF {
-        return true;
-    }
-    if code == TIME {
-        return true;
-    }
-    if code == FIGURE {
-        return true;
-    }
-    free_name(code)
-}
-
 // The terms of a grant's comparison: a column of the mask, and such a column, a number or a profile entry.
 fn terms_stand(n: Node, mask: u32) -> bool
     ensures { λ r. ⌜ r ≡ terms-sound mask n ⌝ }
@@ -227,7 +203,7 @@ fn terms_stand(n: Node, mask: u32) -> bool
         return n.value < 4294967296;
     }
     if n.right == Node::ENTRY {
-        return entry_name(n.value);
+        return schema::valid_name(n.value);
     }
     false
 }

@@ -1,6 +1,6 @@
 -- One stream more: what the schema then stands for.
 use mathlib.Core.Path.{_≡_, refl, sym, ap, ap₂, _∙_}
-use mathlib.Core.List.{List, [], _∷_, _++_, map}
+use mathlib.Core.List.{List, [], _∷_, _++_, map, map-append, map-map}
 use mathlib.Core.Bool.{Bool, true, false, _&&_, true≢false}
 use Prim.Native.Nat.{ℕ, zero, suc, _+_, _*_, _<_, _≤_, min}
 use native.Mathlib.Decide.{decLt}
@@ -10,11 +10,11 @@ use lib.ListN.{getD, take, set, length}
 use lib.Seq.{paste, paste-zero, paste-suc, length-paste, getD-set-same, getD-set-other, take-suc}
 use borrow.Author.Tests.{le-leb, lt-leb, lt-ltb, le-ltb}
 use Rattle.lists.specs.Lists.{every, count-from}
+use Rattle.lists.proofs.Counting.{count-more}
 use Rattle.model.specs.Queries as M
 use Rattle.text.specs.Words.{name-of}
 use Rattle.schema.specs.declared.Schema.{Schema}
 use Rattle.schema.specs.Schemas.{streams-in, width-of, column-name, stream-in, schema-of, counts-sound, room, with-stream-of, put-columns, Added}
-use Rattle.schema.proofs.Tables.{map-map}
 
 -- ---- a part of a list replaced
 
@@ -39,15 +39,6 @@ module _ (d : List ℕ) (at : ℕ) (s : List ℕ) where
 
 -- ---- lists that count
 
-pub count-snoc : (a k : ℕ) → count-from a (suc k) ≡ count-from a k ++ ((a + k) ∷ [])
-unfolding count-from
-count-snoc a zero = let e : a ≡ a + 0 = omega arith in ap (λ x. x ∷ []) e
-count-snoc a (suc k) = let e : suc a + k ≡ a + suc k = omega arith in ap (λ l. a ∷ l) (count-snoc (suc a) k ∙ ap (λ x. count-from (suc a) k ++ (x ∷ [])) e)
-
-map-append : {A B : Type 0} (f : A → B) (xs ys : List A) → map f (xs ++ ys) ≡ map f xs ++ map f ys
-map-append f [] ys = refl
-map-append f (x ∷ xs) ys = ap (λ l. f x ∷ l) (map-append f xs ys)
-
 pub map-count : {B : Type 0} (f g : ℕ → B) (a k : ℕ) → ((i : ℕ) → i < a + k → f i ≡ g i) → map f (count-from a k) ≡ map g (count-from a k)
 unfolding count-from
 map-count f g a zero e = refl
@@ -68,7 +59,7 @@ unfolding count-from
 take-count l zero h = refl
 take-count l (suc n) h =
     let e : 0 + n ≡ n = omega arith in
-    ap (map (λ c. getD l c 0)) (count-snoc 0 n)
+    ap (map (λ c. getD l c 0)) (count-more 0 n)
     ∙ map-append (λ c. getD l c 0) (count-from 0 n) ((0 + n) ∷ [])
     ∙ ap₂ _++_ (take-count l n (omega arith)) (ap (λ x. getD l x 0 ∷ []) e)
     ∙ sym (take-suc l n 0 (omega arith))
@@ -135,7 +126,7 @@ module _ (q : Schema) (n w : ℕ) (cs : List ℕ) (few : q .count < 4) (some : 0
   unfolding schema-of with-stream-of
   declares-more =
       let z : 0 + q .count ≡ q .count = omega arith in
-      let s : count-from 0 (streams-in more) ≡ count-from 0 (q .count) ++ (q .count ∷ []) = ap (count-from 0) streams-new ∙ count-snoc 0 (q .count) ∙ ap (λ x. count-from 0 (q .count) ++ (x ∷ [])) z in
+      let s : count-from 0 (streams-in more) ≡ count-from 0 (q .count) ++ (q .count ∷ []) = ap (count-from 0) streams-new ∙ count-more 0 (q .count) ∙ ap (λ x. count-from 0 (q .count) ++ (x ∷ [])) z in
       rw (has-room, streams-old)
       (ap (map (stream-in more)) s
       ∙ map-append (stream-in more) (count-from 0 (q .count)) (q .count ∷ [])
@@ -145,7 +136,7 @@ module _ (q : Schema) (n w : ℕ) (cs : List ℕ) (few : q .count < 4) (some : 0
   unfolding counts-sound
   counts-more =
       let z : 0 + q .count ≡ q .count = omega arith in
-      let s : count-from 0 (streams-in more) ≡ count-from 0 (q .count) ++ (q .count ∷ []) = ap (count-from 0) streams-new ∙ count-snoc 0 (q .count) ∙ ap (λ x. count-from 0 (q .count) ++ (x ∷ [])) z in
+      let s : count-from 0 (streams-in more) ≡ count-from 0 (q .count) ++ (q .count ∷ []) = ap (count-from 0) streams-new ∙ count-more 0 (q .count) ∙ ap (λ x. count-from 0 (q .count) ++ (x ∷ [])) z in
       let p : leb (getD (set (q .widths) (q .count) w) (q .count) 0) 6 ≡ true = rw (getD-set-same (q .widths) (q .count) w 0 (omega arith)) (le-leb w 6 narrow) in
       ap₂ _&&_ (le-leb (q .count + 1) 4 (omega arith) ∙ sym (le-leb (q .count) 4 (omega arith)))
       (ap (every (λ s. leb (getD (set (q .widths) (q .count) w) s 0) 6)) s

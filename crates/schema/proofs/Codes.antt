@@ -196,3 +196,14 @@ pub free-other : (n : ℕ) (x : Bool) → n < 18446744073709551616 → (n ≡ 19
 unfolding free-name valid-name
 free-other n x h s t f e =
     rw (reserved-code n h, ne-eqb n 1936026726 s, ne-eqb n 1953066341 t, ne-eqb n 112602893349477 f, name-short n) (e ∙ sym (and-true (name? (name-of n))) ∙ ap (λ a. a && true) (sym (and-true (name? (name-of n)))))
+
+-- a name of at most eight bytes is not too long
+pub valid-code : (n : ℕ) {x : Bool} → x ≡ name? (name-of n) → x ≡ valid-name (name-of n)
+unfolding valid-name
+valid-code n {x} e = e ∙ go (name? (name-of n)) (name-short n)
+  where
+    go : (a : Bool) {b : Bool} → b ≡ true → a ≡ (a && b)
+    go true h = sym h
+    go false h = refl
+
+pub ruleset valid-ends = (valid-code)

@@ -8,6 +8,7 @@ use lib.Dec.{leb}
 use lib.ListN.{getD, length, length-map, List·getD-eq-default}
 use borrow.Author.Tests.{le-leb, lt-leb, not-true, not-false}
 use Rattle.lists.specs.Lists.{every, empty?, distinct, count-from, same-list}
+use Rattle.lists.proofs.Counting.{count-length}
 use Rattle.syntax.specs.Grammar.{Bytes}
 use Rattle.calls.specs.Names.{stream-names}
 use Rattle.calls.specs.Bounds.{max-streams, max-columns}
@@ -19,11 +20,6 @@ use Rattle.schema.proofs.Lookups.{rest, every-both, every-of-map}
 use Rattle.schema.proofs.Tables.{name-code}
 
 -- ---- lists that count
-
-pub length-count : (a k : ℕ) → length (count-from a k) ≡ k
-unfolding count-from
-length-count a zero = refl
-length-count a (suc k) = ap suc (length-count (suc a) k)
 
 some-items : (xs : List Bytes) → 0 < length xs → not (empty? xs) ≡ true
 unfolding empty?
@@ -37,7 +33,7 @@ no-items (x ∷ xs) e = absurd (omega arith)
 
 pub length-columns : (q : Schema) (s : ℕ) → length (columns-in q s) ≡ width-of q s
 unfolding columns-in stream-in
-length-columns q s = length-map (count-from 0 (width-of q s)) (column-name q s) ∙ length-count 0 (width-of q s)
+length-columns q s = length-map (count-from 0 (width-of q s)) (column-name q s) ∙ count-length 0 (width-of q s)
 
 -- ---- one stream
 
@@ -129,7 +125,7 @@ and-four false b c d = refl
 
 pub length-schema : (q : Schema) → length (schema-of q) ≡ streams-in q
 unfolding schema-of
-length-schema q = length-map (count-from 0 (streams-in q)) (stream-in q) ∙ length-count 0 (streams-in q)
+length-schema q = length-map (count-from 0 (streams-in q)) (stream-in q) ∙ count-length 0 (streams-in q)
 
 few-streams : (q : Schema) → leb (length (schema-of q)) 4 ≡ true
 unfolding streams-in

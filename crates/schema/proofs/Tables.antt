@@ -1,6 +1,6 @@
 -- What the code reads of a schema, as lists of names.
 use mathlib.Core.Path.{_≡_, refl, sym, ap, _∙_}
-use mathlib.Core.List.{List, [], _∷_, map}
+use mathlib.Core.List.{List, [], _∷_, map, map-map}
 use mathlib.Core.Bool.{Bool}
 use Prim.Native.Nat.{ℕ, zero, suc, _+_, _*_, _-_, _<_, _≤_}
 use native.Mathlib.Omega.{arith}
@@ -25,10 +25,6 @@ column-code q s c = getD (q .columns) (s * 6 + c) 0
 
 zero-add : (n : ℕ) → 0 + n ≡ n
 zero-add n = omega arith
-
-pub map-map : {A B C : Type 0} (g : B → C) (f : A → B) (xs : List A) → map g (map f xs) ≡ map (λ x. g (f x)) xs
-map-map g f [] = refl
-map-map g f (x ∷ xs) = ap (λ l. g (f x) ∷ l) (map-map g f xs)
 
 pub stream-names-are : (q : Schema) (n : ℕ) → n ≡ streams-in q → stream-names (schema-of q) ≡ names (name-code q) 0 n
 unfolding stream-names schema-of stream-in

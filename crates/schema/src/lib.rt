@@ -6,7 +6,7 @@ ghost use lib.ListN.{getD};
 ghost use Rattle.lists.specs.Lists.{position, every, distinct, same-list};
 ghost use Rattle.syntax.specs.Grammar.{letter, alnum, name?};
 ghost use Rattle.calls.specs.Names.{stream-number, stream-names, columns-named};
-ghost use Rattle.calls.specs.Validity.{free-name};
+ghost use Rattle.calls.specs.Validity.{free-name, valid-name};
 ghost use Rattle.text.specs.Words.{name-of};
 ghost use Rattle.schema.specs.Schemas.{streams-in, width-of, columns-in, schema-of, schema-sound, stream-sound, streams-sound, Added, put-columns};
 
@@ -52,6 +52,13 @@ fn is_name(code: u64) -> bool
         n = n / 256;
     }
     is_letter(n)
+}
+
+// Whether a role or a profile entry may have the name.
+pub fn valid_name(code: u64) -> bool
+    ensures { λ r. ⌜ r ≡ valid-name (name-of code) ⌝ }
+{
+    is_name(code)
 }
 
 // Whether a stream or a column may have the name.

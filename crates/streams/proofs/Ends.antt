@@ -14,7 +14,7 @@ use Rattle.refusal.specs.declared.Verdict.the-variants.{Accepted, Refused}
 use Rattle.refusal.specs.declared.Refusal.{Refusal}
 use Rattle.refusal.specs.declared.Refusal.the-variants.{Lent, Bound, Malformed}
 use Rattle.lists.specs.Lists.{every, some?, empty?, distinct, same-list}
-use Rattle.lists.proofs.Laws.{and-l, and-r, and-both, T-true, every-append, same-list→eq, same-list-refl}
+use Rattle.lists.proofs.Laws.{true-T, and-l, and-r, and-both, T-true, every-append, same-list→eq, same-list-refl}
 use Rattle.syntax.specs.Grammar as G
 use Rattle.syntax.specs.Grammar.{Bytes, Line, name?, some-all, line?}
 use Rattle.syntax.specs.Readers.{bind, parse-line}
@@ -36,7 +36,8 @@ use Rattle.items.proofs.Folds.{map-more}
 use Rattle.streams.specs.declared.StreamLine.{StreamLine}
 use Rattle.streams.specs.declared.Declared.{Declared}
 use Rattle.streams.specs.Declaring.{stream-line, declare-checks, Declares, line-beyond, line-repeated, line-free, line-table}
-use Rattle.streams.proofs.Naming.{true-T, few, roomy, columns-good, name-is, count-is, codes-are, names-back, repeated-same, free-same, line-clear, table-same}
+use Rattle.items.proofs.Naming.{names-back}
+use Rattle.streams.proofs.Naming.{few, roomy, columns-good, name-is, count-is, codes-are, repeated-same, free-same, line-clear, table-same}
 
 -- ---- what a stream line holds
 

@@ -11,7 +11,7 @@ use borrow.Author.Tests.{not-false, lt-ltb, le-ltb, ltb-true, ltb-false, leb-tru
 use Rattle.refusal.specs.declared.Refusal.{Refusal}
 use Rattle.refusal.specs.declared.Refusal.the-variants.{Bound, Repeated, Misplaced}
 use Rattle.lists.specs.Lists.{All, all-nil, all-cons, every, some?, distinct, count-from, same-list, position}
-use Rattle.lists.proofs.Laws.{and-l, and-r, T-true, all-both, all-weaken, every-all, map-same}
+use Rattle.lists.proofs.Laws.{true-T, and-l, and-r, T-true, all-both, all-weaken, every-all, map-same}
 use Rattle.syntax.specs.Grammar.{Bytes, name?}
 use Rattle.model.specs.Queries.{Stream}
 use Rattle.calls.specs.Names.{stream-names, stream-number}
@@ -25,36 +25,11 @@ use Rattle.schema.specs.declared.Schema.{Schema}
 use Rattle.schema.specs.Schemas.{schema-of}
 use Rattle.schema.proofs.Soundness.{length-schema}
 use Rattle.items.specs.Items.{code-short, first-of, once}
+use Rattle.items.proofs.Naming.{Named, code-named, distinct-codes, names-back, first-taken}
 use Rattle.streams.specs.declared.StreamLine.{StreamLine}
 use Rattle.streams.specs.Declaring.{stream-line, line-beyond, line-repeated, code-free, line-free, line-table}
 
-pub true-T : (b : Bool) → b ≡ true → T b
-true-T true e = tt
-true-T false e = absurd (let k : _≡_ {A = ℕ} 0 1 = cc in omega arith)
-
 -- ---- names and their numbers
-
--- a name that is not too long
-abbrev pub Named : Bytes → Type 0
-Named w = T (name? w) × T (short w)
-
-code-named : (w : Bytes) → Named w → code-short w ≡ code-of w
-unfolding code-short
-code-named w g = rw (T-true (short w) (g .1))
-
-some-codes : (w : Bytes) → Named w → {cs : List Bytes} → All Named cs → some? (eqb (code-of w)) (map code-of cs) ≡ some? (same-list w) cs
-unfolding some?
-some-codes w g all-nil = refl
-some-codes w g (all-cons {x} {xs} h hs) = ap₂ _||_ (sym (names-same w x (g .0) (g .1) (h .0) (h .1))) (some-codes w g hs)
-
-pub distinct-codes : {cs : List Bytes} → All Named cs → distinct eqb (map code-of cs) ≡ distinct same-list cs
-unfolding distinct
-distinct-codes all-nil = refl
-distinct-codes (all-cons {x} {xs} h hs) = ap₂ (λ a b. not a && b) (some-codes x h hs) (distinct-codes hs)
-
-pub names-back : {cs : List Bytes} → All Named cs → map name-of (map code-of cs) ≡ cs
-names-back all-nil = refl
-names-back (all-cons {x} {xs} h hs) = ap₂ _∷_ (name-back x (h .0) (h .1)) (names-back hs)
 
 free-codes : {cs : List Bytes} → All Named cs → every code-free (map code-of cs) ≡ every free-name cs
 unfolding every code-free
@@ -78,22 +53,6 @@ free-all (all-cons {x} {xs} h hs) = ap₂ _&&_ (free-unreserved x h) (free-all h
 not-not : (a : Bool) → not (not a) ≡ a
 not-not true = refl
 not-not false = refl
-
--- ---- the first of a list
-
-taken : (f : ℕ) (xs ys : List ℕ) (a n : ℕ) → length ys ≤ n → ((i : ℕ) → getD xs (a + i) f ≡ getD ys i f) → take (length ys) (map (λ i. getD xs i f) (count-from a n)) ≡ ys
-unfolding count-from
-taken f xs [] a n h g = refl
-taken f xs (y ∷ ys) a zero h g = absurd (omega arith)
-taken f xs (y ∷ ys) a (suc n) h g =
-    let z : a + 0 ≡ a = omega arith in
-    let k : length ys ≤ n = omega arith in
-    ap₂ _∷_ (ap (λ i. getD xs i f) (sym z) ∙ g 0)
-    (taken f xs ys (suc a) n k (λ i. let e : suc a + i ≡ a + suc i = omega arith in ap (λ j. getD xs j f) e ∙ g (suc i)))
-
-first-taken : (n f : ℕ) (xs : List ℕ) → length xs ≤ n → take (length xs) (first-of n f xs) ≡ xs
-unfolding first-of
-first-taken n f xs h = taken f xs xs 0 n h (λ i. let e : 0 + i ≡ i = omega arith in ap (λ j. getD xs j f) e)
 
 -- ---- a place among names
 

@@ -28,15 +28,6 @@ pub struct Declared {
     pub schema: Schema,
 }
 
-fn either(a: bool, b: bool) -> bool
-    ensures { λ r. ⌜ r ≡ (a || b) ⌝ }
-{
-    if a {
-        return true;
-    }
-    b
-}
-
 // No stream line.
 fn no_line() -> StreamLine
     ensures { λ r. ⌜ r ≡ stream-line none ⌝ }
@@ -54,7 +45,7 @@ fn no_line() -> StreamLine
 fn line_of(n: text::Name, cs: items::Names) -> StreamLine
     ensures { λ r. ⌜ r ≡ line-of n cs ⌝ }
 {
-    let long = either(n.long, cs.long);
+    let long = text::either(n.long, cs.long);
     let codes = cs.codes;
     StreamLine {
         ok: true,
@@ -175,14 +166,14 @@ pub fn declare(q: Schema, line: &[u8]) -> Declared
     if !q.sound() {
         return refused(q, Refusal::Lent);
     }
-    if 512 < line.len() {
+    if text::LINE < line.len() {
         return refused(q, Refusal::Bound);
     }
     let l = stream_line_at(line);
     if !l.ok {
         return refused(q, Refusal::Malformed);
     }
-    if 8 < text::depth(line) {
+    if text::DEPTH < text::depth(line) {
         return refused(q, Refusal::Bound);
     }
     let v = verdict_of(q, l);

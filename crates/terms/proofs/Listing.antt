@@ -10,7 +10,7 @@ use borrow.Author.Tests.{lt-ltb, le-ltb}
 use Rattle.lists.specs.Lists.{count-from}
 use Rattle.schema.specs.declared.Schema.{Schema}
 use Rattle.schema.specs.Schemas.{streams-in, width-of}
-use Rattle.schema.proofs.Soundness.{length-count}
+use Rattle.lists.proofs.Counting.{count-length}
 use Rattle.terms.specs.Terms.{stream-name, column-name, listed, directory}
 
 -- ---- one name
@@ -68,7 +68,7 @@ pub directory-at : (q : Schema) (i : ℕ) → i < 28 → getD (directory q) i 0 
 directory-at q i h = let e : 0 + i ≡ i = omega arith in rw (directory-listed q) (counted (listed q) 0 28 i h ∙ ap (listed q) e)
 
 pub directory-length : (q : Schema) → length (directory q) ≡ 28
-directory-length q = rw (directory-listed q) (length-map (count-from 0 28) (listed q) ∙ length-count 0 28)
+directory-length q = rw (directory-listed q) (length-map (count-from 0 28) (listed q) ∙ count-length 0 28)
 
 -- the names stored up to a place
 abbrev pub Filled : Schema → List ℕ → ℕ → Type 0

@@ -44,15 +44,6 @@ pub struct Comparison {
     pub next: usize,
 }
 
-fn either(a: bool, b: bool) -> bool
-    ensures { λ r. ⌜ r ≡ (a || b) ⌝ }
-{
-    if a {
-        return true;
-    }
-    b
-}
-
 // No column was read.
 fn no_ref() -> Reference
     ensures { λ r. ⌜ r ≡ no-ref ⌝ }
@@ -70,7 +61,7 @@ fn no_ref() -> Reference
 fn dotted_of(n: Name, m: Name) -> Reference
     ensures { λ r. ⌜ r ≡ dotted-of n m ⌝ }
 {
-    let over = either(n.long, m.long);
+    let over = text::either(n.long, m.long);
     Reference {
         ok: true,
         over: over,
@@ -321,7 +312,7 @@ fn no_comparison() -> Comparison
 fn compared(l: Reference, left: u32, t: Term, next: usize) -> Comparison
     ensures { λ r. ⌜ r ≡ compared l left t next ⌝ }
 {
-    let over = either(l.over, t.over);
+    let over = text::either(l.over, t.over);
     Comparison {
         ok: true,
         over: over,

@@ -6,3 +6,4 @@ pub mod Numbers
 pub mod Depths
 pub mod Keywords
 pub mod Places
+pub mod Values

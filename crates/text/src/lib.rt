@@ -1,6 +1,6 @@
 // Reading a text at a place: runs of bytes, names, numbers, keywords and brackets.
 ghost use mathlib.Core.Path.{_≡_};
-ghost use mathlib.Core.Bool.{false};
+ghost use mathlib.Core.Bool.{false, _||_};
 ghost use Prim.Native.Nat.{_+_, _*_, _-_, _≤_, _<_, max, min};
 ghost use lib.IntN.{pos};
 ghost use lib.ListN.{length, getD, take, drop};
@@ -71,6 +71,26 @@ pub enum Keyword {
     Gt,
     Ge,
     All,
+}
+
+// How many bytes a written line may have.
+pub const LINE: usize = 512;
+// How many of its brackets may be open at once.
+pub const DEPTH: usize = 8;
+
+impl Name {
+    // How many bytes a name may have.
+    pub const BYTES: usize = 8;
+}
+
+// Whether one of two tests holds.
+pub fn either(a: bool, b: bool) -> bool
+    ensures { λ r. ⌜ r ≡ (a || b) ⌝ }
+{
+    if a {
+        return true;
+    }
+    b
 }
 
 // The byte at a place, and 0 past the end.

@@ -10,7 +10,7 @@ use mir.Val.{SFits}
 use borrow.Author.Needs.{needs}
 use borrow.Author.Count.{below-more}
 use Rattle.calls.specs.Bounds.{is-value}
-use Rattle.callers.proofs.Values.{fits-value, every-below}
+use Rattle.text.proofs.Values.{fits-value, every-below}
 use Rattle.callers.proofs.known.Statement.{statement}
 use Rattle.callers.proofs.known.Tie as tie
 

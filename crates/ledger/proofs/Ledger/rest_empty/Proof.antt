@@ -7,7 +7,7 @@ use borrow.Author.Needs.{needs}
 use borrow.Author.Tests.{eq-eqb, ne-eqb}
 use Rattle.lists.specs.Lists.{every, count-from}
 use Rattle.ledger.specs.Records.{undeclared-empty}
-use Rattle.ledger.proofs.Counting.{every-past, every-fails, every-done}
+use Rattle.lists.proofs.Counting.{every-past, every-fails, every-done}
 use Rattle.ledger.proofs.Ledger.rest_empty.Statement.{statement}
 use Rattle.ledger.proofs.Ledger.rest_empty.Tie as tie
 

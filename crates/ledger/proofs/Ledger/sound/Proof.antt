@@ -8,7 +8,7 @@ use borrow.Author.Needs.{needs}
 use borrow.Author.Tests.{le-leb, lt-leb}
 use Rattle.lists.specs.Lists.{every, count-from}
 use Rattle.ledger.proofs.Records.{sound-high, sound-rows}
-use Rattle.ledger.proofs.Counting.{every-places, every-past, every-fails, every-done}
+use Rattle.lists.proofs.Counting.{every-places, every-past, every-fails, every-done}
 use Rattle.ledger.proofs.Ledger.sound.Statement.{statement}
 use Rattle.ledger.proofs.Ledger.sound.Tie as tie
 

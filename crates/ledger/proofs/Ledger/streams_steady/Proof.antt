@@ -6,7 +6,7 @@ use borrow.Author.Needs.{needs}
 use borrow.Author.Tests.{not-true, not-false}
 use Rattle.lists.specs.Lists.{every, count-from}
 use Rattle.ledger.specs.Records.{stream-steady, streams-steady}
-use Rattle.ledger.proofs.Counting.{every-past, every-fails, every-done}
+use Rattle.lists.proofs.Counting.{every-past, every-fails, every-done}
 use Rattle.ledger.proofs.Records.{count-le, stream-tested}
 use Rattle.ledger.proofs.Ledger.streams_steady.Statement.{statement}
 use Rattle.ledger.proofs.Ledger.streams_steady.Tie as tie
