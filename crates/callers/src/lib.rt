@@ -1,6 +1,5 @@
 // The caller by value: at most four roles and four profile entries, and the `caller` line that gives one.
 ghost use mathlib.Core.Path.{_≡_};
-ghost use mathlib.Core.Bool.{_||_};
 ghost use mathlib.Core.Option.{none};
 ghost use lib.Dec.{T};
 ghost use lib.ListN.{getD, take};
@@ -8,10 +7,8 @@ ghost use Rattle.refusal.specs.Numbers.{verdict-of};
 ghost use Rattle.refusal.specs.declared.Verdict.the-variants.{Refused};
 ghost use Rattle.lists.specs.Lists.{every, distinct, same-list};
 ghost use Rattle.calls.specs.Bounds.{is-value};
-ghost use Rattle.calls.specs.Validity.{valid-name};
 ghost use Rattle.calls.specs.Refusals.{first};
 ghost use Rattle.calls.specs.Calls.{read-caller, nobody};
-ghost use Rattle.text.specs.Words.{name-of};
 ghost use Rattle.items.specs.Items.{once};
 ghost use Rattle.callers.specs.Callers.{caller-of, caller-sound, caller-line, Identifies, code-valid, names-of, names-sound, line-of, line-beyond, line-repeated, line-table, caller-in};
 use refusal::Refusal;

@@ -1,6 +1,6 @@
 // Lists of streams and of columns of a line, resolved by the names of a schema.
 ghost use mathlib.Core.Path.{_≡_};
-ghost use mathlib.Core.Bool.{_&&_, _||_};
+ghost use mathlib.Core.Bool.{_&&_};
 ghost use lib.Dec.{eqb};
 ghost use lib.ListN.{getD, drop};
 ghost use Rattle.columns.specs.Columns.{stream-in, no-streams, stream-added, streams-ended, streams-at, ends-by, again-at, no-columns, column-added, columns-ended, columns-at};

@@ -1,6 +1,6 @@
 // The `clock`, `row` and `clear` lines. Each is read and does what the call of its name does.
 ghost use mathlib.Core.Path.{_≡_};
-ghost use mathlib.Core.Bool.{true, _||_};
+ghost use mathlib.Core.Bool.{true};
 ghost use mathlib.Core.List.{[], _∷_};
 ghost use mathlib.Core.Option.{none, some};
 ghost use lib.Dec.{T};

@@ -6,8 +6,6 @@ ghost use Prim.Native.Nat.{_*_, min};
 ghost use lib.Bits.{bitOr};
 ghost use lib.Dec.{leb, eqb};
 ghost use lib.ListN.{length};
-ghost use Rattle.calls.specs.Validity.{valid-name};
-ghost use Rattle.text.specs.Words.{name-of};
 ghost use Rattle.masks.specs.Masks.{inside};
 ghost use Rattle.nodes.specs.Nodes.{nodes-sound};
 ghost use Rattle.grants.specs.Grants.{places-of, streams-of, streams-mask, streams-sound, limit-sound, limits-sound, window-sound, grant-sound};
@@ -89,9 +87,9 @@ impl Grant {
     pub const TOP: u32 = 2147483647;
     // No first or last time.
     pub const NONE: u32 = 4294967295;
-    // The right to read, and the last of the rights.
+    // The right to read.
     pub const READ: u32 = 0;
-
+    // The last of the rights.
     pub const SUM: u32 = 5;
 
     // The columns of its streams.

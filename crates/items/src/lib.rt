@@ -1,6 +1,5 @@
 // Lists of names, numbers and profile entries in a line: each item after one space, up to a closing bracket.
 ghost use mathlib.Core.Path.{_≡_};
-ghost use mathlib.Core.Bool.{_||_};
 ghost use Prim.Native.Nat.{_+_, _≤_, _<_, min};
 ghost use lib.Dec.{eqb};
 ghost use lib.ListN.{getD, take, drop};

@@ -2,8 +2,6 @@
 ghost use mathlib.Core.Path.{_≡_};
 ghost use Prim.Native.Nat.{suc, _+_, _*_};
 ghost use lib.ListN.{getD};
-ghost use Rattle.calls.specs.Validity.{valid-name};
-ghost use Rattle.text.specs.Words.{name-of};
 ghost use Rattle.nodes.specs.Nodes.{no-node, node-of, node-at, link, comparing, reaches, linked, in-mask, terms-sound, node-sound, nodes-sound};
 ghost use Rattle.nodes.specs.Storing.{first-word, put-node};
 
@@ -20,17 +18,13 @@ pub struct Node {
 impl Node {
     // Words a node takes.
     pub const WORDS: usize = 3;
-    // Nodes that the conditions of one line can have: a line of 512 bytes has no room for more.
+    // Nodes that the conditions of one line can have: 512 bytes, with at most 8 brackets open at once, have no room for more.
     pub const NODES: usize = 85;
     // Words lent for the conditions of one line.
     pub const PLACE: usize = Node::NODES * Node::WORDS;
-    // The codes of terms that are no columns.
-    pub const TIME: u32 = 24;
-
-    pub const FIGURE: u32 = 25;
-
+    // The code of a number.
     pub const NUMBER: u32 = 26;
-
+    // The code of a profile entry.
     pub const ENTRY: u32 = 27;
 }
 

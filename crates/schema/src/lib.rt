@@ -82,12 +82,12 @@ fn put_columns(all: [u64; 24], s: usize, columns: [u64; 6]) -> [u64; 24]
     ensures { λ r. ⌜ r ≡ put-columns all s columns ⌝ }
 {
     let mut r = all;
-    if 4 <= s {
+    if Schema::STREAMS <= s {
         return r;
     }
     let mut c: usize = 0;
-    while c < 6 {
-        r[s * 6 + c] = columns[c];
+    while c < Schema::COLUMNS {
+        r[s * Schema::COLUMNS + c] = columns[c];
         c += 1;
     }
     r
@@ -136,7 +136,7 @@ impl Schema {
     pub fn width(self, s: usize) -> usize
         ensures { λ r. ⌜ r ≡ width-of self s ⌝ }
     {
-        if 4 <= s {
+        if Schema::STREAMS <= s {
             return 0;
         }
         let n = self.widths[s];
@@ -150,7 +150,7 @@ impl Schema {
     pub fn name(self, s: usize) -> u64
         ensures { λ r. ⌜ r ≡ getD (self .names) s 0 ⌝ }
     {
-        if 4 <= s {
+        if Schema::STREAMS <= s {
             return 0;
         }
         self.names[s]
@@ -160,13 +160,13 @@ impl Schema {
     pub fn column_code(self, s: usize, c: usize) -> u64
         ensures { λ r. ⌜ r ≡ getD (self .columns) (s * 6 + c) 0 ⌝ }
     {
-        if 4 <= s {
+        if Schema::STREAMS <= s {
             return 0;
         }
         if 24 <= c {
             return 0;
         }
-        let at = s * 6 + c;
+        let at = s * Schema::COLUMNS + c;
         if 24 <= at {
             return 0;
         }
@@ -262,7 +262,7 @@ impl Schema {
     fn stream_sound(self, s: usize) -> bool
         ensures { λ r. ⌜ r ≡ stream-sound self s ⌝ }
     {
-        if 4 <= s {
+        if Schema::STREAMS <= s {
             return false;
         }
         let n = self.widths[s];

@@ -2,7 +2,7 @@
 ghost use mathlib.Core.Path.{_≡_};
 ghost use lib.ListN.{drop};
 ghost use Rattle.syntax.specs.Grammar.{eq, right-word};
-ghost use Rattle.syntax.specs.Readers.{byte, read-name, read-int, read-ref, read-operand, read-test, read-entry, read-number, read-word, rights, read-star, star-next, closes, form-next, k-in, v-stream, v-grant, v-clock, v-row, v-clear, v-caller, v-ask, v-line};
+ghost use Rattle.syntax.specs.Readers.{byte, read-name, read-int, read-ref, read-operand, read-test, read-entry, read-number, read-word, rights, read-star, star-next, closes, form-next, k-in, v-stream, v-clock, v-row, v-clear, v-caller, v-ask, v-line};
 ghost use Rattle.shape.specs.Ends.{end-at, then-at, lone?, place, after, any-cond, any-conds, any-form, any-verb, query?, line-verb};
 ghost use Rattle.shape.specs.Firsts.{verb-numbered, key-by, end-by};
 ghost use Rattle.shape.specs.Items.{ends-of, skip-of, items-of, some-of, open-known, any-rest, pick-start, keep-start, equality-end, join-start, figure-start, form-start, shape-of, part, part-next, optional, show-of, limit-of, window-of, any-grant};

@@ -1,6 +1,5 @@
 // The stream call: a line, and the schema with its stream.
 ghost use mathlib.Core.Path.{_≡_};
-ghost use mathlib.Core.Bool.{_||_};
 ghost use mathlib.Core.Option.{none};
 ghost use lib.ListN.{take};
 ghost use Rattle.refusal.specs.Numbers.{verdict-of};
@@ -91,7 +90,7 @@ fn beyond(q: Schema, l: StreamLine) -> bool
     if 6 < l.count {
         return true;
     }
-    4 <= q.streams()
+    Schema::STREAMS <= q.streams()
 }
 
 // Whether the stream is declared already, or a column stands twice.

@@ -197,7 +197,7 @@ pub fn name_at(s: &[u8], at: usize) -> Name
     }
     let end = run_end(s, at, Class::Alnum);
     let n = end - at;
-    if n <= 8 {
+    if n <= Name::BYTES {
         let code = packed(s, at, n);
         return Name {
             ok: true,
