@@ -2,6 +2,7 @@ pub mod Examples
 pub mod Samples
 pub mod Order
 pub mod Passing
+pub mod Verdicts
 pub mod Valid
 pub mod Stored
 pub mod Interference

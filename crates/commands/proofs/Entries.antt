@@ -29,7 +29,7 @@ use Rattle.ledger.specs.declared.Entered.{Entered}
 use Rattle.ledger.specs.Records.{refusing, record-of, record-sound, Rowed}
 use Rattle.lists.proofs.Counting.{map-length}
 use Rattle.ledger.proofs.Records.{width-le}
-use Rattle.ledger.proofs.Verdicts.{not-accepted}
+use Rattle.calls.proofs.Verdicts.{not-accepted}
 use Rattle.commands.specs.declared.RowRead.{RowRead}
 use Rattle.commands.specs.Commands.{Values}
 use Rattle.commands.specs.Reads.{row-read, Entering}

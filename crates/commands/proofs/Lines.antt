@@ -24,7 +24,7 @@ use Rattle.schema.specs.declared.Schema.{Schema}
 use Rattle.ledger.specs.declared.Ledger.{Ledger}
 use Rattle.ledger.specs.declared.Entered.{Entered}
 use Rattle.ledger.specs.Records.{refusing, record-of, ledger-sound, rows-sound, record-sound, Clocked, Cleared}
-use Rattle.ledger.proofs.Verdicts.{not-accepted}
+use Rattle.calls.proofs.Verdicts.{not-accepted}
 use Rattle.commands.specs.declared.ClockRead.{ClockRead}
 use Rattle.commands.specs.declared.RowRead.{RowRead}
 use Rattle.commands.specs.Commands.{Values, read-clock, read-row, read-clear, clock-checks, clear-checks, row-checks, ClockLine, ClearLine, RowLine}

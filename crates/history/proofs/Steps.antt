@@ -20,41 +20,21 @@ use Rattle.calls.specs.Validity.{valid-record}
 use Rattle.calls.specs.Refusals.{Check, refuse, first, passes, written}
 use Rattle.calls.specs.Tables.{stream-table, clock-table, row-table}
 use Rattle.calls.specs.Calls.{Call, stream, clock, row, clear, read-stream, call-checks, with-stream, effect, next}
-use Rattle.calls.proofs.Passing.{passes-first, first-passes, pass-rest, written-passes}
+use Rattle.calls.proofs.Passing.{pass-rest, written-passes}
+use Rattle.calls.proofs.Verdicts.{Told, accepted, refused, told}
 use Rattle.calls.proofs.Valid.{valid-effect}
 use Rattle.schema.specs.Schemas.{streams-in, schema-of, schema-sound}
 use Rattle.schema.specs.declared.Schema.{Schema}
 use Rattle.ledger.specs.Records.{record-of, ledger-sound, rows-sound, record-sound, Clocked, Cleared, Rowed}
 use Rattle.ledger.specs.declared.Ledger.{Ledger}
 use Rattle.ledger.specs.declared.Entered.{Entered}
-use Rattle.ledger.proofs.Verdicts.{not-accepted}
 use Rattle.ledger.proofs.Kept.{declared-rows}
 use Rattle.streams.specs.Declaring.{declare-checks, Declares}
 use Rattle.streams.specs.declared.Declared.{Declared}
 use Rattle.history.specs.States.{State, record-in, Sound, Promise, declared, clocked, cleared, rowed}
 use Rattle.history.proofs.Declared.{record-more, one-more}
 
--- ---- a call is accepted where its checks pass, and refused where they do not
-
-pub data Told (v : Verdict) (cs : List Check) : Type 0 where
-  accepted : v ≡ Accepted → T (passes cs) → Told v cs
-  refused : (v ≡ Accepted → ⊥) → passes cs ≡ false → Told v cs
-
-stops : (cs : List Check) (r : Refusal) → first cs ≡ some r → passes cs ≡ false
-unfolding first passes
-stops [] r e = absurd (mathlib.Core.Option.Option·none-ne-some r e)
-stops (c ∷ cs) r e = go (c .fails) e (stops cs r)
-  where
-    go : (b : Bool) → cond b (some (c .refusal)) (first cs) ≡ some r → (first cs ≡ some r → passes cs ≡ false) → cond b false (passes cs) ≡ false
-    go true e f = refl
-    go false e f = f e
-
-told : (v : Verdict) (cs : List Check) → v ≡ verdict-of (first cs) → Told v cs
-told v cs e = go (first cs) refl
-  where
-    go : (o : Option Refusal) → first cs ≡ o → Told v cs
-    go none h = accepted (e ∙ ap verdict-of h) (passes-first cs h)
-    go (some r) h = refused (λ a. not-accepted r (sym (ap verdict-of h) ∙ sym e ∙ a)) (stops cs r h)
+-- ---- what the definitions say of a call
 
 -- where nothing lent is wrong, it makes no difference which test of it stands first
 same-told : (v : Verdict) (a b : Bool) (cs : List Check) → T a → T b → v ≡ verdict-of (first (refuse Lent (not a) ∷ cs)) → v ≡ verdict-of (first (refuse Lent (not b) ∷ cs))

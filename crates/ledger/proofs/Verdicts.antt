@@ -20,6 +20,7 @@ use Rattle.model.specs.Queries.{no-stream}
 use Rattle.calls.specs.Bounds.{top, is-time, is-value, max-rows}
 use Rattle.calls.specs.Names.{natural, columns-named}
 use Rattle.calls.specs.Refusals.{Check, refuse, first}
+use Rattle.calls.proofs.Verdicts.{not-accepted}
 use Rattle.calls.specs.Tables.{clock-table, row-table}
 use Rattle.calls.specs.Calls.{clock, effect, fresh}
 use Rattle.schema.specs.Schemas.{streams-in, width-of, column-name, stream-in, schema-of}
@@ -47,10 +48,6 @@ holds r b cs e h = rw e h
 pub passed : Accepted ≡ said-by []
 unfolding first
 passed = refl
-
--- a refusal is not what an accepted call says
-pub not-accepted : (why : Refusal) → Refused why ≡ Accepted → ⊥
-not-accepted why e = let z : _≡_ {A = ℕ} 0 1 = cc in omega arith
 
 -- ---- a new ledger
 
