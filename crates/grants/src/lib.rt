@@ -81,6 +81,8 @@ pub struct Grant {
 impl Grant {
     // How many grants a catalogue may have.
     pub const GRANTS: usize = 24;
+    // Words lent for the conditions of all of them.
+    pub const WORDS: usize = Grant::GRANTS * Node::PLACE;
     // How many streams a grant may name.
     pub const STREAMS: u32 = 2;
     // The highest time, SIZE and OFFSET.

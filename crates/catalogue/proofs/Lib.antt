@@ -1,0 +1,12 @@
+pub mod Leaves
+pub mod Printed
+pub mod Lines
+pub mod Bounds
+pub mod Naming
+pub mod Columns
+pub mod Placing
+pub mod Tables
+pub mod Meaning
+pub mod Accepting
+pub mod Ends
+pub mod Steps
