@@ -9,7 +9,7 @@ use lib.Dec.{leb, eqb}
 use lib.ListN.{length, take, drop, getD}
 use Rattle.refusal.specs.declared.Verdict.the-variants.{Accepted, Refused}
 use Rattle.refusal.specs.declared.Refusal.{Refusal}
-use Rattle.syntax.specs.Grammar.{Bytes}
+use Rattle.syntax.specs.Grammar.{Bytes, bytes}
 use Rattle.syntax.specs.Readers.{begins, closes}
 use Rattle.calls.specs.Bounds.{is-time}
 use Rattle.calls.specs.Refusals.{first}
@@ -47,9 +47,8 @@ past s p n = cond (leb (p + n) (length s)) (p + n) 0
 
 -- ---- whether a text is a grant line
 
--- `(grant` and a space
 abbrev pub grant-word : Bytes
-grant-word = 40 ∷ 103 ∷ 114 ∷ 97 ∷ 110 ∷ 116 ∷ 32 ∷ []
+grant-word = bytes "(grant "
 
 unfoldable pub grant-text : Bytes → Bool
 grant-text s = cond (begins grant-word (drop 0 s)) (eqb (end-at any-grant s 6) (length s)) false
@@ -64,7 +63,7 @@ unfoldable pub right-at : Bytes → ℕ → RightRead
 right-at s p = record { number = right-lettered (getD s p 0) (getD s (past s p 1) 0); next = run-end Plain s p }
 
 abbrev pub star-word : Bytes
-star-word = 32 ∷ 42 ∷ []
+star-word = bytes " *"
 
 unfoldable pub shown-all : ℕ → Shown
 shown-all next = record { all = true; over = false; unknown = false; repeated = false; mask = 0; next = next }
@@ -76,7 +75,7 @@ unfoldable pub shown-at : List ℕ → Bytes → ℕ → Shown
 shown-at ks s p = cond (begins star-word (drop p s)) (shown-all (past s p 2)) (shown-listed (columns-at ks false s p))
 
 abbrev pub when-word : Bytes
-when-word = 32 ∷ 40 ∷ 119 ∷ 104 ∷ 101 ∷ 110 ∷ 32 ∷ []
+when-word = bytes " (when "
 
 unfoldable pub held-none : ℕ → Held
 held-none p = record { at = 0; next = p; count = 0; over = false; unknown = false; lefts = 0; rights = 0 }
@@ -101,13 +100,13 @@ unfoldable pub limit-at : Bytes → ℕ → ℕ → Bool → Limit
 limit-at s p n here = cond here (limit-number s (number-at s (past s p n))) (no-limit p)
 
 abbrev pub from-word : Bytes
-from-word = 32 ∷ 40 ∷ 102 ∷ 114 ∷ 111 ∷ 109 ∷ 32 ∷ []
+from-word = bytes " (from "
 
 abbrev pub to-word : Bytes
-to-word = 32 ∷ 40 ∷ 116 ∷ 111 ∷ 32 ∷ []
+to-word = bytes " (to "
 
 abbrev pub window-word : Bytes
-window-word = 32 ∷ 40 ∷ 119 ∷ 105 ∷ 110 ∷ 100 ∷ 111 ∷ 119 ∷ 32 ∷ []
+window-word = bytes " (window "
 
 unfoldable pub from-at : Bytes → ℕ → Limit
 from-at s p = limit-at s p 7 (begins from-word (drop p s))
