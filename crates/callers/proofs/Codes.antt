@@ -5,15 +5,13 @@ use mathlib.Core.Bool.{Bool, true, false, _&&_, _||_, not}
 use Prim.Native.Nat.{ℕ, zero, suc, _+_, _≤_, _<_}
 use native.Mathlib.Omega.{arith}
 use native.Mathlib.Numerals.{add-one}
-use lib.Dec.{eqb, lit<}
+use lib.Dec.{eqb}
 use lib.ListN.{length, take, drop, getD, length-take, drop-of-length-le, List·getD-eq-default}
 use lib.Seq.{drop-cons, getD-take, take-all}
-use borrow.Author.Tests.{ne-eqb, not-true, not-false}
+use borrow.Author.Tests.{not-true, not-false}
 use Rattle.lists.specs.Lists.{All, all-nil, all-cons, every, some?, distinct, same-list, count-from}
-use Rattle.syntax.specs.Grammar.{bytes, digit, letter, alnum, name?}
-use Rattle.calls.specs.Bounds.{short, max-name}
-use Rattle.calls.specs.Validity.{valid-name, reserved, free-name}
-use Rattle.text.specs.Words.{bytes-from, name-of}
+use Rattle.calls.specs.Validity.{valid-name}
+use Rattle.text.specs.Words.{name-of}
 use Rattle.schema.proofs.Codes.{name-one}
 use Rattle.items.specs.Items.{once}
 use Rattle.callers.specs.Callers.{code-valid, names-of, names-sound}

@@ -7,7 +7,7 @@ use Prim.Native.Nat.{ℕ, _≤_, _<_}
 use native.Mathlib.Omega.{arith}
 use lib.Dec.{T}
 use lib.ListN.{length}
-use borrow.Author.Tests.{not-true, not-false, lt-ltb, le-ltb, le-leb, lt-leb}
+use borrow.Author.Tests.{not-true, not-false}
 use Rattle.refusal.specs.Numbers.{verdict-of}
 use Rattle.refusal.specs.declared.Verdict.{Verdict}
 use Rattle.refusal.specs.declared.Verdict.the-variants.{Accepted, Refused}
@@ -21,10 +21,12 @@ use Rattle.syntax.specs.Readers.{bind, parse-line}
 use Rattle.syntax.proofs.Steps.{done}
 use Rattle.syntax.proofs.Lines as L
 use Rattle.model.specs.Queries as M
-use Rattle.calls.specs.Bounds.{max-line, max-depth, depth-from, shallow}
-use Rattle.calls.specs.Refusals.{Check, refuse, first, written}
+use Rattle.calls.specs.Bounds.{depth-from}
+use Rattle.calls.specs.Refusals.{Check, first, written}
 use Rattle.calls.specs.Tables.{caller-table}
 use Rattle.calls.specs.Calls as C
+use Rattle.calls.proofs.Verdicts.{not-accepted, verdict-none, verdict-some}
+use Rattle.calls.proofs.Written.{first-long, first-malformed, first-deep, first-table}
 use Rattle.calls.specs.Calls.{read-caller, caller-checks}
 use Rattle.callers.specs.declared.Caller.{Caller}
 use Rattle.callers.specs.declared.CallerLine.{CallerLine}
@@ -61,14 +63,6 @@ module _ (bs : Bytes) (m : M.Caller) (e : read-caller bs ≡ some m) where
 
 -- ---- the checks in front
 
-verdict-none : (o : Option Refusal) → verdict-of o ≡ Accepted → o ≡ none
-verdict-none none e = refl
-verdict-none (some f) e = absurd (let k : _≡_ {A = ℕ} 0 1 = cc in omega arith)
-
-verdict-some : (o : Option Refusal) (f : Refusal) → verdict-of o ≡ Refused f → o ≡ some f
-verdict-some none f e = absurd (let k : _≡_ {A = ℕ} 0 1 = cc in omega arith)
-verdict-some (some g) f e = cc
-
 module _ (w : Caller) (bs : Bytes) where
   abbrev checks : M.Caller → List Check
   checks m = caller-table (m .roles) (m .profile)
@@ -82,26 +76,9 @@ module _ (w : Caller) (bs : Bytes) where
       record {
         said = ap (λ r. r .verdict) d ∙ sym (ap verdict-of e);
         refused = λ n. ap (λ r. r .caller) d;
-        done = λ a. absurd (let v : Refused f ≡ Accepted = sym (ap (λ r. r .verdict) d) ∙ a in let k : _≡_ {A = ℕ} 0 1 = cc in omega arith);
-        sound = λ a. absurd (let v : Refused f ≡ Accepted = sym (ap (λ r. r .verdict) d) ∙ a in let k : _≡_ {A = ℕ} 0 1 = cc in omega arith);
+        done = λ a. absurd (not-accepted f (sym (ap (λ r. r .verdict) d) ∙ a));
+        sound = λ a. absurd (not-accepted f (sym (ap (λ r. r .verdict) d) ∙ a));
       }
-
-  first-long : 512 < length bs → (o : Option M.Caller) → first (written 0 bs o checks) ≡ some Bound
-  unfolding written first refuse max-line
-  first-long h none = rw (lt-ltb 512 (length bs) h)
-  first-long h (some m) = rw (lt-ltb 512 (length bs) h)
-
-  first-malformed : length bs ≤ 512 → first (written 0 bs none checks) ≡ some Malformed
-  unfolding written first refuse max-line
-  first-malformed h = rw (le-ltb 512 (length bs) h)
-
-  first-deep : (m : M.Caller) → length bs ≤ 512 → 8 < depth-from 0 bs → first (written 0 bs (some m) checks) ≡ some Bound
-  unfolding written first refuse max-line shallow max-depth
-  first-deep m h k = rw (le-ltb 512 (length bs) h, lt-leb (depth-from 0 bs) 8 k)
-
-  first-table : (m : M.Caller) → length bs ≤ 512 → depth-from 0 bs ≤ 8 → first (written 0 bs (some m) checks) ≡ first (checks m)
-  unfolding written first refuse max-line shallow max-depth
-  first-table m h k = rw (le-ltb 512 (length bs) h, le-leb (depth-from 0 bs) 8 k)
 
   line-none : (l : CallerLine) → l ≡ caller-line (read-caller bs) → not (l .ok) ≡ true → read-caller bs ≡ none
   unfolding caller-line
@@ -122,18 +99,18 @@ module _ (w : Caller) (bs : Bytes) where
   -- ---- the ends
 
   pub line-long : {r : Identified} → 512 < length bs → r ≡ record { verdict = Refused Bound; caller = w } → Identifies w bs r
-  line-long k d = refuses Bound d (on-written ∙ first-long k (read-caller bs))
+  line-long k d = refuses Bound d (on-written ∙ first-long bs checks k (read-caller bs))
 
   module _ (k : length bs ≤ 512) {l : CallerLine} (e : l ≡ caller-line (read-caller bs)) where
     pub line-malformed : {r : Identified} → not (l .ok) ≡ true → r ≡ record { verdict = Refused Malformed; caller = w } → Identifies w bs r
-    line-malformed o d = refuses Malformed d (on-written ∙ ap (λ t. first (written 0 bs t checks)) (line-none l e o) ∙ first-malformed k)
+    line-malformed o d = refuses Malformed d (on-written ∙ ap (λ t. first (written 0 bs t checks)) (line-none l e o) ∙ first-malformed bs checks k)
 
     module _ (o : not (l .ok) ≡ false) {n : ℕ} (p : n ≡ depth-from 0 bs) where
       pub line-deep : {r : Identified} → 8 < n → r ≡ record { verdict = Refused Bound; caller = w } → Identifies w bs r
       line-deep t d =
           line-some l e o (λ m z.
           let g : 8 < depth-from 0 bs = omega arith in
-          refuses Bound d (on-written ∙ ap (λ t. first (written 0 bs t checks)) z ∙ first-deep m k g))
+          refuses Bound d (on-written ∙ ap (λ t. first (written 0 bs t checks)) z ∙ first-deep bs checks m k g))
 
       module _ (t : n ≤ 8) {v : Verdict} (u : v ≡ verdict-of (first (line-table l))) where
         line-is : (m : M.Caller) → read-caller bs ≡ some m → l ≡ caller-line (some m)
@@ -142,7 +119,7 @@ module _ (w : Caller) (bs : Bytes) where
         on-table : (m : M.Caller) → read-caller bs ≡ some m → first (caller-checks bs) ≡ first (line-table l)
         on-table m z =
             let g : depth-from 0 bs ≤ 8 = omega arith in
-            on-written ∙ ap (λ t. first (written 0 bs t checks)) z ∙ first-table m k g
+            on-written ∙ ap (λ t. first (written 0 bs t checks)) z ∙ first-table bs checks m k g
             ∙ sym (table-same m (roles-good bs m z) (entries-good bs m z)) ∙ ap (λ l. first (line-table l)) (sym (line-is m z))
 
         pub line-refused : {r : Identified} {f : Refusal} → v ≡ Refused f → r ≡ record { verdict = Refused f; caller = w } → Identifies w bs r

@@ -11,7 +11,7 @@ use lib.ListN.{length, take, getD, length-map}
 use borrow.Author.Tests.{not-false, lt-ltb, le-ltb, leb-true, leb-false, le-leb}
 use Rattle.refusal.specs.declared.Refusal.{Refusal}
 use Rattle.refusal.specs.declared.Refusal.the-variants.{Bound, Repeated}
-use Rattle.lists.specs.Lists.{All, all-nil, all-cons, every, some?, distinct, count-from, same-list}
+use Rattle.lists.specs.Lists.{All, all-nil, all-cons, every, distinct, count-from, same-list}
 use Rattle.lists.proofs.Laws.{true-T, and-l, and-r, and-both, T-true, all-both, all-weaken, all-every, every-all, map-same}
 use Rattle.syntax.specs.Grammar.{Bytes, Entry, name?, entry?}
 use Rattle.model.specs.Queries as M
@@ -20,14 +20,13 @@ use Rattle.calls.specs.Validity.{valid-name, entry-names, valid-caller}
 use Rattle.calls.specs.Refusals.{refuse, first}
 use Rattle.calls.specs.Tables.{caller-table}
 use Rattle.text.specs.Words.{code-of, name-of}
-use Rattle.text.proofs.Codes.{name-back, names-same}
+use Rattle.text.proofs.Codes.{name-back}
 use Rattle.items.specs.Items.{code-short, value-kept, first-of, once}
 use Rattle.items.proofs.Naming.{Named, code-named, distinct-codes, first-taken}
-use Rattle.items.proofs.Folds.{first-length}
 use Rattle.callers.specs.declared.Caller.{Caller}
 use Rattle.callers.specs.declared.CallerLine.{CallerLine}
 use Rattle.callers.specs.Callers.{roles-in, entries-in, role-in, entry-in, caller-of, caller-sound, caller-line, caller-in, line-beyond, line-repeated, line-table}
-use Rattle.callers.proofs.Lists.{getD-mapped, the-first, counted, first-at, all-at}
+use Rattle.callers.proofs.Lists.{getD-mapped, counted, first-at, all-at}
 
 -- ---- names and their numbers
 

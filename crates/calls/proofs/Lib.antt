@@ -3,6 +3,7 @@ pub mod Samples
 pub mod Order
 pub mod Passing
 pub mod Verdicts
+pub mod Written
 pub mod Valid
 pub mod Stored
 pub mod Interference

@@ -35,3 +35,11 @@ told v cs e = go (first cs) refl
     go : (o : Option Refusal) → first cs ≡ o → Told v cs
     go none h = accepted (e ∙ ap verdict-of h) (passes-first cs h)
     go (some r) h = refused (λ a. not-accepted r (sym (ap verdict-of h) ∙ sym e ∙ a)) (stops cs r h)
+
+pub verdict-none : (o : Option Refusal) → verdict-of o ≡ Accepted → o ≡ none
+verdict-none none e = refl
+verdict-none (some f) e = absurd (not-accepted f e)
+
+pub verdict-some : (o : Option Refusal) (f : Refusal) → verdict-of o ≡ Refused f → o ≡ some f
+verdict-some none f e = absurd (not-accepted f (sym e))
+verdict-some (some g) f e = cc

@@ -8,7 +8,7 @@ use native.Mathlib.Omega.{arith}
 use lib.Dec.{T, eqb, leb}
 use lib.ListN.{length, take, drop, length-append, length-drop}
 use lib.Seq.{length-take-le, take-at, drop-at, drop-drop}
-use borrow.Author.Tests.{not-true, not-false, eq-eqb, eqb-true, lt-ltb, le-ltb, le-leb, lt-leb, leb-false}
+use borrow.Author.Tests.{not-true, not-false, eq-eqb, eqb-true, le-leb, lt-leb, leb-false}
 use Rattle.refusal.specs.Numbers.{verdict-of}
 use Rattle.refusal.specs.declared.Verdict.the-variants.{Accepted, Refused}
 use Rattle.refusal.specs.declared.Refusal.{Refusal}
@@ -19,12 +19,13 @@ use Rattle.syntax.specs.Readers.{bind, begins, parse-line, read-grant}
 use Rattle.syntax.proofs.Grants.{grant-body, grant-put, from-from}
 use Rattle.syntax.proofs.Lengths.{grant-room}
 use Rattle.model.specs.Queries as M
-use Rattle.calls.specs.Bounds.{max-line, max-depth, depth-from, shallow}
+use Rattle.calls.specs.Bounds.{depth-from}
 use Rattle.calls.specs.Refusals.{Check, refuse, first, written}
 use Rattle.calls.specs.Tables.{grant-table}
 use Rattle.calls.specs.Names.{resolve-grant}
 use Rattle.calls.specs.Calls as L
 use Rattle.calls.proofs.Verdicts.{not-accepted}
+use Rattle.calls.proofs.Written.{first-lent, first-sound, first-long, first-malformed, first-deep, first-table}
 use Rattle.calls.specs.Calls.{read-grant-line}
 use Rattle.text.specs.Keywords.{keywords-compute}
 use Rattle.text.specs.declared.Keyword.the-variants as W
@@ -179,31 +180,6 @@ module _ (q : Schema) (count : ℕ) (bs : Bytes) (ws : List ℕ) where
         others = (refl, refl, refl);
       }
 
-  first-lent : lent-sound q count ws ≡ false → (gs : List M.Grant) → first (checks gs) ≡ some Lent
-  unfolding first refuse
-  first-lent e gs = rw e
-
-  first-on : lent-sound q count ws ≡ true → (gs : List M.Grant) → first (checks gs) ≡ first (written 0 bs (read-grant-line bs) (table gs))
-  unfolding first refuse
-  first-on e gs = rw e
-
-  first-long : 512 < length bs → (o : Option GrantLine) (gs : List M.Grant) → first (written 0 bs o (table gs)) ≡ some Bound
-  unfolding written first refuse max-line
-  first-long h none gs = rw (lt-ltb 512 (length bs) h)
-  first-long h (some g) gs = rw (lt-ltb 512 (length bs) h)
-
-  first-malformed : length bs ≤ 512 → (gs : List M.Grant) → first (written 0 bs none (table gs)) ≡ some Malformed
-  unfolding written first refuse max-line
-  first-malformed h gs = rw (le-ltb 512 (length bs) h)
-
-  first-deep : (g : GrantLine) → length bs ≤ 512 → 8 < depth-from 0 bs → (gs : List M.Grant) → first (written 0 bs (some g) (table gs)) ≡ some Bound
-  unfolding written first refuse max-line shallow max-depth
-  first-deep g h k gs = rw (le-ltb 512 (length bs) h, lt-leb (depth-from 0 bs) 8 k)
-
-  first-table : (g : GrantLine) → length bs ≤ 512 → depth-from 0 bs ≤ 8 → (gs : List M.Grant) → first (written 0 bs (some g) (table gs)) ≡ first (table gs g)
-  unfolding written first refuse max-line shallow max-depth
-  first-table g h k gs = rw (le-ltb 512 (length bs) h, le-leb (depth-from 0 bs) 8 k)
-
   -- ---- what a line that is read comes to
 
   module _ (lent : lent-sound q count ws ≡ true) (sound : schema-sound q ≡ true) (room : 6120 ≤ length ws) (narrow : Narrow (directory q)) (short : length bs ≤ 512) (flat : depth-from 0 bs ≤ 8) (g : GrantLine) (line : read-grant-line bs ≡ some g) where
@@ -217,7 +193,7 @@ module _ (q : Schema) (count : ℕ) (bs : Bytes) (ws : List ℕ) where
     good = grant-printed bs g line .0
 
     on-table : (gs : List M.Grant) → length gs ≡ count → first (checks gs) ≡ first-read q count read
-    on-table gs m = first-on lent gs ∙ ap (λ o. first (written 0 bs o (table gs))) line ∙ first-table g short flat gs ∙ sym (table-same q sound narrow g good gs count m)
+    on-table gs m = first-sound (written 0 bs (read-grant-line bs) (table gs)) lent ∙ ap (λ o. first (written 0 bs o (table gs))) line ∙ first-table bs (table gs) g short flat ∙ sym (table-same q sound narrow g good gs count m)
 
     abbrev nodes : List (Cond Node)
     nodes = map (nodes-of (directory q)) (g .when)
@@ -274,7 +250,7 @@ module _ (q : Schema) (count : ℕ) (bs : Bytes) (ws : List ℕ) where
   module _ {x : Bool} (e : x ≡ schema-sound q) where
     pub grant-unsound : {r : Granted} → not x ≡ true → r ≡ record { verdict = Refused Lent; grant = no-grant } → Grants q count bs ws ws r
     unfolding lent-sound
-    grant-unsound h d = refuses Lent d (λ gs m. first-lent (rw (sym e ∙ not-true x h)) gs)
+    grant-unsound h d = refuses Lent d (λ gs m. first-lent {sound = lent-sound q count ws} (written 0 bs (read-grant-line bs) (table gs)) (rw (sym e ∙ not-true x h)))
 
     module _ (h : not x ≡ false) where
       is-sound : schema-sound q ≡ true
@@ -282,12 +258,12 @@ module _ (q : Schema) (count : ℕ) (bs : Bytes) (ws : List ℕ) where
 
       pub grant-many : {r : Granted} → 24 < count → r ≡ record { verdict = Refused Lent; grant = no-grant } → Grants q count bs ws ws r
       unfolding lent-sound
-      grant-many c d = refuses Lent d (λ gs m. first-lent (rw (is-sound, lt-leb count 24 c)) gs)
+      grant-many c d = refuses Lent d (λ gs m. first-lent {sound = lent-sound q count ws} (written 0 bs (read-grant-line bs) (table gs)) (rw (is-sound, lt-leb count 24 c)))
 
       module _ (c : count ≤ 24) where
         pub grant-short : {r : Granted} → length ws < 6120 → r ≡ record { verdict = Refused Lent; grant = no-grant } → Grants q count bs ws ws r
         unfolding lent-sound
-        grant-short l d = refuses Lent d (λ gs m. first-lent (rw (is-sound, le-leb count 24 c, lt-leb 6120 (length ws) l)) gs)
+        grant-short l d = refuses Lent d (λ gs m. first-lent {sound = lent-sound q count ws} (written 0 bs (read-grant-line bs) (table gs)) (rw (is-sound, le-leb count 24 c, lt-leb 6120 (length ws) l)))
 
         module _ (l : 6120 ≤ length ws) where
           is-lent : lent-sound q count ws ≡ true
@@ -295,19 +271,19 @@ module _ (q : Schema) (count : ℕ) (bs : Bytes) (ws : List ℕ) where
           is-lent = rw (is-sound, le-leb count 24 c, le-leb 6120 (length ws) l)
 
           pub grant-long : {r : Granted} → 512 < length bs → r ≡ record { verdict = Refused Bound; grant = no-grant } → Grants q count bs ws ws r
-          grant-long k d = refuses Bound d (λ gs m. first-on is-lent gs ∙ first-long k (read-grant-line bs) gs)
+          grant-long k d = refuses Bound d (λ gs m. first-sound (written 0 bs (read-grant-line bs) (table gs)) is-lent ∙ first-long bs (table gs) k (read-grant-line bs))
 
           module _ (k : length bs ≤ 512) {y : Bool} (m : y ≡ grant-text bs) where
             pub grant-malformed : {r : Granted} → not y ≡ true → r ≡ record { verdict = Refused Malformed; grant = no-grant } → Grants q count bs ws ws r
             grant-malformed o d =
-                refuses Malformed d (λ gs n. first-on is-lent gs ∙ ap (λ o. first (written 0 bs o (table gs))) (text-none bs (sym m ∙ not-true y o)) ∙ first-malformed k gs)
+                refuses Malformed d (λ gs n. first-sound (written 0 bs (read-grant-line bs) (table gs)) is-lent ∙ ap (λ o. first (written 0 bs o (table gs))) (text-none bs (sym m ∙ not-true y o)) ∙ first-malformed bs (table gs) k)
 
             module _ (o : not y ≡ false) {n : ℕ} (p : n ≡ depth-from 0 bs) where
               pub grant-deep : {r : Granted} → 8 < n → r ≡ record { verdict = Refused Bound; grant = no-grant } → Grants q count bs ws ws r
               grant-deep t d =
                   text-some bs (sym m ∙ not-false y o) (λ g z.
                   let u : 8 < depth-from 0 bs = omega arith in
-                  refuses Bound d (λ gs n. first-on is-lent gs ∙ ap (λ o. first (written 0 bs o (table gs))) z ∙ first-deep g k u gs))
+                  refuses Bound d (λ gs n. first-sound (written 0 bs (read-grant-line bs) (table gs)) is-lent ∙ ap (λ o. first (written 0 bs o (table gs))) z ∙ first-deep bs (table gs) g k u))
 
               pub grant-come : {ws′ : List ℕ} {r : Granted} → n ≤ 8 → Checks q count bs (parts-at (directory q) bs) ws ws′ r → Grants q count bs ws ws′ r
               grant-come t c =

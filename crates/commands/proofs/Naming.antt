@@ -1,15 +1,15 @@
 -- The name and the values of a row line, from what the code has of them.
 use mathlib.Core.Path.{_≡_, refl, sym, ap, ap₂, _∙_}
 use mathlib.Core.List.{List, [], _∷_, map}
-use mathlib.Core.Bool.{Bool, true, false, _&&_, not}
+use mathlib.Core.Bool.{true, false, _&&_, not}
 use mathlib.Core.Option.{some}
-use Prim.Native.Nat.{ℕ, zero, suc, _+_, _-_, _≤_, _<_}
+use Prim.Native.Nat.{_-_, _≤_, _<_}
 use native.Mathlib.Omega.{arith}
 use lib.IntN.{ℤ, pos}
 use lib.Dec.{T}
-use lib.ListN.{length, take, drop, getD}
+use lib.ListN.{length, take, drop}
 use borrow.Author.Tests.{not-true, not-false}
-use Rattle.lists.specs.Lists.{every, count-from}
+use Rattle.lists.specs.Lists.{every}
 use Rattle.lists.proofs.Laws.{true-T, and-l, and-r, T-true}
 use Rattle.syntax.specs.Grammar.{name?}
 use Rattle.calls.specs.Bounds.{short, is-value}

@@ -1,7 +1,7 @@
 -- A stream more: the record has its stream, with no rows.
 use mathlib.Core.Path.{_≡_, refl, sym, ap, ap₂, _∙_}
 use mathlib.Core.List.{List, [], _∷_, _++_, map, map-append}
-use Prim.Native.Nat.{ℕ, zero, suc, _+_, _*_, _-_, _<_, _≤_, min}
+use Prim.Native.Nat.{ℕ, suc, _+_, _*_, _-_, _<_, min}
 use native.Mathlib.Nat.{zero-add}
 use native.Mathlib.Omega.{arith}
 use lib.IntN.{ℤ}
@@ -9,9 +9,9 @@ use lib.Dec.{T, eqb, eqb→eq}
 use lib.ListN.{length, length-append, getD}
 use Rattle.lists.specs.Lists.{every, nth, count-from}
 use Rattle.lists.proofs.Laws.{parts, nth-before}
-use Rattle.model.specs.Queries.{Stream, no-stream, Record, Row}
+use Rattle.model.specs.Queries.{Stream, no-stream}
 use Rattle.calls.specs.Names.{columns-named}
-use Rattle.schema.specs.Schemas.{streams-in, width-of, columns-in, schema-of}
+use Rattle.schema.specs.Schemas.{streams-in, width-of, schema-of}
 use Rattle.schema.specs.declared.Schema.{Schema}
 use Rattle.schema.proofs.Soundness.{length-schema, length-columns}
 use Rattle.schema.proofs.Tables.{columns-named-in}

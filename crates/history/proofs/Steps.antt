@@ -1,17 +1,15 @@
 -- Each call, by its contract alone, is the definitions' step on the record that the state stands for, and leaves what may be lent.
 use mathlib.Core.Path.{_≡_, refl, sym, ap, _∙_, subst}
-use mathlib.Core.List.{List, [], _∷_, _++_}
-use mathlib.Core.Bool.{Bool, true, false, _&&_, not, cond}
-use mathlib.Core.Option.{Option, none, some}
-use mathlib.Core.Logic.{_⊎_, inl, inr}
-use Prim.Native.Nat.{ℕ, suc, _≤_}
+use mathlib.Core.List.{List, [], _∷_}
+use mathlib.Core.Bool.{Bool, true, false, not}
+use mathlib.Core.Option.{some}
+use Prim.Native.Nat.{ℕ}
 use native.Mathlib.Omega.{arith}
 use lib.IntN.{ℤ, pos}
 use lib.Dec.{T}
 use Rattle.refusal.specs.Numbers.{verdict-of}
 use Rattle.refusal.specs.declared.Verdict.{Verdict}
-use Rattle.refusal.specs.declared.Verdict.the-variants.{Accepted, Refused}
-use Rattle.refusal.specs.declared.Refusal.{Refusal}
+use Rattle.refusal.specs.declared.Verdict.the-variants.{Accepted}
 use Rattle.refusal.specs.declared.Refusal.the-variants.{Lent}
 use Rattle.lists.proofs.Laws.{true-T, parts, and-both, T-true}
 use Rattle.syntax.specs.Grammar.{Bytes}
@@ -23,10 +21,8 @@ use Rattle.calls.specs.Calls.{Call, stream, clock, row, clear, read-stream, cal
 use Rattle.calls.proofs.Passing.{pass-rest, written-passes}
 use Rattle.calls.proofs.Verdicts.{Told, accepted, refused, told}
 use Rattle.calls.proofs.Valid.{valid-effect}
-use Rattle.schema.specs.Schemas.{streams-in, schema-of, schema-sound}
-use Rattle.schema.specs.declared.Schema.{Schema}
+use Rattle.schema.specs.Schemas.{schema-of, schema-sound}
 use Rattle.ledger.specs.Records.{record-of, ledger-sound, rows-sound, record-sound, Clocked, Cleared, Rowed}
-use Rattle.ledger.specs.declared.Ledger.{Ledger}
 use Rattle.ledger.specs.declared.Entered.{Entered}
 use Rattle.ledger.proofs.Kept.{declared-rows}
 use Rattle.streams.specs.Declaring.{declare-checks, Declares}

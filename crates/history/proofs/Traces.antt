@@ -6,7 +6,7 @@ use lib.IntN.{ℤ}
 use lib.Dec.{T}
 use Rattle.lists.proofs.Laws.{true-T, and-both}
 use Rattle.calls.specs.Validity.{valid-record}
-use Rattle.calls.specs.Calls.{Call, next, run, fresh, after}
+use Rattle.calls.specs.Calls.{Call, run, fresh, after}
 use Rattle.calls.proofs.Valid.{valid-after}
 use Rattle.schema.specs.Schemas.{schema-of, schema-sound}
 use Rattle.schema.specs.declared.Schema.{Schema}
@@ -14,7 +14,7 @@ use Rattle.schema.proofs.Soundness.{sound-empty}
 use Rattle.ledger.specs.Records.{record-sound, Begun}
 use Rattle.ledger.specs.declared.Ledger.{Ledger}
 use Rattle.history.specs.States.{State, record-in, Sound, Promise}
-use Rattle.history.proofs.Steps.{Step, step}
+use Rattle.history.proofs.Steps.{step}
 
 -- each call gets what the last one returned or left
 pub data Trace : State → List Call → State → Type 0 where

@@ -1,17 +1,10 @@
 -- What a store of values leaves at each place.
 use mathlib.Core.Path.{_≡_, _∙_}
-use mathlib.Core.List.{List, [], _∷_, _++_}
-use Prim.Native.Nat.{ℕ, zero, suc, _+_, _-_, _<_, _≤_}
+use mathlib.Core.List.{List, _++_}
+use Prim.Native.Nat.{ℕ, _+_, _-_, _<_, _≤_}
 use native.Mathlib.Omega.{arith}
-use lib.IntN.{ℤ, pos, negsuc}
-use lib.Dec.{T, le→leb}
 use lib.ListN.{length, getD, take, drop, List·getD-append}
 use lib.Seq.{paste, getD-append-add, getD-take, getD-drop, length-paste-head, length-take-le}
-use mir.Syntax.{w32}
-use mir.Val.{SFits}
-use Rattle.lists.specs.Lists.{every}
-use Rattle.lists.proofs.Laws.{and-l, and-r, and-both}
-use Rattle.calls.specs.Bounds.{is-value, top}
 
 -- ---- a part of a list that is replaced
 

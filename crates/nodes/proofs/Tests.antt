@@ -9,10 +9,8 @@ use native.Mathlib.Omega.{arith}
 use lib.Dec.{eqb, leb, ltb}
 use borrow.Author.Tests.{eq-eqb, ne-eqb, lt-ltb, le-ltb, le-leb, lt-leb, not-true, not-false}
 use Rattle.lists.specs.Lists.{every, count-from}
-use Rattle.syntax.specs.Grammar.{letter, digit, alnum, name?}
-use Rattle.calls.specs.Validity.{valid-name, free-name}
-use Rattle.text.specs.Words.{bytes-from, name-of}
-use Rattle.schema.proofs.Codes.{name-short, free-other}
+use Rattle.calls.specs.Validity.{valid-name}
+use Rattle.text.specs.Words.{name-of}
 use Rattle.schema.proofs.Lookups.{rest, every-stop, every-on, every-end}
 use Rattle.nodes.specs.declared.Node.{Node}
 use Rattle.nodes.specs.Nodes.{node-at, link, comparing, reaches, linked, in-mask, terms-sound, node-sound, nodes-sound}

@@ -7,7 +7,7 @@ use Prim.Native.Nat.{ℕ, _+_, _≤_, _<_}
 use native.Mathlib.Omega.{arith}
 use lib.Dec.{T, leb, le→leb}
 use lib.ListN.{length, length-append}
-use borrow.Author.Tests.{not-true, not-false, lt-ltb, le-ltb, le-leb, lt-leb}
+use borrow.Author.Tests.{not-true, not-false, lt-ltb, le-leb}
 use Rattle.refusal.specs.Numbers.{verdict-of}
 use Rattle.refusal.specs.declared.Verdict.{Verdict}
 use Rattle.refusal.specs.declared.Verdict.the-variants.{Accepted, Refused}
@@ -23,11 +23,13 @@ use Rattle.syntax.proofs.Lines as L
 use Rattle.model.specs.Queries as M
 use Rattle.model.specs.Queries.{Stream}
 use Rattle.calls.specs.Names.{stream-names}
-use Rattle.calls.specs.Bounds.{max-line, max-depth, max-streams, max-columns, depth-from, shallow}
+use Rattle.calls.specs.Bounds.{max-streams, max-columns, depth-from}
 use Rattle.calls.specs.Validity.{free-name, valid-stream, valid-schema}
 use Rattle.calls.specs.Refusals.{Check, refuse, first, written}
 use Rattle.calls.specs.Tables.{declared, stream-table}
 use Rattle.calls.specs.Calls.{stream-of, read-stream}
+use Rattle.calls.proofs.Verdicts.{not-accepted, verdict-none, verdict-some}
+use Rattle.calls.proofs.Written.{first-long, first-malformed, first-deep, first-table}
 use Rattle.text.specs.Words.{name-of}
 use Rattle.schema.specs.declared.Schema.{Schema}
 use Rattle.schema.specs.Schemas.{streams-in, schema-of, schema-sound, counts-sound, room, with-stream-of, Added}
@@ -201,14 +203,6 @@ module _ (q : Schema) (s : Stream) (nw : T (name? (s .name))) (nc : T (every nam
 
 -- ---- the checks in front
 
-verdict-none : (o : Option Refusal) → verdict-of o ≡ Accepted → o ≡ none
-verdict-none none e = refl
-verdict-none (some f) e = absurd (let k : _≡_ {A = ℕ} 0 1 = cc in omega arith)
-
-verdict-some : (o : Option Refusal) (f : Refusal) → verdict-of o ≡ Refused f → o ≡ some f
-verdict-some none f e = absurd (let k : _≡_ {A = ℕ} 0 1 = cc in omega arith)
-verdict-some (some g) f e = cc
-
 module _ (q : Schema) (bs : Bytes) where
   abbrev checks : Stream → List Check
   checks s = stream-table (schema-of q) (s .name) (s .columns)
@@ -218,8 +212,8 @@ module _ (q : Schema) (bs : Bytes) where
       record {
         said = ap (λ r. r .verdict) d ∙ sym (ap verdict-of e);
         refused = λ n. ap (λ r. r .schema) d;
-        done = λ a. absurd (let w : Refused f ≡ Accepted = sym (ap (λ r. r .verdict) d) ∙ a in let k : _≡_ {A = ℕ} 0 1 = cc in omega arith);
-        sound = λ a. absurd (let w : Refused f ≡ Accepted = sym (ap (λ r. r .verdict) d) ∙ a in let k : _≡_ {A = ℕ} 0 1 = cc in omega arith);
+        done = λ a. absurd (not-accepted f (sym (ap (λ r. r .verdict) d) ∙ a));
+        sound = λ a. absurd (not-accepted f (sym (ap (λ r. r .verdict) d) ∙ a));
       }
 
   first-lent : schema-sound q ≡ false → first (declare-checks q bs) ≡ some Lent
@@ -229,23 +223,6 @@ module _ (q : Schema) (bs : Bytes) where
   first-on : schema-sound q ≡ true → first (declare-checks q bs) ≡ first (written 0 bs (read-stream bs) checks)
   unfolding declare-checks first refuse
   first-on e = rw e
-
-  first-long : 512 < length bs → (o : Option Stream) → first (written 0 bs o checks) ≡ some Bound
-  unfolding written first refuse max-line
-  first-long h none = rw (lt-ltb 512 (length bs) h)
-  first-long h (some s) = rw (lt-ltb 512 (length bs) h)
-
-  first-malformed : length bs ≤ 512 → first (written 0 bs none checks) ≡ some Malformed
-  unfolding written first refuse max-line
-  first-malformed h = rw (le-ltb 512 (length bs) h)
-
-  first-deep : (s : Stream) → length bs ≤ 512 → 8 < depth-from 0 bs → first (written 0 bs (some s) checks) ≡ some Bound
-  unfolding written first refuse max-line shallow max-depth
-  first-deep s h k = rw (le-ltb 512 (length bs) h, lt-leb (depth-from 0 bs) 8 k)
-
-  first-table : (s : Stream) → length bs ≤ 512 → depth-from 0 bs ≤ 8 → first (written 0 bs (some s) checks) ≡ first (checks s)
-  unfolding written first refuse max-line shallow max-depth
-  first-table s h k = rw (le-ltb 512 (length bs) h, le-leb (depth-from 0 bs) 8 k)
 
   line-none : (l : StreamLine) → l ≡ stream-line (read-stream bs) → not (l .ok) ≡ true → read-stream bs ≡ none
   unfolding stream-line
@@ -274,24 +251,24 @@ module _ (q : Schema) (bs : Bytes) where
       on-written = first-on (sym e ∙ not-false x h)
 
       pub declare-long : {r : Declared} → 512 < length bs → r ≡ record { verdict = Refused Bound; schema = q } → Declares q bs r
-      declare-long k d = refuses Bound d (on-written ∙ first-long k (read-stream bs))
+      declare-long k d = refuses Bound d (on-written ∙ first-long bs checks k (read-stream bs))
 
       module _ (k : length bs ≤ 512) {l : StreamLine} (m : l ≡ stream-line (read-stream bs)) where
         pub declare-malformed : {r : Declared} → not (l .ok) ≡ true → r ≡ record { verdict = Refused Malformed; schema = q } → Declares q bs r
-        declare-malformed o d = refuses Malformed d (on-written ∙ ap (λ t. first (written 0 bs t checks)) (line-none l m o) ∙ first-malformed k)
+        declare-malformed o d = refuses Malformed d (on-written ∙ ap (λ t. first (written 0 bs t checks)) (line-none l m o) ∙ first-malformed bs checks k)
 
         module _ (o : not (l .ok) ≡ false) {n : ℕ} (p : n ≡ depth-from 0 bs) where
           pub declare-deep : {r : Declared} → 8 < n → r ≡ record { verdict = Refused Bound; schema = q } → Declares q bs r
           declare-deep t d =
               line-some l m o (λ s z.
               let g : 8 < depth-from 0 bs = omega arith in
-              refuses Bound d (on-written ∙ ap (λ t. first (written 0 bs t checks)) z ∙ first-deep s k g))
+              refuses Bound d (on-written ∙ ap (λ t. first (written 0 bs t checks)) z ∙ first-deep bs checks s k g))
 
           module _ (t : n ≤ 8) {v : Verdict} (u : v ≡ verdict-of (first (line-table q l))) where
             on-table : (s : Stream) → read-stream bs ≡ some s → first (declare-checks q bs) ≡ first (line-table q l)
             on-table s z =
                 let g : depth-from 0 bs ≤ 8 = omega arith in
-                on-written ∙ ap (λ t. first (written 0 bs t checks)) z ∙ first-table s k g
+                on-written ∙ ap (λ t. first (written 0 bs t checks)) z ∙ first-table bs checks s k g
                 ∙ sym (table-same q s (read-name-good bs s z) (read-columns-good bs s z)) ∙ ap (λ l. first (line-table q l)) (sym (m ∙ ap stream-line z))
 
             pub declare-refused : {r : Declared} {f : Refusal} → v ≡ Refused f → r ≡ record { verdict = Refused f; schema = q } → Declares q bs r

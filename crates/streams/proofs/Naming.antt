@@ -3,14 +3,14 @@ use mathlib.Core.Path.{_≡_, refl, sym, ap, ap₂, _∙_}
 use mathlib.Core.List.{List, [], _∷_, map}
 use mathlib.Core.Bool.{Bool, true, false, _&&_, _||_, not, cond}
 use mathlib.Core.Option.{Option, none, some}
-use Prim.Native.Nat.{ℕ, zero, suc, _+_, _≤_, _<_, min}
+use Prim.Native.Nat.{ℕ, suc, _≤_, _<_, min}
 use native.Mathlib.Omega.{arith}
 use lib.Dec.{T, eqb, leb, ltb, leb→le, ltb→lt}
-use lib.ListN.{length, take, getD, length-map}
+use lib.ListN.{length, take, length-map}
 use borrow.Author.Tests.{not-false, lt-ltb, le-ltb, ltb-true, ltb-false, leb-true, leb-false}
 use Rattle.refusal.specs.declared.Refusal.{Refusal}
 use Rattle.refusal.specs.declared.Refusal.the-variants.{Bound, Repeated, Misplaced}
-use Rattle.lists.specs.Lists.{All, all-nil, all-cons, every, some?, distinct, count-from, same-list, position}
+use Rattle.lists.specs.Lists.{All, all-nil, all-cons, every, some?, distinct, same-list, position}
 use Rattle.lists.proofs.Laws.{true-T, and-l, and-r, T-true, all-both, all-weaken, every-all, map-same}
 use Rattle.syntax.specs.Grammar.{Bytes, name?}
 use Rattle.model.specs.Queries.{Stream}
@@ -20,12 +20,12 @@ use Rattle.calls.specs.Validity.{valid-name, reserved, free-name}
 use Rattle.calls.specs.Refusals.{refuse, first}
 use Rattle.calls.specs.Tables.{declared, stream-table}
 use Rattle.text.specs.Words.{code-of, name-of}
-use Rattle.text.proofs.Codes.{name-back, names-same}
+use Rattle.text.proofs.Codes.{name-back}
 use Rattle.schema.specs.declared.Schema.{Schema}
 use Rattle.schema.specs.Schemas.{schema-of}
 use Rattle.schema.proofs.Soundness.{length-schema}
 use Rattle.items.specs.Items.{code-short, first-of, once}
-use Rattle.items.proofs.Naming.{Named, code-named, distinct-codes, names-back, first-taken}
+use Rattle.items.proofs.Naming.{Named, code-named, distinct-codes, first-taken}
 use Rattle.streams.specs.declared.StreamLine.{StreamLine}
 use Rattle.streams.specs.Declaring.{stream-line, line-beyond, line-repeated, code-free, line-free, line-table}
 
