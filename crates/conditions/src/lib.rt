@@ -165,7 +165,7 @@ fn compared(s: &[u8], at: usize, ks: &[u64], words: &mut [u32], head: u32, b: u3
     if !c.ok {
         return nothing_seen();
     }
-    if 85 <= b {
+    if Node::LAST <= b {
         return nothing_seen();
     }
     let n = Node {
@@ -203,7 +203,7 @@ fn closed(s: &[u8], words: &mut [u32], head: u32, b: u32, i: Seen) -> Seen
         return nothing_seen();
     }
     let k = i.count;
-    if 85 <= k {
+    if Node::LAST <= k {
         return nothing_seen();
     }
     let n = Node {

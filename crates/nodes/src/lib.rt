@@ -20,6 +20,8 @@ impl Node {
     pub const WORDS: usize = 3;
     // Nodes that the conditions of one line can have: 512 bytes, with at most 8 brackets open at once, have no room for more.
     pub const NODES: usize = 85;
+    // The highest number of a node.
+    pub const LAST: u32 = Node::NODES as u32;
     // Words lent for the conditions of one line.
     pub const PLACE: usize = Node::NODES * Node::WORDS;
     // The code of a number.
