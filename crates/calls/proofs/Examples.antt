@@ -1,15 +1,15 @@
 -- Examples A to K and those of the refusal table, from their texts, as one table with one theorem.
 use mathlib.Core.Path.{_≡_, refl}
 use mathlib.Core.List.{List, [], _∷_, _++_, map}
+use mathlib.Core.Option.{none}
 use Prim.Native.Nat.{ℕ, zero, suc}
 use lib.IntN.{ℤ, pos, negsuc}
 use lib.ListN.{replicate}
 use Rattle.refusal.specs.declared.Refusal.the-variants.{Lent, Malformed, NoRoom}
-use Rattle.syntax.specs.Grammar.{Bytes, bytes}
-use Rattle.model.specs.Queries.{Record, Grant, Caller}
-use Rattle.calls.specs.Calls.{nobody}
-use Rattle.calls.specs.Refusals.{Reply, refused, filled}
-use Rattle.calls.specs.Queries.{ask}
+use Rattle.syntax.specs.Grammar.{Bytes, bytes, read}
+use Rattle.model.specs.Queries.{col, Record, Grant, Caller}
+use Rattle.calls.specs.Replies.{Reply, refused, filled}
+use Rattle.calls.specs.Asking.{ask}
 use Rattle.calls.specs.Scripts.{Outcome, quiet, refusal, cells, text, script, scripts-compute}
 
 -- ---- the paper's fixture
@@ -73,7 +73,7 @@ abbrev reader : Caller
 reader = record { roles = bytes "all" ∷ []; profile = [] }
 
 abbrev reading : List Grant
-reading = record { role = bytes "all"; right = Rattle.syntax.specs.Grammar.read; of = 0 ∷ []; shown = Rattle.model.specs.Queries.col 0 0 ∷ []; when = []; from = mathlib.Core.Option.none; to = mathlib.Core.Option.none; size = 0; offset = 0 } ∷ []
+reading = record { role = bytes "all"; right = read; of = 0 ∷ []; shown = col 0 0 ∷ []; when = []; from = none; to = none; size = 0; offset = 0 } ∷ []
 
 abbrev five : Bytes → Bytes → List Bytes
 five s c =

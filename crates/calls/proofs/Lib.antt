@@ -1,10 +1,9 @@
 pub mod Examples
 pub mod Samples
-pub mod Order
-pub mod Passing
-pub mod Verdicts
 pub mod Written
+pub mod Order
+pub mod Accepted
+pub mod Steps
 pub mod Valid
 pub mod Stored
 pub mod Interference
-pub mod Capacity

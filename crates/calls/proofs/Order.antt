@@ -1,76 +1,70 @@
--- Each refusal is returned where its condition holds and no earlier one does, and only then; and the tables stand in the order of the refusals.
-use mathlib.Core.Path.{_≡_, refl, sym, ap, _∙_}
-use mathlib.Core.List.{List, [], _∷_, _++_}
-use mathlib.Core.Bool.{Bool, true, false, cond}
-use mathlib.Core.Option.{Option, none, some, Option·some-injective, Option·none-ne-some}
+-- The table of every call stands in the order of the refusals, and only its first check gives 12.
+use mathlib.Core.List.{List, []}
+use mathlib.Core.Bool.{not}
+use mathlib.Core.Option.{Option, none, some}
 use Prim.Native.Nat.{ℕ}
 use lib.IntN.{ℤ}
-use lib.Dec.{T, ltb}
-use lib.ListN.{length}
-use Rattle.refusal.specs.declared.Refusal.{Refusal}
-use Rattle.refusal.specs.declared.Refusal.the-variants.{Lent, Bound, Malformed}
-use Rattle.syntax.specs.Grammar.{Bytes, Form, GrantLine, Entry}
+use lib.Dec.{T, eqb}
+use Rattle.refusal.specs.Checks.{Check, refuse, ordered, Ordered, checks-compute}
+use Rattle.refusal.proofs.Verdicts.{never}
+use Rattle.lists.specs.Lists.{every}
+use Rattle.lists.proofs.Laws.{and-both}
+use Rattle.syntax.specs.Grammar as G
+use Rattle.syntax.specs.Grammar.{Bytes, Form, RouteLine}
+use Rattle.syntax.specs.Readers.{parse-as}
 use Rattle.model.specs.Queries.{Schema, Record, Grant, Caller}
-use Rattle.calls.specs.Bounds.{max-line}
-use Rattle.calls.specs.Refusals.{Check, refuse, first, passes, written, rank, ordered}
-use Rattle.calls.specs.Tables.{stream-table, clock-table, row-table, grant-table, caller-table, query-table}
-use Rattle.calls.specs.Queries.{answer-checks, line-checks}
+use Rattle.calls.specs.Replies.{written}
+use Rattle.calls.specs.Tables.{stream-checks, clock-checks, row-checks, row-line-checks, grant-checks, caller-checks, query-checks}
+use Rattle.calls.specs.Calls.{Call, stream, clock, row, clear, clock-line, row-line, clear-line, call-checks, call-table, grant-table, caller-table}
+use Rattle.calls.specs.Asking.{answer-checks, ask-table, line-checks, line-table}
 
--- ---- which refusal a table gives
+-- a written line: its length, its form, its brackets, and then what was read from 3 on
+pub written-ordered : {A : Type 0} (spare : ℕ) (bs : Bytes) (o : Option A) (checks : A → List Check) → ((a : A) → T (ordered 2 (checks a))) → Ordered (written spare bs o checks)
+unfolding written checks-compute
+written-ordered spare bs none checks h = tt
+written-ordered spare bs (some a) checks h = h a
 
--- where a check of the table is reached and its condition holds
-pub data Reached (r : Refusal) : List Check → Type 0 where
-  here : {cs : List Check} → Reached r (record { refusal = r; fails = true } ∷ cs)
-  later : {s : Refusal} {cs : List Check} → Reached r cs → Reached r (record { refusal = s; fails = false } ∷ cs)
+pub call-ordered : (x : Record) (c : Call) → Ordered (call-table x c)
+unfolding call-table call-checks stream-checks clock-checks row-checks row-line-checks checks-compute
+call-ordered x (stream bs) = written-ordered 0 bs (parse-as G.stream bs) _ (λ s. tt)
+call-ordered x (clock n) = tt
+call-ordered x (row s vs) = tt
+call-ordered x clear = tt
+call-ordered x (clock-line bs) = written-ordered 0 bs (parse-as G.clock bs) _ (λ n. tt)
+call-ordered x (row-line bs) = written-ordered 0 bs (parse-as G.row bs) _ (λ w. tt)
+call-ordered x (clear-line bs) = written-ordered 0 bs (parse-as G.clear bs) _ (λ u. tt)
 
-pub first-reached : (r : Refusal) (cs : List Check) → first cs ≡ some r → Reached r cs
-unfolding first
-first-reached r [] e = absurd (Option·none-ne-some r e)
-first-reached r (c ∷ cs) e = go (c .refusal) (c .fails) e (first-reached r cs)
-  where
-    go : (s : Refusal) (b : Bool) → cond b (some s) (first cs) ≡ some r → (first cs ≡ some r → Reached r cs) → Reached r (record { refusal = s; fails = b } ∷ cs)
-    go s true e f = mathlib.Core.Path.subst (λ s. Reached r (record { refusal = s; fails = true } ∷ cs)) (sym (Option·some-injective s r e)) here
-    go s false e f = later (f e)
+pub grant-ordered : (d : Schema) (gs : List Grant) (bs : Bytes) → Ordered (grant-table d gs bs)
+unfolding grant-table grant-checks checks-compute
+grant-ordered d gs bs = written-ordered 0 bs (parse-as G.grant bs) _ (λ g. tt)
 
-pub reached-first : (r : Refusal) (cs : List Check) → Reached r cs → first cs ≡ some r
-unfolding first
-reached-first r cs here = refl
-reached-first r cs (later {cs = ds} h) = reached-first r ds h
+pub caller-ordered : (bs : Bytes) → Ordered (caller-table bs)
+unfolding caller-table caller-checks checks-compute
+caller-ordered bs = written-ordered 0 bs (parse-as G.caller bs) _ (λ w. tt)
 
--- ---- the tables
+module _ (x : Record) (gs : List Grant) (who : Caller) (spare : ℕ) (bs : Bytes) where
+  pub ask-ordered : (q : Option Form) (lent : List ℤ) → Ordered (ask-table x gs who spare bs q lent)
+  unfolding ask-table query-checks answer-checks checks-compute
+  ask-ordered q lent = written-ordered spare bs q _ (λ f. tt)
 
-module _ (x : Record) (d : Schema) (gs : List Grant) (who : Caller) where
-  pub stream-ordered : (s : Bytes) (cs : List Bytes) → T (ordered 2 (stream-table d s cs))
-  unfolding stream-table ordered rank refuse
-  stream-ordered s cs = tt
+  pub line-ordered : (l : Option RouteLine) (lent : Bytes) → Ordered (line-table x gs who spare bs l lent)
+  unfolding line-table query-checks line-checks checks-compute
+  line-ordered l lent = written-ordered spare bs l _ (λ m. tt)
 
-  pub clock-ordered : (n : ℤ) → T (ordered 2 (clock-table x n))
-  unfolding clock-table ordered rank refuse
-  clock-ordered n = tt
+-- ---- after the first check, no call on the record gives 12
 
-  pub row-ordered : (s : ℕ) (vs : List ℤ) → T (ordered 2 (row-table x s vs))
-  unfolding row-table ordered rank refuse
-  row-ordered s vs = tt
+-- a line is refused for its text by 1 and 3 alone
+pub never-written : {A : Type 0} (n spare : ℕ) (bs : Bytes) (o : Option A) (checks : A → List Check) → T (not (eqb 1 n)) → T (not (eqb 3 n)) → ((a : A) → T (never n (checks a))) → T (never n (written spare bs o checks))
+unfolding every written refuse
+never-written n spare bs none checks a b k = and-both (not (eqb 3 n)) _ b (and-both (not (eqb 1 n)) _ a tt)
+never-written n spare bs (some l) checks a b k = and-both (not (eqb 3 n)) _ b (and-both (not (eqb 1 n)) _ a (and-both (not (eqb 3 n)) _ b (k l)))
 
-  pub grant-ordered : (g : GrantLine) → T (ordered 2 (grant-table d gs g))
-  unfolding grant-table ordered rank refuse
-  grant-ordered g = tt
-
-  pub caller-ordered : (rs : List Bytes) (es : List Entry) → T (ordered 2 (caller-table rs es))
-  unfolding caller-table ordered rank refuse
-  caller-ordered rs es = tt
-
-  pub ask-ordered : (lent : List ℤ) (f : Form) → T (ordered 2 (query-table d f ++ answer-checks x gs who lent f))
-  unfolding query-table answer-checks ordered rank refuse
-  ask-ordered lent f = tt
-
-  pub line-ordered : (n : ℤ) (lent : Bytes) (f : Form) → T (ordered 2 (query-table d f ++ line-checks x gs who n lent f))
-  unfolding query-table line-checks ordered rank refuse
-  line-ordered n lent f = tt
-
--- of a written line: the length first, and the rest in the order of the refusals
-pub written-ordered : {A : Type 0} (spare : ℕ) (bs : Bytes) (o : Option A) (checks : A → List Check) → ((a : A) → T (ordered 2 (checks a)))
-    → (cs : List Check) × (written spare bs o checks ≡ refuse Bound (ltb max-line (length bs)) ∷ cs) × T (ordered 1 cs)
-unfolding written ordered rank refuse
-written-ordered spare bs none checks h = (refuse Malformed true ∷ [], refl, tt)
-written-ordered spare bs (some a) checks h = (_, refl, h a)
+pub call-never : (x : Record) (c : Call) → T (never 12 (call-checks x c))
+unfolding call-checks stream-checks clock-checks row-checks row-line-checks refuse every
+call-never x (stream bs) = never-written 12 0 bs (parse-as G.stream bs) _ tt tt (λ s. tt)
+call-never x (clock n) = tt
+call-never x (row s vs) = tt
+call-never x clear = tt
+call-never x (clock-line bs) = never-written 12 0 bs (parse-as G.clock bs) _ tt tt (λ n. tt)
+call-never x (row-line bs) = never-written 12 0 bs (parse-as G.row bs) _ tt tt (λ w. tt)
+call-never x (clear-line bs) = never-written 12 0 bs (parse-as G.clear bs) (λ u. []) tt tt (λ u. tt)

@@ -1,29 +1,31 @@
 -- What accepted grant and caller lines store is valid.
-use mathlib.Core.Path.{_≡_, refl, sym, ap, _∙_, subst}
+use mathlib.Core.Path.{_≡_, sym, ap, _∙_, subst}
 use mathlib.Core.List.{List, [], _∷_, _++_, map}
 use mathlib.Core.Bool.{Bool, true, false, _&&_, _||_, not, cond}
 use mathlib.Core.Option.{Option, none, some}
-use Prim.Native.Nat.{ℕ, zero, suc, _+_, _≤_, _<_}
+use Prim.Native.Nat.{ℕ, zero, suc, _<_}
 use native.Mathlib.Omega.{arith}
 use lib.IntN.{ℤ, pos, negsuc}
-use lib.Dec.{T, leb, ltb, eqb, leb→le, le→leb, ltb→lt, lt→ltb, eqb→eq, eqb-refl, not-T, T-not}
-use lib.ListN.{length, length-append, length-map}
+use lib.Dec.{T, leb, ltb, eqb, ltb→lt, lt→ltb, eqb→eq}
+use lib.ListN.{length, length-map}
+use Rattle.refusal.specs.Checks.{passes}
+use Rattle.refusal.proofs.Passing.{pass-rest, pass-test}
 use Rattle.lists.specs.Lists.{every, some?, select, empty?, nth, distinct, same-list, position, gather, count-from}
-use Rattle.lists.proofs.Laws.{every-append, every-map, every-both, every-gather, parts, and-l, and-r, and-both, or-cases, T-true, T-false, same-list→eq, same-list-refl, position-nth, position-below}
+use Rattle.lists.proofs.Laws.{every-append, every-map, every-both, every-gather, every-all, distinct-map, parts, and-l, and-both, or-cases, T-true, same-list-refl, position-nth, position-below}
 use Rattle.syntax.specs.Grammar as G
-use Rattle.syntax.specs.Grammar.{Bytes, Line, Cond, test, all, any, neg, Conds, last, more, Ref, Operand, Test, Show, Span, Right, GrantLine, Entry, name?, ref?, operand?, test?, cond?, conds?, some-all, show?, grant?, entry?, line?}
-use Rattle.model.specs.Conditions.{tests, tests-of, map-cond, map-conds}
-use Rattle.model.specs.Queries.{Stream, Schema, no-stream, Col, col, same-col, columns-of, Term, column, time, number, self, Compare, Grant, Caller}
+use Rattle.syntax.specs.Grammar.{Bytes, Cond, test, all, any, neg, Conds, last, more, Ref, Operand, Test, Show, Span, Right, GrantLine, Entry, name?, ref?, operand?, test?, cond?, conds?, some-all, show?, grant?, entry?, body?}
+use Rattle.syntax.specs.Limits.{natural, short, short-ref, is-value, is-time, top, max-roles, max-entries}
+use Rattle.model.specs.Conditions.{tests, tests-of, map-cond}
+use Rattle.model.specs.Queries.{Stream, Schema, no-stream, Col, col, same-col, columns-of, column, self, Grant, Caller}
 use Rattle.model.specs.Checks.{has, within, grant-placed}
 use Rattle.model.proofs.Conditions.{tests-map}
 use Rattle.model.proofs.Columns.{same-col→eq, same-col-refl}
-use Rattle.calls.specs.Names
-use Rattle.calls.specs.Names.{stream-names, columns-named, stream-number, is-self, term-of, operand-of, compare-of, natural, shown-columns, map-option, size-of, offset-of, resolve-grant, operand-refs, operand-numbers, cond-refs, cond-numbers}
-use Rattle.calls.specs.Bounds.{short, short-ref, is-value, is-time, is-limit, is-span, top, max-grants, max-roles, max-entries, max-streams, cond-bounded, grant-bounded, caller-bounded, show-bounded}
-use Rattle.calls.specs.Validity.{valid-name, valid-stream, valid-schema, valid-term, valid-cond, valid-limit, valid-window, valid-grant, valid-catalogue, entry-names, valid-caller}
-use Rattle.calls.specs.Refusals.{Check, refuse, passes, written}
-use Rattle.calls.specs.Tables.{declared, window-allowed, show-refs, show-placed, grant-table, caller-table}
-use Rattle.calls.proofs.Passing.{not-not, not-or-l, not-or-r, pass-first, pass-rest, pass-test}
+use Rattle.calls.specs.Names.{stream-names, stream-number, col-of, is-self, term-of, column-of, operand-of, compare-of, shown-columns, map-option, size-of, offset-of, resolve-grant, operand-refs, operand-numbers, cond-refs, cond-numbers, show-refs}
+use Rattle.calls.specs.Bounds.{is-limit, is-span, cond-bounded, grant-bounded, caller-bounded}
+use Rattle.calls.specs.Validity.{valid-name, valid-stream, valid-schema, valid-term, valid-cond, valid-limit, valid-window, valid-grant, entry-names, valid-caller}
+use Rattle.calls.specs.Tables.{declared, window-allowed, show-placed, grant-checks, caller-checks}
+use Rattle.calls.proofs.Accepted.{grant-accepted}
+use Rattle.calls.proofs.Valid.{time-top}
 
 -- ---- streams of a grant
 
@@ -36,22 +38,9 @@ number-one : (d : Schema) (n m : Bytes) → T (declared d n) → T (declared d m
 unfolding declared stream-number
 number-one d n m t u e = sym (position-nth n (stream-names d) t) ∙ ap (nth [] (stream-names d)) e ∙ position-nth m (stream-names d) u
 
-numbers-apart : (d : Schema) (n : Bytes) (ns : List Bytes) → T (declared d n) → T (every (declared d) ns) → T (not (some? (same-list n) ns))
-    → T (not (some? (eqb (stream-number d n)) (map (stream-number d) ns)))
-unfolding every some?
-numbers-apart d n [] t u v = tt
-numbers-apart d n (m ∷ ns) t u v =
-    not-T (eqb (stream-number d n) (stream-number d m) || some? (eqb (stream-number d n)) (map (stream-number d) ns)) (λ w.
-    or-cases (eqb (stream-number d n) (stream-number d m)) (some? (eqb (stream-number d n)) (map (stream-number d) ns)) w
-    (λ e. T-not (same-list n m) (not-or-l (same-list n m) (some? (same-list n) ns) v) (rw (number-one d n m t (search parts) (eqb→eq (stream-number d n) (stream-number d m) e)) (same-list-refl m)))
-    (λ e. T-not (some? (eqb (stream-number d n)) (map (stream-number d) ns)) (numbers-apart d n ns t (search parts) (not-or-r (same-list n m) (some? (same-list n) ns) v)) e))
-
 numbers-distinct : (d : Schema) (ns : List Bytes) → T (every (declared d) ns) → T (distinct same-list ns) → T (distinct eqb (map (stream-number d) ns))
-unfolding every distinct
-numbers-distinct d [] t u = tt
-numbers-distinct d (n ∷ ns) t u =
-    and-both (not (some? (eqb (stream-number d n)) (map (stream-number d) ns))) (distinct eqb (map (stream-number d) ns))
-    (numbers-apart d n ns (search parts) (search parts) (search parts)) (numbers-distinct d ns (search parts) (search parts))
+numbers-distinct d ns t u =
+    distinct-map (stream-number d) same-list eqb (λ n m a b e. rw (number-one d n m a b (eqb→eq (stream-number d n) (stream-number d m) e)) (same-list-refl m)) (every-all (declared d) ns t) u
 
 -- ---- what it shows
 
@@ -93,12 +82,12 @@ lists-some f [] ds t w = absurd t
 lists-some f (r ∷ rs) ds t w = selects-some (f r) (map f rs) ds (search parts)
 
 shows-some : (d : Schema) (ns : List Bytes) (w : Show) → T (valid-schema d) → T (some-all name? ns) → T (every (declared d) ns) → T (show? w)
-    → T (within (map (Names.column-of d) (show-refs w)) (gather (columns-of d) (map (stream-number d) ns))) → T (not (empty? (shown-columns d (map (stream-number d) ns) w)))
+    → T (within (map (column-of d) (show-refs w)) (gather (columns-of d) (map (stream-number d) ns))) → T (not (empty? (shown-columns d (map (stream-number d) ns) w)))
 unfolding some-all shown-columns show? show-refs valid-schema
 shows-some d [] w v t u k p = absurd (unfold empty? in and-l false true t)
 shows-some d (n ∷ ns) G.everything v t u k p =
     unfold gather every in append-some (columns-of d (stream-number d n)) _ (some-columns d (stream-number d n) (search parts) (ltb→lt (stream-number d n) (length d) (below d n (search parts))))
-shows-some d (n ∷ ns) (G.listed rs) v t u k p = lists-some (Names.column-of d) rs (gather (columns-of d) (map (stream-number d) (n ∷ ns))) (search parts) p
+shows-some d (n ∷ ns) (G.listed rs) v t u k p = lists-some (column-of d) rs (gather (columns-of d) (map (stream-number d) (n ∷ ns))) (search parts) p
 
 -- ---- its conditions
 
@@ -119,7 +108,7 @@ self-valid : (d : Schema) (r : Ref) → T (ref? r) → T (short-ref r) → T (va
 unfolding ref? short-ref term-of valid-term valid-name
 self-valid d (G.dotted n m) t u = go (is-self n)
   where
-    go : (b : Bool) → T (valid-term (cond b (self m) (column (Names.col-of d n m))))
+    go : (b : Bool) → T (valid-term (cond b (self m) (column (col-of d n m))))
     go true = and-both (name? m) (short m) (search parts) (search parts)
     go false = tt
 self-valid d G.time t u = tt
@@ -152,18 +141,13 @@ limit-valid none t = tt
 limit-valid (some (pos n)) t = t
 limit-valid (some (negsuc n)) t = absurd t
 
-natural-top : (n : ℤ) → T (is-time n) → T (leb (natural n) top)
-unfolding is-time natural
-natural-top (pos n) t = t
-natural-top (negsuc n) t = absurd t
-
 window-valid : (r : Right) (w : Option Span) → T (window-allowed r w) → T (is-span w) → T (valid-window r (size-of w) (offset-of w))
-unfolding window-allowed is-span valid-window size-of offset-of top
+unfolding window-allowed is-span valid-window size-of offset-of
 window-valid G.read none t u = tt
 window-valid G.read (some w) t u = absurd t
 window-valid (G.figures f) none t u = tt
 window-valid (G.figures f) (some w) t u =
-    and-both (leb (natural (w .size)) top) (leb (natural (w .offset)) top) (natural-top (w .size) (search parts)) (natural-top (w .offset) (search parts))
+    and-both (leb (natural (w .size)) top) (leb (natural (w .offset)) top) (time-top (w .size) (search parts)) (time-top (w .offset) (search parts))
 
 -- ---- a whole grant
 
@@ -178,29 +162,24 @@ unfolding grant-bounded
 pass-bounds g t = (search parts depth 8, search parts depth 8, search parts depth 8, search parts depth 8, search parts depth 8)
 
 -- an accepted grant line stores a valid grant
-pub grant-stored : (d : Schema) (gs : List Grant) (g : GrantLine) → T (valid-schema d) → T (grant? g) → T (passes (grant-table d gs g)) → T (valid-grant d (resolve-grant d g))
-unfolding grant? grant-table valid-grant resolve-grant grant-bounded valid-name
+pub grant-stored : (d : Schema) (gs : List Grant) (g : GrantLine) → T (valid-schema d) → T (grant? g) → T (passes (grant-checks d gs g)) → T (valid-grant d (resolve-grant d g))
+unfolding grant? valid-grant resolve-grant valid-name
 grant-stored d gs g v h t =
-    let b = pass-test _ (grant-bounded g && ltb (length gs) max-grants) _ t in
-    let t2 = pass-rest _ _ _ t in
-    let u = pass-test _ (every (declared d) (g .of) && _) _ t2 in
-    let t6 = pass-rest _ _ _ t2 in
-    let r = pass-test _ (distinct same-list (g .of) && _) _ t6 in
-    let m = pass-test _ (show-placed d g && (grant-placed d (resolve-grant d g) && window-allowed (g .right) (g .window))) _ (pass-rest _ _ _ t6) in
+    let ok = grant-accepted d gs g t in
+    let limits = pass-bounds g (ok .bounded) in
     let ss : List ℕ = map (stream-number d) (g .of) in
     let shown = shown-columns d ss (g .show) in
     let when = map (map-cond (compare-of d)) (g .when) in
-    let limits = pass-bounds g (and-l (grant-bounded g) _ b) in
     nine (name? (g .role) && short (g .role)) (every (λ s. ltb s (length d)) ss) (distinct eqb ss) (not (empty? shown)) (grant-placed d (resolve-grant d g)) (every valid-cond when)
     (valid-limit (map-option natural (g .from))) (valid-limit (map-option natural (g .to))) (valid-window (g .right) (size-of (g .window)) (offset-of (g .window)))
     (and-both (name? (g .role)) (short (g .role)) (search parts) (limits .0))
-    (every-map (declared d) (λ s. ltb s (length d)) (stream-number d) (below d) (g .of) (search parts))
-    (numbers-distinct d (g .of) (search parts) (search parts))
-    (shows-some d (g .of) (g .show) v (search parts) (search parts) (search parts) (unfold show-placed in search parts))
-    (search parts)
+    (every-map (declared d) (λ s. ltb s (length d)) (stream-number d) (below d) (g .of) (ok .streams))
+    (numbers-distinct d (g .of) (ok .streams) (ok .once))
+    (shows-some d (g .of) (g .show) v (search parts) (ok .streams) (search parts) (unfold show-placed in ok .shows))
+    (ok .places)
     (every-map (λ c. cond? c && cond-bounded c) valid-cond (map-cond (compare-of d)) (λ c k. cond-valid d c (search parts) (search parts)) (g .when)
     (every-both cond? cond-bounded (λ c. cond? c && cond-bounded c) (λ c a b. and-both (cond? c) (cond-bounded c) a b) (g .when) (search parts) (limits .1)))
-    (limit-valid (g .from) (limits .2)) (limit-valid (g .to) (limits .3)) (window-valid (g .right) (g .window) (search parts) (limits .4))
+    (limit-valid (g .from) (limits .2)) (limit-valid (g .to) (limits .3)) (window-valid (g .right) (g .window) (ok .windows) (limits .4))
 
 every-entry : (es : List Entry) → T (every entry? es) → T (every (λ e. short (e .name) && is-value (e .value)) es) → T (every (λ e. valid-name (e .name) && is-value (e .value)) es)
 unfolding entry? valid-name
@@ -209,11 +188,12 @@ every-entry es t u =
     (λ e a b. and-both (name? (e .name) && short (e .name)) (is-value (e .value)) (and-both (name? (e .name)) (short (e .name)) a (search parts)) (search parts)) es t u
 
 -- and an accepted caller line gives a valid caller
-pub caller-stored : (rs : List Bytes) (es : List Entry) → T (line? (G.caller rs es)) → T (passes (caller-table rs es)) → T (valid-caller (record { roles = rs; profile = es }))
-unfolding line? caller-table valid-caller caller-bounded valid-name
-caller-stored rs es h t =
-    let b = pass-test _ (caller-bounded rs es) _ t in
-    let r = pass-test _ (distinct same-list rs && distinct same-list (entry-names es)) [] (pass-rest _ _ _ t) in
-    six (leb (length rs) max-roles) (every (λ n. name? n && short n) rs) (distinct same-list rs) (leb (length es) max-entries) (every (λ e. valid-name (e .name) && is-value (e .value)) es) (distinct same-list (entry-names es))
-    (search parts) (every-both name? short (λ n. name? n && short n) (λ n a b. and-both (name? n) (short n) a b) rs (search parts) (search parts)) (search parts)
-    (search parts) (every-entry es (search parts) (search parts)) (search parts)
+pub caller-stored : (w : Caller) → T (body? G.caller w) → T (passes (caller-checks w)) → T (valid-caller w)
+unfolding body? caller-checks valid-caller caller-bounded valid-name
+caller-stored w h t =
+    let b = pass-test _ (caller-bounded w) _ t in
+    let r = pass-test _ (distinct same-list (w .roles) && distinct same-list (entry-names (w .profile))) [] (pass-rest _ _ _ t) in
+    six (leb (length (w .roles)) max-roles) (every (λ n. name? n && short n) (w .roles)) (distinct same-list (w .roles))
+    (leb (length (w .profile)) max-entries) (every (λ e. valid-name (e .name) && is-value (e .value)) (w .profile)) (distinct same-list (entry-names (w .profile)))
+    (search parts) (every-both name? short (λ n. name? n && short n) (λ n a b. and-both (name? n) (short n) a b) (w .roles) (search parts) (search parts)) (search parts)
+    (search parts) (every-entry (w .profile) (search parts) (search parts)) (search parts)

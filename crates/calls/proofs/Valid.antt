@@ -1,28 +1,28 @@
 -- Calls from a fresh record keep it valid: 12 never comes of them. Times do not fall and are not past the clock.
-use mathlib.Core.Path.{_≡_, refl, sym, ap, _∙_, subst}
+use mathlib.Core.Path.{_≡_, refl, ap}
 use mathlib.Core.List.{List, [], _∷_, _++_, map}
 use mathlib.Core.Bool.{Bool, true, false, _&&_, _||_, not, cond}
-use mathlib.Core.Option.{Option, none, some, Option·some-injective, Option·none-ne-some}
-use Prim.Native.Nat.{ℕ, zero, suc, _+_, _≤_, _<_}
+use Prim.Native.Nat.{ℕ, zero, suc, _≤_, _<_}
 use native.Mathlib.Omega.{arith}
 use lib.IntN.{ℤ, pos, negsuc}
-use lib.Dec.{T, leb, ltb, eqb, leb→le, le→leb, ltb→lt, lt→ltb, nltb→le, nleb→lt, eqb→eq, eqb-refl}
-use lib.ListN.{length, set, length-append}
+use lib.Dec.{T, leb, ltb, eqb, leb→le, le→leb, ltb→lt, nltb→le, nleb→lt, eqb→eq, eqb-refl, not-T, T-not}
+use lib.ListN.{length, length-append}
+use Rattle.refusal.specs.Checks.{passes}
+use Rattle.refusal.proofs.Passing.{pass-first, pass-rest, pass-test}
 use Rattle.lists.specs.Lists.{every, some?, empty?, nth, distinct, same-list}
-use Rattle.lists.proofs.Laws.{parts, and-l, and-r, and-both, or-cases, T-true, T-false, same-list→eq, same-list-refl}
+use Rattle.lists.proofs.Laws.{parts, and-both, or-cases, not-not, not-or-l, not-or-r, every-append, same-list→eq, same-list-refl}
 use Rattle.syntax.specs.Grammar as G
-use Rattle.syntax.specs.Grammar.{Bytes, Line, name?, line?, line-text, some-all}
-use Rattle.syntax.specs.Readers.{bind, parse-line}
-use Rattle.syntax.proofs.Steps.{from}
-use Rattle.syntax.proofs.Lines.{line-parsed-printed}
-use Rattle.model.specs.Queries.{Stream, Schema, no-stream, Row, Record}
-use Rattle.calls.specs.Names.{stream-names, columns-named, natural}
-use Rattle.calls.specs.Bounds.{is-value, is-time, top, max-streams, max-columns, max-rows, short, stream-bounded}
+use Rattle.syntax.specs.Grammar.{Bytes, name?, body?, some-all}
+use Rattle.syntax.specs.Limits.{is-value, is-time, natural, top, max-streams, max-columns, max-rows, short}
+use Rattle.syntax.specs.Readers.{parse-as}
+use Rattle.syntax.proofs.Lines.{parsed-printed}
+use Rattle.model.specs.Queries.{Stream, Schema, Row, Record}
+use Rattle.calls.specs.Names.{stream-names, columns-named, stream-number}
+use Rattle.calls.specs.Bounds.{stream-bounded}
 use Rattle.calls.specs.Validity.{valid-name, reserved, free-name, valid-stream, valid-schema, steady, valid-row, valid-rows, rows-match, valid-record}
-use Rattle.calls.specs.Refusals.{Check, refuse, first, passes, written}
-use Rattle.calls.specs.Tables.{declared, stream-table, clock-table, row-table}
-use Rattle.calls.specs.Calls.{Call, stream, clock, row, clear, stream-of, read-stream, call-checks, with-stream, add-row, effect, next, run, fresh, after}
-use Rattle.calls.proofs.Passing.{not-not, not-or-l, not-or-r, pass-first, pass-rest, pass-test, written-passes}
+use Rattle.calls.specs.Tables.{declared, stream-checks, clock-checks, row-checks, row-line-checks}
+use Rattle.calls.specs.Calls.{Call, stream, clock, row, clear, clock-line, row-line, clear-line, call-checks, call-table, with-stream, with-clock, add-row, with-row, with-row-line, cleared, effect, next, replay, fresh, after}
+use Rattle.calls.proofs.Written.{written-passes}
 
 -- ---- rows
 
@@ -31,15 +31,14 @@ unfolding steady
 steady-later low k n [] h t = le→leb low n (let l = leb→le low k t in omega arith)
 steady-later low k n (r ∷ rs) h t = and-both (leb low (r .at)) (steady (r .at) n rs) (search parts) (steady-later (r .at) k n rs h (search parts))
 
-steady-add : (low k : ℕ) (vs : List ℤ) (rs : List Row) → T (steady low k rs) → T (steady low k (rs ++ (record { at = k; values = vs } ∷ [])))
+pub steady-add : (low k : ℕ) (vs : List ℤ) (rs : List Row) → T (steady low k rs) → T (steady low k (rs ++ (record { at = k; values = vs } ∷ [])))
 unfolding steady
 steady-add low k vs [] t = and-both (leb low k) (leb k k) t (le→leb k k (omega arith))
 steady-add low k vs (r ∷ rs) t = and-both (leb low (r .at)) (steady (r .at) k (rs ++ (record { at = k; values = vs } ∷ []))) (search parts) (steady-add (r .at) k vs rs (search parts))
 
-every-add : {A : Type 0} (p : A → Bool) (xs : List A) (x : A) → T (every p xs) → T (p x) → T (every p (xs ++ (x ∷ [])))
+pub every-add : {A : Type 0} (p : A → Bool) (xs : List A) (x : A) → T (every p xs) → T (p x) → T (every p (xs ++ (x ∷ [])))
 unfolding every
-every-add p [] x t u = and-both (p x) true u tt
-every-add p (y ∷ ys) x t u = and-both (p y) (every p (ys ++ (x ∷ []))) (search parts) (every-add p ys x (search parts) u)
+every-add p xs x t u = every-append p xs (x ∷ []) t (and-both (p x) true u tt)
 
 rows-later : (k n : ℕ) (d : Schema) (rss : List (List Row)) → k ≤ n → T (rows-match k d rss) → T (rows-match n d rss)
 unfolding rows-match valid-rows
@@ -53,7 +52,7 @@ rows-later k n (s ∷ d) (rs ∷ rss) h t =
     (rows-later k n d rss h (search parts))
 
 no-rows : (k w : ℕ) → T (valid-rows k w [])
-unfolding valid-rows steady every max-rows
+unfolding valid-rows steady every
 no-rows k w = and-both (leb 0 128 && leb 0 k) true (and-both (leb 0 128) (leb 0 k) tt (le→leb 0 k (omega arith))) tt
 
 rows-new : (k : ℕ) (s : Stream) (d : Schema) (rss : List (List Row)) → T (rows-match k d rss) → T (rows-match k (d ++ (s ∷ [])) (rss ++ ([] ∷ [])))
@@ -101,14 +100,14 @@ distinct-add n (m ∷ ns) t u =
     (apart ns (search parts) (not-or-l (same-list n m) (some? (same-list n) ns) u)) (distinct-add n ns (search parts) (not-or-r (same-list n m) (some? (same-list n) ns) u))
   where
     swap : T (not (same-list n m)) → T (not (same-list m n))
-    swap u = lib.Dec.not-T (same-list m n) (λ t. lib.Dec.T-not (same-list n m) u (rw (same-list→eq m n t) (same-list-refl n)))
+    swap u = not-T (same-list m n) (λ t. T-not (same-list n m) u (rw (same-list→eq m n t) (same-list-refl n)))
 
     apart : (ns : List Bytes) → T (not (some? (same-list m) ns)) → T (not (same-list n m)) → T (not (some? (same-list m) (ns ++ (n ∷ []))))
-    apart [] t u = lib.Dec.not-T (same-list m n || false) (λ v. or-cases (same-list m n) false v (λ w. lib.Dec.T-not (same-list m n) (swap u) w) (λ w. w))
+    apart [] t u = not-T (same-list m n || false) (λ v. or-cases (same-list m n) false v (λ w. T-not (same-list m n) (swap u) w) (λ w. w))
     apart (k ∷ ks) t u =
-        lib.Dec.not-T (same-list m k || some? (same-list m) (ks ++ (n ∷ []))) (λ v. or-cases (same-list m k) (some? (same-list m) (ks ++ (n ∷ []))) v
-        (λ w. lib.Dec.T-not (same-list m k) (not-or-l (same-list m k) (some? (same-list m) ks) t) w)
-        (λ w. lib.Dec.T-not (some? (same-list m) (ks ++ (n ∷ []))) (apart ks (not-or-r (same-list m k) (some? (same-list m) ks) t) u) w))
+        not-T (same-list m k || some? (same-list m) (ks ++ (n ∷ []))) (λ v. or-cases (same-list m k) (some? (same-list m) (ks ++ (n ∷ []))) v
+        (λ w. T-not (same-list m k) (not-or-l (same-list m k) (some? (same-list m) ks) t) w)
+        (λ w. T-not (some? (same-list m) (ks ++ (n ∷ []))) (apart ks (not-or-r (same-list m k) (some? (same-list m) ks) t) u) w))
 
 free-all : (ns : List Bytes) → T (every name? ns) → T (every short ns) → T (not (some? reserved ns)) → T (every free-name ns)
 unfolding every some? free-name valid-name
@@ -123,11 +122,11 @@ unfolding stream-names
 names-add [] s = refl
 names-add (r ∷ d) s = ap (λ l. r .name ∷ l) (names-add d s)
 
--- a stream line that passes its table declares a valid stream
-stream-fine : (d : Schema) (s : Stream) → T (line? (G.stream (s .name) (s .columns))) → T (passes (stream-table d (s .name) (s .columns))) → T (valid-stream s)
-unfolding line? stream-table valid-stream stream-bounded some-all every
+-- a stream line that passes its checks declares a valid stream
+pub stream-fine : (d : Schema) (s : Stream) → T (body? G.stream s) → T (passes (stream-checks d s)) → T (valid-stream s)
+unfolding body? stream-checks valid-stream stream-bounded some-all every
 stream-fine d s f t =
-    let b = pass-test _ (stream-bounded (s .name) (s .columns) && ltb (length d) max-streams) _ t in
+    let b = pass-test _ (stream-bounded s && ltb (length d) max-streams) _ t in
     let u = pass-rest _ _ _ t in
     let r = pass-first _ (declared d (s .name) || not (distinct same-list (s .columns))) _ u in
     let m = pass-first _ (some? reserved (s .name ∷ s .columns)) [] (pass-rest _ _ _ u) in
@@ -143,10 +142,10 @@ valid-made : (k : ℕ) (d : Schema) (rss : List (List Row)) → T (leb k top) �
 unfolding valid-record
 valid-made k d rss a b c = and-both (leb k top && valid-schema d) (rows-match k d rss) (and-both (leb k top) (valid-schema d) a b) c
 
-schema-add : (d : Schema) (s : Stream) → T (valid-schema d) → T (valid-stream s) → T (passes (stream-table d (s .name) (s .columns))) → T (valid-schema (d ++ (s ∷ [])))
-unfolding valid-schema stream-table declared
+schema-add : (d : Schema) (s : Stream) → T (valid-schema d) → T (valid-stream s) → T (passes (stream-checks d s)) → T (valid-schema (d ++ (s ∷ [])))
+unfolding valid-schema stream-checks declared
 schema-add d s v w t =
-    let b = pass-test _ (stream-bounded (s .name) (s .columns) && ltb (length d) max-streams) _ t in
+    let b = pass-test _ (stream-bounded s && ltb (length d) max-streams) _ t in
     let r = pass-first _ (declared d (s .name) || not (distinct same-list (s .columns))) _ (pass-rest _ _ _ t) in
     let l = ltb→lt (length d) max-streams (search parts) in
     let e = length-append d (s ∷ []) in
@@ -154,59 +153,65 @@ schema-add d s v w t =
     (and-both (leb (length (d ++ (s ∷ []))) max-streams) (every valid-stream (d ++ (s ∷ []))) (le→leb (length (d ++ (s ∷ []))) max-streams (omega arith)) (every-add valid-stream d s (search parts) w))
     (rw (names-add d s) (distinct-add (s .name) (stream-names d) (search parts) (not-or-l (declared d (s .name)) (not (distinct same-list (s .columns))) r)))
 
-stream-line : (l : Line) (s : Stream) → stream-of l ≡ some s → l ≡ G.stream (s .name) (s .columns)
-unfolding stream-of
-stream-line (G.stream n cs) s e = ap (λ r. G.stream (r .name) (r .columns)) (Option·some-injective _ s e)
-stream-line (G.grant g) s e = absurd (Option·none-ne-some s e)
-stream-line (G.clock n) s e = absurd (Option·none-ne-some s e)
-stream-line (G.row n vs) s e = absurd (Option·none-ne-some s e)
-stream-line G.clear s e = absurd (Option·none-ne-some s e)
-stream-line (G.caller rs es) s e = absurd (Option·none-ne-some s e)
-stream-line (G.ask q) s e = absurd (Option·none-ne-some s e)
-stream-line (G.line n q) s e = absurd (Option·none-ne-some s e)
-
-clock-top : (n : ℤ) → T (is-time n) → T (leb (natural n) top)
+pub time-top : (n : ℤ) → T (is-time n) → T (leb (natural n) top)
 unfolding is-time natural
-clock-top (pos n) t = t
-clock-top (negsuc n) t = absurd t
+time-top (pos n) t = t
+time-top (negsuc n) t = absurd t
 
-stream-read : (bs : Bytes) (s : Stream) → read-stream bs ≡ some s → T (line? (G.stream (s .name) (s .columns)))
-unfolding read-stream
-stream-read bs s e = from (parse-line bs) stream-of e (λ l p q. rw (stream-line l s q) at (line-parsed-printed bs l p .0))
+-- ---- what an accepted call leaves is valid
 
-pub valid-effect : (x : Record) (c : Call) → T (valid-record x) → T (passes (call-checks x c)) → T (valid-record (effect x c))
-unfolding valid-record call-checks effect clock-table row-table with-stream
+module _ (x : Record) (v : T (valid-record x)) where
+  pub stream-valid : (s : Stream) → T (body? G.stream s) → T (passes (stream-checks (x .schema) s)) → T (valid-record (record { clock = x .clock; schema = x .schema ++ (s ∷ []); rows = x .rows ++ ([] ∷ []) }))
+  unfolding valid-record
+  stream-valid s f t =
+      valid-made (x .clock) (x .schema ++ (s ∷ [])) (x .rows ++ ([] ∷ [])) (search parts) (schema-add (x .schema) s (search parts) (stream-fine (x .schema) s f t) t) (rows-new (x .clock) s (x .schema) (x .rows) (search parts))
+
+  pub clock-valid : (n : ℤ) → T (passes (clock-checks (x .clock) n)) → T (valid-record (record { clock = natural n; schema = x .schema; rows = x .rows }))
+  unfolding valid-record clock-checks
+  clock-valid n t =
+      let l = nltb→le (natural n) (x .clock) (pass-first _ (ltb (natural n) (x .clock)) [] (pass-rest _ _ _ t)) in
+      valid-made (natural n) (x .schema) (x .rows) (time-top n (pass-test _ (is-time n) _ t)) (search parts) (rows-later (x .clock) (natural n) (x .schema) (x .rows) l (search parts))
+
+  pub row-valid : (s : ℕ) (vs : List ℤ) → T (passes (row-checks x s vs)) → T (valid-record (with-row x s vs))
+  unfolding valid-record row-checks with-row
+  row-valid s vs t =
+      let d = pass-rest _ _ _ t in
+      let m = pass-rest _ _ _ d in
+      let l = nleb→lt (length (x .schema)) s (pass-first _ (leb (length (x .schema)) s) _ d) in
+      let e = eqb→eq (length vs) (length (columns-named (x .schema) s)) (pass-test _ (eqb (length vs) (length (columns-named (x .schema) s))) _ m) in
+      let f = nleb→lt max-rows (length (nth [] (x .rows) s)) (pass-first _ (leb max-rows (length (nth [] (x .rows) s))) [] (pass-rest _ _ _ m)) in
+      valid-made (x .clock) (x .schema) _ (search parts) (search parts) (rows-added (x .clock) vs s (x .schema) (x .rows) (search parts) l f e (pass-test _ (every is-value vs) _ t))
+
+  pub clear-valid : T (valid-record (cleared x))
+  unfolding valid-record cleared
+  clear-valid = valid-made (x .clock) (x .schema) _ (search parts) (search parts) (rows-gone (x .clock) (x .schema) (x .rows) (search parts))
+
+pub valid-effect : (x : Record) (c : Call) → T (valid-record x) → T (passes (call-table x c)) → T (valid-record (effect x c))
+unfolding call-table call-checks effect with-stream with-clock with-row-line row-line-checks
 valid-effect x (stream bs) v t =
-    written-passes 0 bs (read-stream bs) _ (pass-rest _ _ _ t)
-    (λ s e u. rw e (valid-made (x .clock) (x .schema ++ (s ∷ [])) (x .rows ++ ([] ∷ [])) (search parts) (schema-add (x .schema) s (search parts) (stream-fine (x .schema) s (stream-read bs s e) u) u) (rows-new (x .clock) s (x .schema) (x .rows) (search parts))))
-valid-effect x (clock n) v t =
-    let u = pass-rest _ _ _ t in
-    let l = nltb→le (natural n) (x .clock) (pass-first _ (ltb (natural n) (x .clock)) [] (pass-rest _ _ _ u)) in
-    valid-made (natural n) (x .schema) (x .rows) (clock-top n (pass-test _ (is-time n) _ u)) (search parts) (rows-later (x .clock) (natural n) (x .schema) (x .rows) l (search parts))
-valid-effect x (row s vs) v t =
-    let u = pass-rest _ _ _ t in
-    let d = pass-rest _ _ _ u in
-    let m = pass-rest _ _ _ d in
-    let l = nleb→lt (length (x .schema)) s (pass-first _ (leb (length (x .schema)) s) _ d) in
-    let e = eqb→eq (length vs) (length (columns-named (x .schema) s)) (pass-test _ (eqb (length vs) (length (columns-named (x .schema) s))) _ m) in
-    let f = nleb→lt max-rows (length (nth [] (x .rows) s)) (pass-first _ (leb max-rows (length (nth [] (x .rows) s))) [] (pass-rest _ _ _ m)) in
-    valid-made (x .clock) (x .schema) _ (search parts) (search parts) (rows-added (x .clock) vs s (x .schema) (x .rows) (search parts) l f e (pass-test _ (every is-value vs) _ u))
-valid-effect x clear v t = valid-made (x .clock) (x .schema) _ (search parts) (search parts) (rows-gone (x .clock) (x .schema) (x .rows) (search parts))
+    written-passes 0 bs (parse-as G.stream bs) _ (pass-rest _ _ _ t) (λ s e u. rw e (stream-valid x v s (parsed-printed G.stream bs s e .0) u))
+valid-effect x (clock n) v t = clock-valid x v n (pass-rest _ _ _ t)
+valid-effect x (row s vs) v t = row-valid x v s vs (pass-rest _ _ _ t)
+valid-effect x clear v t = clear-valid x v
+valid-effect x (clock-line bs) v t = written-passes 0 bs (parse-as G.clock bs) _ (pass-rest _ _ _ t) (λ n e u. rw e (clock-valid x v n u))
+valid-effect x (row-line bs) v t =
+    written-passes 0 bs (parse-as G.row bs) _ (pass-rest _ _ _ t) (λ w e u. rw e (row-valid x v (stream-number (x .schema) (w .name)) (w .values) (pass-rest _ _ _ u)))
+valid-effect x (clear-line bs) v t = clear-valid x v
 
 valid-next : (x : Record) (c : Call) → T (valid-record x) → T (valid-record (next x c))
 unfolding next
-valid-next x c v = go (passes (call-checks x c)) refl
+valid-next x c v = go (passes (call-table x c)) refl
   where
-    go : (b : Bool) → passes (call-checks x c) ≡ b → T (valid-record (cond b (effect x c) x))
+    go : (b : Bool) → passes (call-table x c) ≡ b → T (valid-record (cond b (effect x c) x))
     go true e = valid-effect x c v (rw e tt)
     go false e = v
 
-valid-run : (x : Record) (cs : List Call) → T (valid-record x) → T (valid-record (run x cs))
-unfolding run
-valid-run x [] v = v
-valid-run x (c ∷ cs) v = valid-run (next x c) cs (valid-next x c v)
+valid-replay : (x : Record) (cs : List Call) → T (valid-record x) → T (valid-record (replay x cs))
+unfolding replay
+valid-replay x [] v = v
+valid-replay x (c ∷ cs) v = valid-replay (next x c) cs (valid-next x c v)
 
 -- what a list of calls leaves is valid
 pub valid-after : (cs : List Call) → T (valid-record (after cs))
-unfolding after fresh valid-record valid-schema rows-match every distinct stream-names top max-streams
-valid-after cs = valid-run fresh cs tt
+unfolding after fresh valid-record valid-schema rows-match every distinct stream-names
+valid-after cs = valid-replay fresh cs tt

@@ -1,41 +1,31 @@
--- The checks in front of every line: what is lent, its length, its form and its brackets.
-use mathlib.Core.Path.{_≡_}
-use mathlib.Core.List.{List, _∷_}
-use mathlib.Core.Bool.{Bool, true, false, not}
+-- The checks in front of every line: its length, its form and its brackets.
+use mathlib.Core.Path.{_≡_, refl}
+use mathlib.Core.List.{List, []}
+use mathlib.Core.Bool.{true, false}
 use mathlib.Core.Option.{Option, none, some}
-use Prim.Native.Nat.{_≤_, _<_}
+use Prim.Native.Nat.{ℕ, _≤_}
+use lib.Dec.{T, nltb→le}
 use lib.ListN.{length}
-use borrow.Author.Tests.{lt-ltb, le-ltb, le-leb, lt-leb}
-use Rattle.refusal.specs.declared.Refusal.the-variants.{Lent, Bound, Malformed}
+use Rattle.refusal.specs.Checks.{Check, passes}
+use Rattle.refusal.proofs.Passing.{pass-first, pass-rest, pass-test}
 use Rattle.syntax.specs.Grammar.{Bytes}
-use Rattle.calls.specs.Bounds.{max-line, max-depth, depth-from, shallow}
-use Rattle.calls.specs.Refusals.{Check, refuse, first, written}
+use Rattle.syntax.specs.Limits.{max-line, shallow}
+use Rattle.calls.specs.Replies.{written}
 
--- what is lent is not sound
-pub first-lent : {sound : Bool} (cs : List Check) → sound ≡ false → first (refuse Lent (not sound) ∷ cs) ≡ some Lent
-unfolding first refuse
-first-lent cs e = rw e
+-- a written line that passes was read, and what was read passes its own checks
+pub written-passes : {A X : Type 0} (spare : ℕ) (bs : Bytes) (o : Option A) (checks : A → List Check)
+    → T (passes (written spare bs o checks)) → ((a : A) → o ≡ some a → T (passes (checks a)) → X) → X
+unfolding written
+written-passes spare bs none checks t k = absurd (pass-first _ true [] (pass-rest _ _ _ t))
+written-passes spare bs (some a) checks t k = k a refl (pass-rest _ _ (checks a) (pass-rest _ false _ (pass-rest _ _ _ t)))
 
--- where it is, the checks after it decide
-pub first-sound : {sound : Bool} (cs : List Check) → sound ≡ true → first (refuse Lent (not sound) ∷ cs) ≡ first cs
-unfolding first refuse
-first-sound cs e = rw e
+-- it is short, and its brackets do not nest too deep
+pub written-short : {A : Type 0} (spare : ℕ) (bs : Bytes) (o : Option A) (checks : A → List Check) → T (passes (written spare bs o checks)) → length bs ≤ max-line
+unfolding written
+written-short spare bs none checks t = nltb→le max-line (length bs) (pass-first _ _ _ t)
+written-short spare bs (some a) checks t = nltb→le max-line (length bs) (pass-first _ _ _ t)
 
-module _ {A : Type 0} (bs : Bytes) (checks : A → List Check) where
-  pub first-long : 512 < length bs → (o : Option A) → first (written 0 bs o checks) ≡ some Bound
-  unfolding written first refuse max-line
-  first-long h none = rw (lt-ltb 512 (length bs) h)
-  first-long h (some a) = rw (lt-ltb 512 (length bs) h)
-
-  pub first-malformed : length bs ≤ 512 → first (written 0 bs none checks) ≡ some Malformed
-  unfolding written first refuse max-line
-  first-malformed h = rw (le-ltb 512 (length bs) h)
-
-  pub first-deep : (a : A) → length bs ≤ 512 → 8 < depth-from 0 bs → first (written 0 bs (some a) checks) ≡ some Bound
-  unfolding written first refuse max-line shallow max-depth
-  first-deep a h k = rw (le-ltb 512 (length bs) h, lt-leb (depth-from 0 bs) 8 k)
-
-  -- past them the checks of what was read decide
-  pub first-table : (a : A) → length bs ≤ 512 → depth-from 0 bs ≤ 8 → first (written 0 bs (some a) checks) ≡ first (checks a)
-  unfolding written first refuse max-line shallow max-depth
-  first-table a h k = rw (le-ltb 512 (length bs) h, le-leb (depth-from 0 bs) 8 k)
+pub written-shallow : {A : Type 0} (spare : ℕ) (bs : Bytes) (o : Option A) (checks : A → List Check) → T (passes (written spare bs o checks)) → T (shallow spare bs)
+unfolding written
+written-shallow spare bs none checks t = absurd (pass-first _ true [] (pass-rest _ _ _ t))
+written-shallow spare bs (some a) checks t = pass-test _ (shallow spare bs) (checks a) (pass-rest _ false _ (pass-rest _ _ _ t))

@@ -1,8 +1,9 @@
 pub mod Names
 pub mod Bounds
 pub mod Validity
-pub mod Refusals
+pub mod Replies
 pub mod Tables
 pub mod Calls
-pub mod Queries
+pub mod Events
+pub mod Asking
 pub mod Scripts

@@ -1,15 +1,16 @@
 -- From names to numbers and back.
 use mathlib.Core.List.{List, [], _∷_, _++_, map}
-use mathlib.Core.Bool.{Bool, true, false, _&&_, _||_, cond}
+use mathlib.Core.Bool.{Bool, cond}
 use mathlib.Core.Option.{Option, none, some}
 use Prim.Native.Nat.{ℕ}
-use lib.IntN.{ℤ, pos, negsuc}
+use lib.IntN.{ℤ, pos}
 use lib.ListN.{length}
-use Rattle.lists.specs.Lists.{nth, some?, every, select, gather, position, same-list}
+use Rattle.lists.specs.Lists.{nth, select, gather, position, same-list}
 use Rattle.syntax.specs.Grammar as G
 use Rattle.syntax.specs.Grammar.{Bytes, bytes, Cond, Form, Ref, Operand, Test, GrantLine, Show, Span}
+use Rattle.syntax.specs.Limits.{natural, limits-compute}
 use Rattle.model.specs.Conditions.{tests, map-cond}
-use Rattle.model.specs.Queries.{Stream, Schema, no-stream, Col, col, figure, columns-of, Term, column, time, number, self, Compare, Query, source, pick, keep, join, aggregate, Grant}
+use Rattle.model.specs.Queries.{Schema, no-stream, Col, col, figure, columns-of, Term, column, time, number, self, Compare, Query, source, pick, keep, join, aggregate, Grant}
 use Rattle.model.specs.Checks.{has}
 use Rattle.model.specs.Answers.{answers-compute}
 
@@ -48,11 +49,6 @@ operand-of d (G.number z) = number z
 
 unfoldable pub compare-of : Schema → Test → Compare
 compare-of d t = record { op = t .op; left = term-of d (t .left); right = operand-of d (t .right) }
-
--- a number below 0 counts as 0: for a SIZE or OFFSET check 5 finds it, elsewhere check 3 has
-unfoldable pub natural : ℤ → ℕ
-natural (pos n) = n
-natural (negsuc n) = 0
 
 unfoldable pub resolve : Schema → Form → Query ℕ
 resolve d (G.rows s) = source (stream-number d s)
@@ -101,20 +97,20 @@ ref-of d (col s c) = G.dotted (nth no-stream d s .name) (nth [] (columns-named d
 ref-of d figure = G.figure
 
 -- no condition has a number on its left
-unfoldable pub left-of : Schema → Term → Ref
-left-of d (column c) = ref-of d c
-left-of d time = G.time
-left-of d (number z) = G.time
-left-of d (self n) = G.dotted (bytes "self") n
+unfoldable pub left-ref : Schema → Term → Ref
+left-ref d (column c) = ref-of d c
+left-ref d time = G.time
+left-ref d (number z) = G.time
+left-ref d (self n) = G.dotted (bytes "self") n
 
-unfoldable pub right-of : Schema → Term → Operand
-right-of d (column c) = G.ref (ref-of d c)
-right-of d time = G.ref G.time
-right-of d (number z) = G.number z
-right-of d (self n) = G.ref (G.dotted (bytes "self") n)
+unfoldable pub right-operand : Schema → Term → Operand
+right-operand d (column c) = G.ref (ref-of d c)
+right-operand d time = G.ref G.time
+right-operand d (number z) = G.number z
+right-operand d (self n) = G.ref (G.dotted (bytes "self") n)
 
 unfoldable pub test-of : Schema → Compare → Test
-test-of d t = record { op = t .op; left = left-of d (t .left); right = right-of d (t .right) }
+test-of d t = record { op = t .op; left = left-ref d (t .left); right = right-operand d (t .right) }
 
 unfoldable pub form-of : Schema → Query ℕ → Form
 form-of d (source s) = G.rows (nth no-stream d s .name)
@@ -138,6 +134,10 @@ cond-refs c = gather (λ t. t .left ∷ operand-refs (t .right)) (tests c)
 
 unfoldable pub cond-numbers : Cond Test → List ℤ
 cond-numbers c = gather (λ t. operand-numbers (t .right)) (tests c)
+
+unfoldable pub show-refs : Show → List Ref
+show-refs G.everything = []
+show-refs (G.listed rs) = rs
 
 unfoldable pub form-streams : Form → List Bytes
 form-streams (G.rows s) = s ∷ []
@@ -177,5 +177,5 @@ form-spans (G.aggregate f c size offset q) = record { size = size; offset = offs
 
 -- To unfold this is to unfold every definition above.
 unfoldable pub names-compute : Unit {0}
-unfolding answers-compute stream-names columns-named stream-number col-of is-self term-of column-of operand-of compare-of natural resolve shown-columns map-option size-of offset-of resolve-grant ref-of left-of right-of test-of form-of operand-refs operand-numbers cond-refs cond-numbers form-streams form-refs form-conds form-keeps form-spans
+unfolding answers-compute limits-compute stream-names columns-named stream-number col-of is-self term-of column-of operand-of compare-of resolve shown-columns map-option size-of offset-of resolve-grant ref-of left-ref right-operand test-of form-of operand-refs operand-numbers cond-refs cond-numbers show-refs form-streams form-refs form-conds form-keeps form-spans
 names-compute = tt

@@ -1,4 +1,4 @@
--- The refusal table, line form by line form: checks 3, 2, 6, 4, 5, 7 and 8, in that order. What goes before them and after them stands with the calls.
+-- The checks of what a line says, line form by line form: 3, 2, 6, 4, 5, 7 and 8, in that order. What goes before them and after them stands with the calls.
 use mathlib.Core.List.{List, [], _∷_, _++_, map}
 use mathlib.Core.Bool.{Bool, true, false, _&&_, _||_, not}
 use mathlib.Core.Option.{Option, none, some}
@@ -6,17 +6,18 @@ use Prim.Native.Nat.{ℕ}
 use lib.IntN.{ℤ}
 use lib.Dec.{leb, ltb, eqb}
 use lib.ListN.{length}
-use Rattle.refusal.specs.declared.Refusal.{Refusal}
 use Rattle.refusal.specs.declared.Refusal.the-variants.{Bound, Undeclared, Repeated, Misplaced, WindowSize, ClockBack, StreamFull}
+use Rattle.refusal.specs.Checks.{Check, refuse}
 use Rattle.lists.specs.Lists.{every, some?, gather, distinct, nth, same-list}
 use Rattle.syntax.specs.Grammar as G
-use Rattle.syntax.specs.Grammar.{Bytes, Ref, Show, Span, Right, Form, GrantLine, Entry}
+use Rattle.syntax.specs.Grammar.{Bytes, Ref, Span, Right, Form, Stream, RowLine, Caller, GrantLine}
+use Rattle.syntax.specs.Limits.{max-streams, max-rows, max-grants, is-value, is-time, natural}
 use Rattle.model.specs.Queries.{Schema, columns-of, Record, Grant}
 use Rattle.model.specs.Checks.{within, placed, sized, grant-placed}
-use Rattle.calls.specs.Names.{stream-names, columns-named, stream-number, is-self, column-of, natural, resolve, resolve-grant, cond-refs, form-streams, form-refs, form-keeps}
-use Rattle.calls.specs.Bounds.{max-streams, max-rows, max-grants, short, is-value, is-time, form-bounded, stream-bounded, grant-bounded, caller-bounded}
+use Rattle.calls.specs.Names.{stream-names, columns-named, stream-number, is-self, column-of, resolve, resolve-grant, cond-refs, show-refs, form-streams, form-refs, form-keeps}
+use Rattle.calls.specs.Bounds.{form-bounded, stream-bounded, row-bounded, grant-bounded, caller-bounded}
 use Rattle.calls.specs.Validity.{reserved, entry-names}
-use Rattle.calls.specs.Refusals.{Check, refuse, refusals-compute}
+use Rattle.calls.specs.Replies.{replies-compute}
 
 -- ---- names
 
@@ -40,35 +41,36 @@ same-ref G.figure (G.dotted k l) = false
 same-ref G.figure G.time = false
 same-ref G.figure G.figure = true
 
-unfoldable pub show-refs : Show → List Ref
-show-refs G.everything = []
-show-refs (G.listed rs) = rs
-
 -- ---- (stream S C ..)
 
-unfoldable pub stream-table : Schema → Bytes → List Bytes → List Check
-stream-table d s cs =
-    refuse Bound (not (stream-bounded s cs && ltb (length d) max-streams))
-    ∷ refuse Repeated (declared d s || not (distinct same-list cs))
-    ∷ refuse Misplaced (some? reserved (s ∷ cs))
+unfoldable pub stream-checks : Schema → Stream → List Check
+stream-checks d s =
+    refuse Bound (not (stream-bounded s && ltb (length d) max-streams))
+    ∷ refuse Repeated (declared d (s .name) || not (distinct same-list (s .columns)))
+    ∷ refuse Misplaced (some? reserved (s .name ∷ s .columns))
     ∷ []
 
 -- ---- the clock and rows
 
-unfoldable pub clock-table : Record → ℤ → List Check
-clock-table x n =
+-- a time for a clock
+unfoldable pub clock-checks : ℕ → ℤ → List Check
+clock-checks clock n =
     refuse Bound (not (is-time n))
-    ∷ refuse ClockBack (ltb (natural n) (x .clock))
+    ∷ refuse ClockBack (ltb (natural n) clock)
     ∷ []
 
 -- a row of a stream by its number
-unfoldable pub row-table : Record → ℕ → List ℤ → List Check
-row-table x s vs =
+unfoldable pub row-checks : Record → ℕ → List ℤ → List Check
+row-checks x s vs =
     refuse Bound (not (every is-value vs))
     ∷ refuse Undeclared (leb (length (x .schema)) s)
     ∷ refuse Misplaced (not (eqb (length vs) (length (columns-named (x .schema) s))))
     ∷ refuse StreamFull (leb max-rows (length (nth [] (x .rows) s)))
     ∷ []
+
+-- a row of a stream by its name
+unfoldable pub row-line-checks : Record → RowLine → List Check
+row-line-checks x w = refuse Bound (not (row-bounded w)) ∷ row-checks x (stream-number (x .schema) (w .name)) (w .values)
 
 -- ---- (grant ..)
 
@@ -82,8 +84,8 @@ window-allowed (G.figures f) w = true
 unfoldable pub show-placed : Schema → GrantLine → Bool
 show-placed d g = within (map (column-of d) (show-refs (g .show))) (gather (columns-of d) (map (stream-number d) (g .of)))
 
-unfoldable pub grant-table : Schema → List Grant → GrantLine → List Check
-grant-table d gs g =
+unfoldable pub grant-checks : Schema → List Grant → GrantLine → List Check
+grant-checks d gs g =
     refuse Bound (not (grant-bounded g && ltb (length gs) max-grants))
     ∷ refuse Undeclared (not (every (declared d) (g .of) && every (ref-declared d) (show-refs (g .show) ++ gather cond-refs (g .when))))
     ∷ refuse Repeated (not (distinct same-list (g .of) && distinct same-ref (show-refs (g .show))))
@@ -92,10 +94,10 @@ grant-table d gs g =
 
 -- ---- (caller ..)
 
-unfoldable pub caller-table : List Bytes → List Entry → List Check
-caller-table rs es =
-    refuse Bound (not (caller-bounded rs es))
-    ∷ refuse Repeated (not (distinct same-list rs && distinct same-list (entry-names es)))
+unfoldable pub caller-checks : Caller → List Check
+caller-checks w =
+    refuse Bound (not (caller-bounded w))
+    ∷ refuse Repeated (not (distinct same-list (w .roles) && distinct same-list (entry-names (w .profile))))
     ∷ []
 
 -- ---- queries
@@ -103,8 +105,8 @@ caller-table rs es =
 unfoldable pub query-declared : Schema → Form → Bool
 query-declared d q = every (declared d) (form-streams q) && every (ref-declared d) (form-refs q)
 
-unfoldable pub query-table : Schema → Form → List Check
-query-table d q =
+unfoldable pub query-checks : Schema → Form → List Check
+query-checks d q =
     refuse Bound (not (form-bounded q))
     ∷ refuse Undeclared (not (query-declared d q))
     ∷ refuse Repeated (not (every (distinct same-ref) (form-keeps q)))
@@ -114,5 +116,5 @@ query-table d q =
 
 -- To unfold this is to unfold every definition above.
 unfoldable pub tables-compute : Unit {0}
-unfolding refusals-compute declared ref-declared same-ref show-refs stream-table clock-table row-table window-allowed show-placed grant-table caller-table query-declared query-table
+unfolding replies-compute declared ref-declared same-ref stream-checks clock-checks row-checks row-line-checks window-allowed show-placed grant-checks caller-checks query-declared query-checks
 tables-compute = tt

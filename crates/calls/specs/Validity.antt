@@ -1,7 +1,7 @@
 -- Refusal 12: what may be lent to a call. Counts and numbers are within their bounds, names are names, streams and columns exist, terms stand where they may,
 -- and times neither fall nor pass the clock. All that calls and accepted lines make is valid.
 use mathlib.Core.List.{List, [], _∷_}
-use mathlib.Core.Bool.{Bool, true, false, _&&_, _||_, not}
+use mathlib.Core.Bool.{Bool, true, false, _&&_, not}
 use mathlib.Core.Option.{Option, none, some}
 use Prim.Native.Nat.{ℕ}
 use lib.Dec.{leb, ltb, eqb}
@@ -12,7 +12,8 @@ use Rattle.model.specs.Conditions.{tests}
 use Rattle.model.specs.Queries.{Stream, Schema, Term, column, time, number, self, Compare, Grant, Caller, Row, Record}
 use Rattle.model.specs.Checks.{grant-placed}
 use Rattle.calls.specs.Names.{stream-names}
-use Rattle.calls.specs.Bounds.{short, is-value, top, max-streams, max-columns, max-rows, max-grants, max-roles, max-entries, bounds-compute}
+use Rattle.syntax.specs.Limits.{short, is-value, top, max-streams, max-columns, max-rows, max-grants, max-roles, max-entries}
+use Rattle.calls.specs.Bounds.{bounds-compute}
 
 unfoldable pub valid-name : Bytes → Bool
 valid-name n = name? n && short n

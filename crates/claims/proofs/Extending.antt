@@ -1,30 +1,28 @@
 -- A stream declared later changes nothing of what was declared before: names keep their numbers, and grants stay as they were.
 use mathlib.Core.Path.{_≡_, refl, sym, ap, ap₂, _∙_}
 use mathlib.Core.List.{List, [], _∷_, _++_, map}
-use mathlib.Core.Bool.{Bool, true, false, _&&_, _||_, not, cond}
-use Prim.Native.Nat.{ℕ, zero, suc, _<_}
+use mathlib.Core.Bool.{Bool, true, false, _&&_, _||_, cond}
+use Prim.Native.Nat.{ℕ, _<_}
 use native.Mathlib.Omega.{arith}
 use lib.Dec.{T, ltb, ltb→lt, lt→ltb}
 use lib.ListN.{length, length-append}
-use Rattle.refusal.specs.declared.Refusal.{Refusal}
-use Rattle.lists.specs.Lists.{every, some?, select, nth, distinct, gather, same-list, position}
-use Rattle.lists.proofs.Laws.{parts, and-both, or-l, or-r, or-cases, T-true, All, all-nil, all-cons, all-head, all-tail, all-weaken, all-left, all-right, all-any, all-gather, every-all, every-both, every-map, every-append-l, every-weaken, nth-before, some-before, map-same, position-before, gather-same}
+use Rattle.lists.specs.Lists.{every, some?, select, nth, gather, same-list, position}
+use Rattle.lists.proofs.Laws.{parts, and-both, or-l, or-r, or-cases, T-true, All, all-nil, all-cons, all-head, all-tail, all-weaken, all-left, all-right, all-any, all-gather, every-all, every-map, every-append-l, every-weaken, nth-before, some-before, map-same, position-before, gather-same}
 use Rattle.syntax.specs.Grammar as G
-use Rattle.syntax.specs.Grammar.{Bytes, Cond, test, all, any, neg, Conds, last, more, Ref, Operand, Test, Show, GrantLine}
-use Rattle.model.specs.Conditions.{tests, tests-of, map-cond, map-conds}
+use Rattle.syntax.specs.Grammar.{Bytes, Cond, Ref, Operand, Test, Show, GrantLine}
+use Rattle.syntax.specs.Limits.{natural}
+use Rattle.model.specs.Conditions.{tests, map-cond}
 use Rattle.model.specs.Queries.{Stream, Schema, no-stream, col, columns-of, column, self, Grant}
 use Rattle.model.specs.Checks.{has, grant-placed}
 use Rattle.model.proofs.Conditions.{cond-same}
-use Rattle.calls.specs.Names.{stream-names, columns-named, stream-number, col-of, is-self, term-of, column-of, operand-of, compare-of, natural, shown-columns, map-option, size-of, offset-of, resolve-grant, operand-refs, cond-refs}
-use Rattle.calls.specs.Bounds.{grant-bounded, max-grants}
+use Rattle.calls.specs.Names.{stream-names, columns-named, stream-number, col-of, is-self, term-of, column-of, operand-of, compare-of, shown-columns, map-option, size-of, offset-of, resolve-grant, operand-refs, cond-refs, show-refs}
 use Rattle.calls.specs.Validity.{valid-grant}
-use Rattle.calls.specs.Refusals.{Check, refuse, passes}
-use Rattle.calls.specs.Tables.{declared, ref-declared, same-ref, show-refs, window-allowed, show-placed, grant-table}
-use Rattle.calls.proofs.Passing.{pass, pass-put}
+use Rattle.calls.specs.Tables.{declared, ref-declared, show-placed}
+use Rattle.calls.proofs.Accepted.{grant-accepted, grant-passes}
 use Rattle.calls.proofs.Valid.{names-add}
 use Rattle.calls.proofs.Stored.{below}
-use Rattle.claims.proofs.Naming.{Known, columns-known, all-within, unknown}
-use Rattle.claims.proofs.Lengths.{Written}
+use Rattle.claims.proofs.Known.{Known, columns-known, all-within, unknown}
+use Rattle.claims.proofs.Fitting.{Written}
 
 -- ---- streams and columns
 
@@ -184,25 +182,24 @@ module _ (d : Schema) (s : Stream) where
 
   -- and so does what an accepted line made
   pub written-later : (g : Grant) → Written d g → Written (d ++ (s ∷ [])) g
-  unfolding grant-table
   written-later g w =
       let t = w .text in
-      let (b, h₁) = pass _ (grant-bounded t && ltb 0 max-grants) _ (w .passed) in
-      let (n, h₂) = pass _ (every (declared d) (t .of) && every (ref-declared d) (show-refs (t .show) ++ gather cond-refs (t .when))) _ h₁ in
-      let (o, h₃) = pass _ (distinct same-list (t .of) && distinct same-ref (show-refs (t .show))) _ h₂ in
-      let (p, h₄) = pass _ (show-placed d t && (grant-placed d (resolve-grant d t) && window-allowed (t .right) (t .window))) _ h₃ in
-      let e = resolve-later t (search parts) (search parts) (shown-known t (search parts)) in
-      let q : T (grant-placed later (resolve-grant later t)) = rw (e, placed-later (resolve-grant d t) (unfold resolve-grant in streams-below t (search parts) (search parts))) (search parts) in
+      let ok = grant-accepted d [] t (w .passed) in
+      let e = resolve-later t (ok .streams) (ok .refs) (shown-known t (ok .shows)) in
       record {
         text = t;
         formed = w .formed;
         fits = w .fits;
-        passed =
-            pass-put _ (grant-bounded t && ltb 0 max-grants) _ b
-            (pass-put _ (every (declared later) (t .of) && every (ref-declared later) (show-refs (t .show) ++ gather cond-refs (t .when))) _
-            (and-both (every (declared later) (t .of)) _ (every-weaken (declared d) (declared later) declared-later (t .of) (search parts)) (every-weaken (ref-declared d) (ref-declared later) ref-later _ (search parts)))
-            (pass-put _ (distinct same-list (t .of) && distinct same-ref (show-refs (t .show))) _ o
-            (pass-put _ (show-placed later t && (grant-placed later (resolve-grant later t) && window-allowed (t .right) (t .window))) []
-            (and-both (show-placed later t) _ (show-placed-later t (search parts) (search parts) (search parts)) (and-both (grant-placed later (resolve-grant later t)) _ q (search parts))) h₄)));
+        passed = grant-passes later [] t (record {
+          bounded = ok .bounded;
+          room = ok .room;
+          streams = every-weaken (declared d) (declared later) declared-later (t .of) (ok .streams);
+          refs = every-weaken (ref-declared d) (ref-declared later) ref-later _ (ok .refs);
+          once = ok .once;
+          shown-once = ok .shown-once;
+          shows = show-placed-later t (ok .streams) (ok .refs) (ok .shows);
+          places = rw (e, placed-later (resolve-grant d t) (unfold resolve-grant in streams-below t (ok .streams) (ok .refs))) (ok .places);
+          windows = ok .windows;
+        });
         made = w .made ∙ sym e;
       }

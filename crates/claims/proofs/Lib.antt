@@ -1,7 +1,9 @@
 pub mod Claims
-pub mod Naming
+pub mod Known
+pub mod Named
+pub mod Resolved
 pub mod Printed
-pub mod Lengths
+pub mod Fitting
 pub mod Extending
 pub mod Running
-pub mod Traces
+pub mod Witnesses

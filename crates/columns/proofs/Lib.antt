@@ -1,5 +1,8 @@
 pub mod Loops
-pub mod Ends
+pub mod Closing
 pub mod StreamLists
+pub mod Entries
 pub mod ColumnLists
-pub mod Resolving
+pub mod Repeats
+pub mod Declared
+pub mod ColumnBits

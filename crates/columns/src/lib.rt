@@ -1,10 +1,11 @@
 // Lists of streams and of columns of a line, resolved by the names of a schema.
 ghost use mathlib.Core.Path.{_≡_};
-ghost use mathlib.Core.Bool.{_&&_};
 ghost use lib.Dec.{eqb};
-ghost use lib.ListN.{getD, drop};
-ghost use Rattle.columns.specs.Columns.{stream-in, no-streams, stream-added, streams-ended, streams-at, ends-by, again-at, no-columns, column-added, columns-ended, columns-at};
-use terms::Reference;
+ghost use lib.ListN.{length, take, drop};
+ghost use Rattle.lists.specs.Lists.{some?};
+ghost use Rattle.columns.specs.Columns.{no-streams, stream-added, streams-ended, streams-at, ends-by, max-own, again-in, kept-in, no-columns, column-added, columns-ended, columns-at};
+use schema::Stream;
+use terms::Term;
 
 // Streams by their places in the schema.
 pub struct Streams {
@@ -14,7 +15,12 @@ pub struct Streams {
     pub unknown: bool,
     pub repeated: bool,
     pub count: u32,
-    pub places: [u32; 4],
+    pub places: [u32; Stream::MOST],
+}
+
+impl Streams {
+    // The count of more streams than there can be.
+    pub const OVER: u32 = Stream::MOST as u32 + 1;
 }
 
 // Columns, by their codes as bits of a mask.
@@ -27,25 +33,9 @@ pub struct Columns {
     pub mask: u32,
 }
 
-// The name at a place, 0 past the last.
-fn name_in(ks: &[u64], i: usize) -> u64
-    ensures { λ r. ⌜ r ≡ getD (now (ks .entry)) i 0 ⌝ }
-{
-    if i < ks.len() { ks[i] } else { 0 }
-}
-
-// The place of a stream among the four by the number of its name, or 4.
-fn stream_in(ks: &[u64], n: u64) -> u32
-    ensures { λ r. ⌜ r ≡ stream-in (now (ks .entry)) n ⌝ }
-{
-    let mut i: u32 = 0;
-    while i < 4 {
-        if name_in(ks, i as usize) == n {
-            return i;
-        }
-        i += 1;
-    }
-    4
+impl Columns {
+    // How many profile entries of a list are told apart: a written line has room for no more.
+    pub const OWN: usize = 72;
 }
 
 // Whether a list ends at a place: at a closing bracket, or before a space and an opening bracket.
@@ -64,8 +54,8 @@ fn ends_at(s: &[u8], i: usize, form: bool) -> bool
     text::byte(s, i + 1) == b'('
 }
 
-// No stream was read.
-fn no_streams() -> Streams
+// Returns what is read where there is no list of streams.
+pub fn no_streams() -> Streams
     ensures { λ r. ⌜ r ≡ no-streams ⌝ }
 {
     Streams {
@@ -75,7 +65,7 @@ fn no_streams() -> Streams
         unknown: false,
         repeated: false,
         count: 0,
-        places: [0; 4],
+        places: [0; Stream::MOST],
     }
 }
 
@@ -84,18 +74,18 @@ fn with_stream(r: Streams, long: bool, place: u32, again: bool) -> Streams
     ensures { λ x. ⌜ x ≡ stream-added r long place again ⌝ }
 {
     let over = text::either(r.over, long);
-    let unknown = text::either(r.unknown, place == 4);
+    let unknown = text::either(r.unknown, place == Stream::MOST as u32);
     let repeated = text::either(r.repeated, again);
     let at = r.count as usize;
     let mut places = r.places;
-    if 4 <= at {
+    if Stream::MOST <= at {
         return Streams {
             ok: r.ok,
             next: r.next,
             over: over,
             unknown: unknown,
             repeated: repeated,
-            count: 5,
+            count: Streams::OVER,
             places: places,
         };
     }
@@ -127,9 +117,9 @@ fn streams_ended(r: Streams, at: usize) -> Streams
     }
 }
 
-// The streams at a place.
-pub fn streams_at(s: &[u8], at: usize, ks: &[u64]) -> Streams
-    ensures { λ r. ⌜ r ≡ streams-at (now (ks .entry)) (now (s .entry)) at ⌝ }
+// Returns the streams at a place up to a closing bracket, and the place of that; `ok` is false where there is no such list, and all else 0.
+pub fn streams_at(s: &[u8], at: usize, names: &[u64]) -> Streams
+    ensures { λ r. ⌜ r ≡ streams-at (now (names .entry)) (now (s .entry)) at ⌝ }
 {
     let mut r = no_streams();
     let mut seen: u32 = 0;
@@ -145,7 +135,7 @@ pub fn streams_at(s: &[u8], at: usize, ks: &[u64]) -> Streams
         if !n.ok {
             return no_streams();
         }
-        let place = stream_in(ks, n.code);
+        let place = terms::stream_place(names, n.code);
         let again = masks::shows(seen, place);
         r = with_stream(r, n.long, place, again);
         seen = masks::with(seen, place);
@@ -154,37 +144,50 @@ pub fn streams_at(s: &[u8], at: usize, ks: &[u64]) -> Streams
     no_streams()
 }
 
-// Whether a column has the two numbers.
-fn same_column(c: Reference, first: u64, second: u64) -> bool
-    ensures { λ r. ⌜ r ≡ (eqb first (c .first) && eqb second (c .second)) ⌝ }
+// Whether a number is one of the first k.
+fn among(own: &[u64], k: usize, code: u64) -> bool
+    ensures { λ r. ⌜ r ≡ some? (eqb code) (take k (now (own .entry))) ⌝ }
 {
-    if first != c.first {
-        return false;
-    }
-    second == c.second
-}
-
-// Whether the two numbers are those of a column at a place or after it.
-fn again_at(s: &[u8], at: usize, first: u64, second: u64, form: bool) -> bool
-    ensures { λ r. ⌜ r ≡ again-at form (now (s .entry)) at first second ⌝ }
-{
-    let mut found = false;
-    let mut i = at;
-    while i < s.len() {
-        if ends_at(s, i, form) {
-            return found;
-        }
-        if s[i] != b' ' {
+    let mut i: usize = 0;
+    while i < own.len() {
+        if k <= i {
             return false;
         }
-        let c = terms::ref_at(s, i + 1);
-        if !c.ok {
-            return false;
+        if own[i] == code {
+            return true;
         }
-        found = text::either(found, same_column(c, first, second));
-        i = c.next;
+        i += 1;
     }
     false
+}
+
+// Whether a column was seen before: by its code, or a profile entry by its name among the first k.
+fn again(mask: u32, own: &[u64], k: usize, code: u32, second: u64) -> bool
+    requires { ⌜ length (now own) ≡ max-own ⌝ }
+    ensures { λ r. ⌜ r ≡ again-in mask (take k (now (own .entry))) code second ⌝ }
+{
+    if code != Term::ENTRY {
+        return masks::shows(mask, code);
+    }
+    if Columns::OWN <= k {
+        return true;
+    }
+    among(own, k, second)
+}
+
+// The first k names with that of one more column, where it is a profile entry and there is room for it; how many they are.
+fn keep(own: &mut [u64], k: usize, code: u32, second: u64) -> usize
+    requires { ⌜ length (now own) ≡ max-own ⌝ }
+    ensures { λ r. ⌜ take r (now (own .exit)) ≡ kept-in (take k (now (own .entry))) code second ⌝ }
+{
+    if code != Term::ENTRY {
+        return k;
+    }
+    if Columns::OWN <= k {
+        return k;
+    }
+    own[k] = second;
+    k + 1
 }
 
 // No column was read.
@@ -206,7 +209,7 @@ fn with_column(r: Columns, over: bool, code: u32, again: bool) -> Columns
     ensures { λ x. ⌜ x ≡ column-added r over code again ⌝ }
 {
     let wide = text::either(r.over, over);
-    let unknown = text::either(r.unknown, code == 28);
+    let unknown = text::either(r.unknown, code == Term::UNKNOWN);
     let repeated = text::either(r.repeated, again);
     let mask = masks::with(r.mask, code);
     Columns {
@@ -233,11 +236,13 @@ fn columns_ended(r: Columns, at: usize) -> Columns
     }
 }
 
-// The columns at a place.
-pub fn columns_at(s: &[u8], at: usize, ks: &[u64], form: bool) -> Columns
-    ensures { λ r. ⌜ r ≡ columns-at (now (ks .entry)) form (now (s .entry)) at ⌝ }
+// Returns the columns at a place up to a closing bracket, or up to a form where `form`, and the place of that; `ok` is false where there is no such list, and all else 0.
+pub fn columns_at(s: &[u8], at: usize, names: &[u64], form: bool) -> Columns
+    ensures { λ r. ⌜ r ≡ columns-at (now (names .entry)) form (now (s .entry)) at ⌝ }
 {
     let mut r = no_columns();
+    let mut own = [0u64; Columns::OWN];
+    let mut k: usize = 0;
     let mut i = at;
     while i < s.len() {
         if ends_at(s, i, form) {
@@ -250,9 +255,10 @@ pub fn columns_at(s: &[u8], at: usize, ks: &[u64], form: bool) -> Columns
         if !c.ok {
             return no_columns();
         }
-        let code = terms::term_code(ks, c.first, c.second);
-        let again = again_at(s, c.next, c.first, c.second, form);
-        r = with_column(r, c.over, code, again);
+        let code = terms::term_code(names, c.first, c.second);
+        let seen = again(r.mask, &own, k, code, c.second);
+        k = keep(&mut own, k, code, c.second);
+        r = with_column(r, c.over, code, seen);
         i = c.next;
     }
     no_columns()

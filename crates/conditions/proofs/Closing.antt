@@ -1,149 +1,257 @@
--- A comparison, and a closing bracket after what is inside.
-use mathlib.Core.Path.{_≡_, refl, sym, ap, _∙_}
+-- What is told of a comparison, and of conditions inside brackets by what is told of those inside.
+use mathlib.Core.Path.{_≡_, refl, sym, ap, ap₂, _∙_}
 use mathlib.Core.List.{List}
-use mathlib.Core.Bool.{Bool, true, false, cond}
+use mathlib.Core.Bool.{Bool, true, false, _&&_, not, cond}
 use mathlib.Core.Option.{Option, none, some}
-use Prim.Native.Nat.{ℕ, suc, _+_, _-_, _≤_, _<_}
+use Prim.Native.Nat.{ℕ, suc, _+_, _-_, _≤_}
 use native.Mathlib.Omega.{arith}
-use native.Mathlib.Numerals.{add-one}
-use lib.Dec.{leb, ltb}
-use lib.ListN.{length, drop, length-drop}
-use borrow.Author.Tests.{ne-eqb, lt-leb, le-leb, leb-true, leb-false, ltb-true, ltb-false}
+use lib.Dec.{leb, eqb, leb·suc-suc}
+use lib.ListN.{length, drop, getD, length-drop}
+use borrow.Author.Tests.{ne-eqb, eqb-true, eqb-false, le-leb}
 use Rattle.lists.specs.Lists.{some?}
 use Rattle.syntax.specs.Grammar.{Bytes, Op, eq, Ref, Operand, Test, Cond, test}
-use Rattle.syntax.specs.Readers.{Read, bind, _>>_, _>>=_, give, byte, read-test}
+use Rattle.syntax.specs.Limits.{cond-depth}
+use Rattle.syntax.specs.Readers.{Read, bind, byte, read-test}
 use Rattle.model.specs.Conditions.{tests, map-cond}
-use Rattle.shape.specs.Ends.{end-at}
-use Rattle.shape.proofs.Places.{cuts-byte, ended-cases}
-use Rattle.terms.specs.Terms.{test-over, left-code, right-code, test-value, no-comparison, comparison-of, comparison-from, comparison-read, comparison-at}
+use Rattle.text.specs.Keywords.{op-number}
+use Rattle.text.proofs.Runs.{inside}
+use Rattle.text.proofs.Places.{byte-is, byte-not}
+use Rattle.terms.specs.declared.Comparison.{Comparison}
+use Rattle.terms.specs.Terms.{test-over, left-code, right-code, test-value, comparison-of, comparison-at}
+use Rattle.terms.proofs.Sides.{comparison-none, comparison-some}
+use Rattle.nodes.specs.Nodes.{node-words}
 use Rattle.nodes.specs.Storing.{put-node, size, store, inner-node}
 use Rattle.nodes.specs.Storing as N
+use Rattle.nodes.proofs.Puts.{length-put}
+use Rattle.nodes.proofs.Tests.{or-false}
 use Rattle.conditions.specs.declared.Seen.{Seen}
-use Rattle.conditions.specs.Seeing.{op-number, test-node, nodes-of, test-unknown, nothing-seen, seen-of, cond-seen, cond-stored}
-use Rattle.conditions.specs.Steps.{compared-seen, compared-stored, closed-seen, closed-stored}
-use Rattle.conditions.proofs.Folds.{or-false, left-small, right-small, mask-one}
+use Rattle.conditions.specs.Seeing.{test-node, nodes-of, test-unknown, nothing-seen, deep-seen, seen-of}
+use Rattle.conditions.specs.Steps.{Answers, counted, compared-node, compared-seen, compared-stored, closed-seen, closed-stored, Kind, one, told, put-read, ReadIn}
+use Rattle.conditions.proofs.Leaves.{never, by-test, and-false}
+use Rattle.conditions.proofs.Folds.{left-small, right-small, mask-one}
 
-pub ok-none : {r : Seen} → r ≡ nothing-seen → r .ok ≡ true → ⊥
+-- ---- what is told
+
+pub unread-ok : {r : Seen} {X : Type 0} → r ≡ nothing-seen → r .ok ≡ true → X
 unfolding nothing-seen
-ok-none {r} e f =
-    let p : false ≡ r .ok = sym (ap (λ x. x .ok) e) in
-    let q : _≡_ {A = ℕ} 0 1 = ap (λ t. cond t 1 0) (p ∙ f) in
-    omega arith
+unread-ok e o = never (sym o ∙ ap (λ x. x .ok) e)
 
-pub false-true : {X : Type 0} → false ≡ true → X
-false-true e = absurd (let q : _≡_ {A = ℕ} 0 1 = ap (λ t. cond t 1 0) e in omega arith)
+few-near : (ks : List ℕ) (ts : List Test) (q n : ℕ) {i : Seen} → i ≡ seen-of ks ts q (counted n) → i .count ≤ 256
+unfolding seen-of counted
+few-near ks ts q n e = let c = ap (λ x. x .count) e in omega arith
 
-pub by-test : {X : Type 0} (t : Bool) → (t ≡ true → X) → (t ≡ false → X) → X
-by-test true f g = f refl
-by-test false f g = g refl
+pub few-deep : (q : ℕ) {i : Seen} → i ≡ deep-seen q → i .count ≤ 256
+unfolding deep-seen
+few-deep q e = let c = ap (λ x. x .count) e in omega arith
 
-pub seen-ok : (ks : List ℕ) (ts : List Test) (n k : ℕ) {i : Seen} → i ≡ seen-of ks ts n k → i .ok ≡ true
-unfolding seen-of
-seen-ok ks ts n k e = ap (λ x. x .ok) e
+module _ {A : Type 0} (ks : List ℕ) (k : Kind A) (s : Bytes) (b level : ℕ) where
+  module _ (r : Read A) where
+    abbrev pub left-place : ℕ
+    left-place = length s - length (r .left)
 
-closed-nothing : (s : Bytes) (i : Seen) → i ≡ nothing-seen → closed-seen s i ≡ nothing-seen
-unfolding closed-seen nothing-seen
-closed-nothing s i e = rw e
+    pub told-near : leb (k .depth (r .what)) level ≡ true → told ks k s b level (some r) ≡ seen-of ks (k .tests (r .what)) left-place (counted (b + k .words (r .what)))
+    unfolding told
+    told-near e = rw e
 
--- what is read of parts of a kind, by how many nodes they take and which comparisons they have
-unfoldable pub seen-by : {A : Type 0} → List ℕ → (A → ℕ) → (A → List Test) → Bytes → ℕ → Option (Read A) → Seen
-seen-by ks sz ts s b none = nothing-seen
-seen-by ks sz ts s b (some r) = cond (leb (b + sz (r .what)) 85) (seen-of ks (ts (r .what)) (length s - length (r .left)) (b + sz (r .what))) nothing-seen
+    pub told-deep : leb (k .depth (r .what)) level ≡ false → told ks k s b level (some r) ≡ deep-seen left-place
+    unfolding told
+    told-deep e = rw e
 
-pub seen-cases : {A X : Type 0} (ks : List ℕ) (sz : A → ℕ) (ts : A → List Test) (s : Bytes) (b : ℕ) (x : Option (Read A)) {i : Seen} → i ≡ seen-by ks sz ts s b x → (x ≡ none → i ≡ nothing-seen → X)
-    → ((r : Read A) → x ≡ some r → 85 < b + sz (r .what) → i ≡ nothing-seen → X)
-    → ((r : Read A) → x ≡ some r → b + sz (r .what) ≤ 85 → i ≡ seen-of ks (ts (r .what)) (length s - length (r .left)) (b + sz (r .what)) → X) → X
-unfolding seen-by
-seen-cases ks sz ts s b none e f g h = f refl e
-seen-cases ks sz ts s b (some r) e f g h =
-    by-test (leb (b + sz (r .what)) 85) (λ p. h r refl (leb-true (b + sz (r .what)) 85 p) (e ∙ rw p)) (λ p. g r refl (leb-false (b + sz (r .what)) 85 p) (e ∙ rw p))
+    pub told-ok : told ks k s b level (some r) .ok ≡ true
+    unfolding told seen-of deep-seen
+    told-ok = by-test (leb (k .depth (r .what)) level) (λ e. rw e) (λ e. rw e)
 
-unfoldable pub stored-by : {A : Type 0} → (A → List ℕ → List ℕ) → Option (Read A) → List ℕ → List ℕ
-stored-by st none ws = ws
-stored-by st (some r) ws = st (r .what) ws
+    pub told-next : told ks k s b level (some r) .next ≡ left-place
+    unfolding told seen-of deep-seen
+    told-next = by-test (leb (k .depth (r .what)) level) (λ e. rw e) (λ e. rw e)
 
-module _ (ks : List ℕ) (s : Bytes) (b : ℕ) {A : Type 0} (sz : A → ℕ) (ts : A → List Test) (st : A → List ℕ → List ℕ) (f : A → Cond Test) (h : ℕ)
-    (hsz : (a : A) → size (nodes-of ks (f a)) ≡ suc (sz a)) (hts : (a : A) → tests (f a) ≡ ts a)
-    (hst : (a : A) (ws : List ℕ) → store (nodes-of ks (f a)) b ws ≡ put-node (st a ws) (suc (b + sz a)) (inner-node h b)) where
-  unfoldable pub closing : Option (Read A) → Option (Read (Cond Test))
-  closing x = bind x (λ r. bind (byte 41 (r .left)) (λ u. some (record { what = f (r .what); left = u .left })))
+  -- what was read, by whether something was
+  pub told-cases : {X : Type 0} (o : Option (Read A)) {i : Seen} → i ≡ told ks k s b level o → (o ≡ none → i ≡ nothing-seen → X) → ((r : Read A) → o ≡ some r → i .ok ≡ true → i .next ≡ left-place r → X) → X
+  unfolding told
+  told-cases none e f g = f refl e
+  told-cases (some r) e f g = g r refl (ap (λ x. x .ok) e ∙ told-ok r) (ap (λ x. x .next) e ∙ told-next r)
 
-  close-over : (r : Read A) → 85 < b + sz (r .what) → cond-seen ks s b (closing (some r)) ≡ nothing-seen
-  unfolding closing bind cond-seen
-  close-over r l = go (byte 41 (r .left))
+  -- counts are at most 256
+  pub told-few : (o : Option (Read A)) {i : Seen} → i ≡ told ks k s b level o → i .count ≤ 256
+  unfolding told nothing-seen
+  told-few none e = let c = ap (λ x. x .count) e in omega arith
+  told-few (some r) e =
+      by-test (leb (k .depth (r .what)) level) (λ p. few-near ks (k .tests (r .what)) (left-place r) (b + k .words (r .what)) (e ∙ told-near r p)) (λ p. few-deep (left-place r) (e ∙ told-deep r p))
+
+-- nothing is told of what is not read
+pub read-none : {A : Type 0} (ks : List ℕ) (k : Kind A) (s : Bytes) (b level : ℕ) {o : Option (Read A)} (ws : List ℕ) {ws′ : List ℕ} {r : Seen} → o ≡ none → length ws′ ≡ length ws → r ≡ nothing-seen → ReadIn ks k s b level o ws ws′ r
+unfolding told
+read-none ks k s b level ws n l e = record { is = e ∙ sym (rw n); stored = λ o d c. unread-ok e o; kept = l }
+
+-- a step that answers so
+pub answered : {A : Type 0} {ks : List ℕ} {k : Kind A} {s : Bytes} {b level : ℕ} {o o′ : Option (Read A)} {ws : List ℕ} {ws′ w : List ℕ} {r x : Seen} → ReadIn ks k s b level o ws w x → Answers r ws′ x w → o′ ≡ o → ReadIn ks k s b level o′ ws ws′ r
+unfolding Answers
+answered i a e = rw (a .0, a .1, e) i
+
+-- ---- a comparison
+
+module _ (ks : List ℕ) (s : Bytes) (b level : ℕ) (o : Op) (ws : List ℕ) (p : ℕ) (up : 1 ≤ level) where
+  abbrev here : Comparison
+  here = comparison-at ks s p
+
+  compared-kept : length (compared-stored (op-number o) b here ws) ≡ length ws
+  unfolding compared-stored
+  compared-kept = go (here .ok)
     where
-      go : (x : Option (Read (Unit {0}))) → cond-seen ks s b (bind x (λ u. some (record { what = f (r .what); left = u .left }))) ≡ nothing-seen
-      go none = refl
-      go (some u) = rw (hsz (r .what), lt-leb (b + suc (sz (r .what))) 85 (omega arith))
+      go : (x : Bool) → length (cond x (put-node ws b (compared-node (op-number o) b here)) ws) ≡ length ws
+      go true = length-put ws b (compared-node (op-number o) b here)
+      go false = refl
 
-  -- the bracket and the node of the whole
-  module _ (r : Read A) (l : b + sz (r .what) ≤ 85) (e : drop (length s - length (r .left)) s ≡ r .left) (ws : List ℕ) where
-    abbrev inner : Seen
-    inner = seen-of ks (ts (r .what)) (length s - length (r .left)) (b + sz (r .what))
+  compared-unread : here .ok ≡ false → ReadIn ks (one ks) s b level (read-test o (drop p s)) ws (compared-stored (op-number o) b here ws) (compared-seen b here)
+  unfolding compared-seen
+  compared-unread e = read-none ks (one ks) s b level ws (comparison-none ks s p refl (rw e) o) compared-kept (rw e)
+
+  module _ (a : Ref) (c : Operand) where
+    abbrev t : Test
+    t = record { op = o; left = a; right = c }
+
+    made : (n : ℕ) → n ≤ length s → compared-seen b (comparison-of ks (record { op = eq; left = a; right = c }) n) ≡ told ks (one ks) s b level (some (record { what = test t; left = drop n s }))
+    unfolding told comparison-of compared-seen compared-node seen-of nodes-of map-cond size tests some? test-node cond-depth test-over test-unknown left-code right-code test-value node-words
+    made n l =
+        let e : length s - length (drop n s) ≡ n = omega (arith, length-drop n s) in
+        rw (le-leb 1 level up, e, mask-one (left-code ks t) (left-small ks t), mask-one (right-code ks t) (right-small ks t), or-false (test-over t), or-false (test-unknown ks t))
+
+    put-made : (n : ℕ) → compared-stored (op-number o) b (comparison-of ks (record { op = eq; left = a; right = c }) n) ws ≡ store (nodes-of ks (test t)) b ws
+    unfolding comparison-of compared-stored compared-node nodes-of map-cond store test-node N.compared left-code right-code test-value
+    put-made n = refl
+
+  compared-read : here .ok ≡ true → ReadIn ks (one ks) s b level (read-test o (drop p s)) ws (compared-stored (op-number o) b here ws) (compared-seen b here)
+  unfolding put-read
+  compared-read e =
+      comparison-some ks s p refl (rw e) (λ a c u v r d j l. record {
+        is = ap (compared-seen b) d ∙ made a c (here .next) l ∙ sym (ap (told ks (one ks) s b level) (r o));
+        stored = λ x y z. ap (λ w. compared-stored (op-number o) b w ws) d ∙ put-made a c (here .next) ∙ sym (ap (λ w. put-read (one ks) b w ws) (r o));
+        kept = compared-kept;
+      })
+
+  pub compared-all : ReadIn ks (one ks) s b level (read-test o (drop p s)) ws (compared-stored (op-number o) b here ws) (compared-seen b here)
+  compared-all = by-test (here .ok) compared-read compared-unread
+
+-- ---- a closing bracket
+
+module _ (s : Bytes) where
+  closed-bad : (i : Seen) → (getD s (i .next) 0 ≡ 41 → ⊥) → closed-seen s i ≡ nothing-seen
+  unfolding closed-seen
+  closed-bad i n = rw (ne-eqb (getD s (i .next) 0) 41 n, and-false (i .ok))
+
+  closed-unread : (i : Seen) → i ≡ nothing-seen → closed-seen s i ≡ nothing-seen
+  unfolding closed-seen nothing-seen
+  closed-unread i e = rw e
+
+  closed-near : (ks : List ℕ) (ts : List Test) (q n : ℕ) → getD s q 0 ≡ 41 → closed-seen s (seen-of ks ts q n) ≡ seen-of ks ts (q + 1) (counted (n + 1))
+  unfolding closed-seen seen-of
+  closed-near ks ts q n z = rw z
+
+  closed-far : (q : ℕ) → getD s q 0 ≡ 41 → closed-seen s (deep-seen q) ≡ deep-seen (q + 1)
+  unfolding closed-seen deep-seen
+  closed-far q z = rw z
+
+  closed-put : (ks : List ℕ) (ts : List Test) (h b q n : ℕ) (ws : List ℕ) → getD s q 0 ≡ 41 → closed-stored h b s (seen-of ks ts q n) ws ≡ put-node ws n (inner-node h b)
+  unfolding closed-stored seen-of
+  closed-put ks ts h b q n ws z = rw z
+
+  closed-kept : (h b : ℕ) (i : Seen) (ws : List ℕ) → length (closed-stored h b s i ws) ≡ length ws
+  unfolding closed-stored
+  closed-kept h b i ws = go (i .ok && eqb (getD s (i .next) 0) 41 && not (i .deep))
+    where
+      go : (x : Bool) → length (cond x (put-node ws (i .count) (inner-node h b)) ws) ≡ length ws
+      go true = length-put ws (i .count) (inner-node h b)
+      go false = refl
+
+count-on : (b w : ℕ) → counted (counted (b + w) + 1) ≡ counted (b + suc w)
+unfolding counted
+count-on b w = omega arith
+
+count-inner : (m : ℕ) → counted (counted m + 1) ≤ 255 → (counted m ≡ m) × (counted m ≤ 255)
+unfolding counted
+count-inner m h = (omega arith, omega arith)
+
+-- conditions inside brackets: how many words, which comparisons and how deep they are, by what is inside
+pub record Around {A : Type 0} (ks : List ℕ) (k : Kind A) (f : A → Cond Test) (h : ℕ) : Type 0 where
+  pub words : (a : A) → size (nodes-of ks (f a)) ≡ suc (k .words a)
+  pub inner : (a : A) → tests (f a) ≡ k .tests a
+  pub depth : (a : A) → cond-depth (f a) ≡ suc (k .depth a)
+  pub put : (a : A) (b : ℕ) (ws : List ℕ) → store (nodes-of ks (f a)) b ws ≡ put-node (k .put a b ws) (b + k .words a) (inner-node h b)
+
+module _ {A : Type 0} (ks : List ℕ) (k : Kind A) (s : Bytes) (b level : ℕ) (f : A → Cond Test) (h : ℕ) (around : Around ks k f h) where
+  unfoldable pub closing : Option (Read A) → Option (Read (Cond Test))
+  closing o = bind o (λ r. bind (byte 41 (r .left)) (λ u. some (record { what = f (r .what); left = u .left })))
+
+  -- what is inside was read up to a place q
+  module _ (r : Read A) (q : ℕ) (e : q ≡ length s - length (r .left)) (d : drop q s ≡ r .left) where
+    unclosed : (getD s q 0 ≡ 41 → ⊥) → closing (some r) ≡ none
+    unfolding closing bind
+    unclosed n = rw (sym (ap (byte 41) d) ∙ byte-not s q refl 41 n)
+
+    closed-at : getD s q 0 ≡ 41 → closing (some r) ≡ some (record { what = f (r .what); left = drop (q + 1) s })
+    unfolding closing bind
+    closed-at z = rw (sym (ap (byte 41) d) ∙ byte-is s q refl 41 z (omega arith))
+
+    module _ (z : getD s q 0 ≡ 41) where
+      whole : Read (Cond Test)
+      whole = record { what = f (r .what); left = drop (q + 1) s }
+
+      whole-next : length s - length (drop (q + 1) s) ≡ q + 1
+      whole-next = let l = inside s q (omega arith) in omega (arith, length-drop (q + 1) s)
+
+      whole-near : leb (k .depth (r .what)) level ≡ true → seen-of ks (k .tests (r .what)) (q + 1) (counted (counted (b + k .words (r .what)) + 1)) ≡ told ks (one ks) s b (suc level) (closing (some r))
+      unfolding told
+      whole-near t =
+          rw (closed-at z, around .depth (r .what), leb·suc-suc (k .depth (r .what)) level, t, around .inner (r .what), whole-next, around .words (r .what), count-on b (k .words (r .what)))
+
+      whole-deep : leb (k .depth (r .what)) level ≡ false → deep-seen (q + 1) ≡ told ks (one ks) s b (suc level) (closing (some r))
+      unfolding told
+      whole-deep t = rw (closed-at z, around .depth (r .what), leb·suc-suc (k .depth (r .what)) level, t, whole-next)
+
+  module _ (r : Read A) (d : drop (length s - length (r .left)) s ≡ r .left) {i : Seen} (ws : List ℕ) {ws₁ : List ℕ} (j : ReadIn ks k s b level (some r) ws ws₁ i) where
+    abbrev q : ℕ
+    q = length s - length (r .left)
+
+    abbrev n : ℕ
+    n = counted (b + k .words (r .what))
 
     abbrev Closes : Type 0
-    Closes = (closed-seen s inner ≡ cond-seen ks s b (closing (some r))) × (closed-seen s inner .ok ≡ true → closed-stored h b s inner (st (r .what) ws) ≡ cond-stored ks b (closing (some r)) ws)
+    Closes = ReadIn ks (one ks) s b (suc level) (closing (some r)) ws (closed-stored h b s i ws₁) (closed-seen s i)
 
-    close-read : Closes
-    unfolding closing bind cond-seen cond-stored closed-seen closed-stored seen-of nothing-seen
-    close-read =
-        ended-cases (byte 41) (cuts-byte 41) s (length s - length (r .left)) {q = end-at (byte 41) s (length s - length (r .left))} refl
-        (λ z y. let y' = sym (ap (byte 41) e) ∙ y in rw (z, y') (refl, λ o. false-true o))
-        (λ u y d g m.
-        let y' = sym (ap (byte 41) e) ∙ y in
-        let k = ap length d in
-        let q : length s - length (u .left) ≡ end-at (byte 41) s (length s - length (r .left)) = omega (arith, length-drop (end-at (byte 41) s (length s - length (r .left))) s) in
-        let n : (end-at (byte 41) s (length s - length (r .left)) ≡ 0) → ⊥ = λ z. omega arith in
-        let c : b + suc (sz (r .what)) ≡ b + sz (r .what) + 1 = omega arith in
-        by-test (ltb (b + sz (r .what)) 85)
-        (λ p. let p' = ltb-true (b + sz (r .what)) 85 p in
-        rw (y', ne-eqb (end-at (byte 41) s (length s - length (r .left))) 0 n, q, hsz (r .what), hts (r .what), hst (r .what) ws, p, le-leb (b + suc (sz (r .what))) 85 (omega arith), c, add-one (b + sz (r .what))) (refl, λ o. refl))
-        (λ p. let p' = ltb-false (b + sz (r .what)) 85 p in
-        rw (y', ne-eqb (end-at (byte 41) s (length s - length (r .left))) 0 n, hsz (r .what), p, lt-leb (b + suc (sz (r .what))) 85 (omega arith)) (refl, λ o. false-true o)))
+    close-near : getD s q 0 ≡ 41 → leb (k .depth (r .what)) level ≡ true → Closes
+    unfolding put-read seen-of
+    close-near z p =
+        let g : i ≡ seen-of ks (k .tests (r .what)) q n = j .is ∙ told-near ks k s b level r p in
+        let g′ : closed-seen s i ≡ seen-of ks (k .tests (r .what)) (q + 1) (counted (n + 1)) = ap (closed-seen s) g ∙ closed-near s ks (k .tests (r .what)) q n z in
+        record {
+          is = g′ ∙ whole-near r q refl d z p;
+          stored = λ o u v.
+              let c : closed-seen s i .count ≡ counted (n + 1) = ap (λ x. x .count) g′ in
+              let m = count-inner (b + k .words (r .what)) (omega arith) in
+              let l : i .count ≡ n = ap (λ x. x .count) g in
+              let w : ws₁ ≡ k .put (r .what) b ws = j .stored (ap (λ x. x .ok) g) (ap (λ x. x .deep) g) (omega (arith, m .1)) in
+              ap (λ x. closed-stored h b s x ws₁) g ∙ closed-put s ks (k .tests (r .what)) h b q n ws₁ z ∙ ap₂ (λ x y. put-node x y (inner-node h b)) w (m .0) ∙ sym (around .put (r .what) b ws)
+              ∙ sym (ap (λ x. put-read (one ks) b x ws) (closed-at r q refl d z));
+          kept = closed-kept s h b i ws₁ ∙ j .kept;
+        }
 
-  pub close-all : (x : Option (Read A)) → ((r : Read A) → x ≡ some r → drop (length s - length (r .left)) s ≡ r .left) → {i : Seen} → i ≡ seen-by ks sz ts s b x → (ws : List ℕ) {ws₁ : List ℕ} → (i .ok ≡ true → ws₁ ≡ stored-by st x ws)
-      → (closed-seen s i ≡ cond-seen ks s b (closing x)) × (closed-seen s i .ok ≡ true → closed-stored h b s i ws₁ ≡ cond-stored ks b (closing x) ws)
-  unfolding seen-by stored-by closing bind cond-seen
-  close-all none d {i} e ws k = (closed-nothing s i e, λ o. absurd (ok-none (closed-nothing s i e) o))
-  close-all (some r) d {i} e ws {ws₁} k =
-      by-test (leb (b + sz (r .what)) 85)
-      (λ p.
-      let e' : i ≡ seen-of ks (ts (r .what)) (length s - length (r .left)) (b + sz (r .what)) = e ∙ rw p in
-      let w : ws₁ ≡ st (r .what) ws = k (seen-ok ks (ts (r .what)) (length s - length (r .left)) (b + sz (r .what)) e') in
-      rw (e', w) (close-read r (leb-true (b + sz (r .what)) 85 p) (d r refl) ws))
-      (λ p.
-      let e' : i ≡ nothing-seen = e ∙ rw p in
-      (closed-nothing s i e' ∙ sym (close-over r (leb-false (b + sz (r .what)) 85 p)), λ o. absurd (ok-none (closed-nothing s i e') o)))
+    close-deep : getD s q 0 ≡ 41 → leb (k .depth (r .what)) level ≡ false → Closes
+    unfolding deep-seen
+    close-deep z p =
+        let g′ : closed-seen s i ≡ deep-seen (q + 1) = ap (closed-seen s) (j .is ∙ told-deep ks k s b level r p) ∙ closed-far s q z in
+        record { is = g′ ∙ whole-deep r q refl d z p; stored = λ o u v. never (sym (ap (λ x. x .deep) g′) ∙ u); kept = closed-kept s h b i ws₁ ∙ j .kept }
 
--- ---- comparisons differ in their heads alone
+    close-some : Closes
+    close-some =
+        by-test (eqb (getD s q 0) 41)
+        (λ t. let z = eqb-true (getD s q 0) 41 t in by-test (leb (k .depth (r .what)) level) (close-near z) (close-deep z))
+        (λ t.
+        let n = eqb-false (getD s q 0) 41 t in
+        let e : i .next ≡ q = ap (λ x. x .next) (j .is) ∙ told-next ks k s b level r in
+        read-none ks (one ks) s b (suc level) ws (unclosed r q refl d n) (closed-kept s h b i ws₁ ∙ j .kept) (closed-bad s i (λ w. n (sym (ap (λ x. getD s x 0) e) ∙ w))))
 
-data Twin (o : Op) : Option (Read (Cond Test)) → Option (Read (Cond Test)) → Type 0 where
-  neither : Twin o none none
-  each : (a : Ref) (c : Operand) (l : Bytes) → Twin o (some (record { what = test (record { op = eq; left = a; right = c }); left = l })) (some (record { what = test (record { op = o; left = a; right = c }); left = l }))
-
-twin-step : {A : Type 0} (o : Op) (x : Option A) (f g : A → Option (Read (Cond Test))) → ((a : A) → Twin o (f a) (g a)) → Twin o (bind x f) (bind x g)
-unfolding bind
-twin-step o none f g k = neither
-twin-step o (some a) f g k = k a
-
-twin : (o : Op) (bs : Bytes) → Twin o (read-test eq bs) (read-test o bs)
-unfolding read-test _>>_ _>>=_ give
-twin o bs = twin-step o _ _ _ (λ u. twin-step o _ _ _ (λ a. twin-step o _ _ _ (λ v. twin-step o _ _ _ (λ c. twin-step o _ _ _ (λ w. each (a .what) (c .what) (w .left))))))
-
-module _ (ks : List ℕ) (s : Bytes) (b : ℕ) (o : Op) (ws : List ℕ) where
-  compared-twin : (x y : Option (Read (Cond Test))) → Twin o x y
-      → (compared-seen b (comparison-read ks s x) ≡ cond-seen ks s b y) × (compared-seen b (comparison-read ks s x) .ok ≡ true → compared-stored (op-number o) b (comparison-read ks s x) ws ≡ cond-stored ks b y ws)
-  unfolding comparison-read comparison-from comparison-of no-comparison compared-seen compared-stored cond-seen cond-stored seen-of nothing-seen nodes-of map-cond size tests some? test-node store test-over test-unknown left-code right-code test-value N.compared
-  compared-twin none none neither = (refl, λ e. false-true e)
-  compared-twin (some _) (some _) (each a c l) =
-      let t : Test = record { op = o; left = a; right = c } in
-      by-test (ltb b 85)
-      (λ p. let p' = ltb-true b 85 p in
-      rw (p, le-leb (b + 1) 85 (omega arith), mask-one (left-code ks t) (left-small ks t), mask-one (right-code ks t) (right-small ks t), or-false (test-over t), or-false (test-unknown ks t), add-one b) (refl, λ e. refl))
-      (λ p. let p' = ltb-false b 85 p in
-      rw (p, lt-leb (b + 1) 85 (omega arith)) (refl, λ e. false-true e))
-
-  pub compared-all : (p : ℕ)
-      → (compared-seen b (comparison-at ks s p) ≡ cond-seen ks s b (read-test o (drop p s))) × (compared-seen b (comparison-at ks s p) .ok ≡ true → compared-stored (op-number o) b (comparison-at ks s p) ws ≡ cond-stored ks b (read-test o (drop p s)) ws)
-  unfolding comparison-at
-  compared-all p = compared-twin (read-test eq (drop p s)) (read-test o (drop p s)) (twin o (drop p s))
+  pub close-all : (o : Option (Read A)) → ((r : Read A) → o ≡ some r → drop (length s - length (r .left)) s ≡ r .left) → {i : Seen} (ws : List ℕ) {ws₁ : List ℕ} → ReadIn ks k s b level o ws ws₁ i
+      → ReadIn ks (one ks) s b (suc level) (closing o) ws (closed-stored h b s i ws₁) (closed-seen s i)
+  unfolding closing bind told
+  close-all none d {i} ws {ws₁} j = read-none ks (one ks) s b (suc level) ws refl (closed-kept s h b i ws₁ ∙ j .kept) (closed-unread s i (j .is))
+  close-all (some r) d ws j = close-some r (d r refl) ws j

@@ -2,7 +2,7 @@
 use mathlib.Core.Path.{_≡_, refl, sym, ap, _∙_}
 use mathlib.Core.List.{List, [], _∷_, _++_, map, map-append}
 use mathlib.Core.Bool.{Bool, true, false, _||_}
-use Prim.Native.Nat.{ℕ, _+_, _^_, _<_}
+use Prim.Native.Nat.{ℕ, _^_, _<_}
 use native.Mathlib.Omega.{arith}
 use lib.Bits.{bitOr, or-zero-l, or-zero-r}
 use borrow.Author.Tests.{lt-ltb}
@@ -21,10 +21,6 @@ use Rattle.conditions.specs.Steps.{both-seen}
 or-thrice : (a b c : Bool) → ((a || b) || c) ≡ (a || (b || c))
 or-thrice true b c = refl
 or-thrice false b c = refl
-
-pub or-false : (a : Bool) → (a || false) ≡ a
-or-false true = refl
-or-false false = refl
 
 some-append : {A : Type 0} (p : A → Bool) (xs ys : List A) → (some? p xs || some? p ys) ≡ some? p (xs ++ ys)
 unfolding some?

@@ -1,122 +1,57 @@
--- The ends of the functions that read a head by its letters, a comparison, a closing bracket and two conditions of a list.
-use mathlib.Core.Path.{_≡_, refl, _∙_}
+-- The ends of the functions that read a comparison, a closing bracket and two conditions of a list, and of those that count words.
+use mathlib.Core.Path.{_≡_, refl, sym, ap, _∙_}
 use mathlib.Core.List.{List}
-use mathlib.Core.Bool.{Bool, true, false, _||_, not}
+use mathlib.Core.Bool.{Bool, true, false, _||_, _&&_, not}
 use Prim.Native.Nat.{ℕ, _+_, _≤_, _<_}
-use lib.Dec.{eqb}
+use native.Mathlib.Omega.{arith}
+use lib.Dec.{eqb, leb}
+use lib.ListN.{getD}
 use lib.Bits.{bitOr}
-use borrow.Author.Tests.{ne-eqb, lt-ltb, le-ltb, not-true, not-false}
+use borrow.Author.Tests.{ne-eqb, le-leb, lt-leb, not-true, not-false}
 use Rattle.syntax.specs.Grammar.{Bytes}
-use Rattle.syntax.specs.Readers.{byte}
-use Rattle.shape.specs.Ends.{end-at}
 use Rattle.masks.specs.Masks.{with-bit}
 use Rattle.terms.specs.declared.Comparison.{Comparison}
+use Rattle.nodes.specs.Nodes.{node-words}
 use Rattle.nodes.specs.Storing.{put-node, inner-node}
+use Rattle.nodes.specs.declared.Node.{Node}
 use Rattle.conditions.specs.declared.Seen.{Seen}
-use Rattle.conditions.specs.Seeing.{nothing-seen}
-use Rattle.conditions.specs.Steps.{Answers, head-of-one, head-of-two, head-of-three, head-lettered, compared-seen, compared-stored, closed-seen, closed-stored, both-seen}
+use Rattle.conditions.specs.Seeing.{nothing-seen, deep-seen, has-room}
+use Rattle.conditions.specs.Steps.{Answers, counted, Placed, compared-node, compared-seen, compared-stored, closed-seen, closed-stored, both-seen, fitted}
 
--- ---- heads by their letters
+-- ---- tests
 
-module _ (a : ℕ) where
-  pub one-eq : a ≡ 61 → 1 ≡ head-of-one a
-  unfolding head-of-one
-  one-eq e = rw e
+pub never : {X : Type 0} → _≡_ {A = Bool} true false → X
+never e = absurd (let q : _≡_ {A = ℕ} 0 1 = cc in omega arith)
 
-  pub one-lt : a ≡ 60 → 3 ≡ head-of-one a
-  unfolding head-of-one
-  one-lt e = rw e
+pub by-test : {X : Type 0} (t : Bool) → (t ≡ true → X) → (t ≡ false → X) → X
+by-test true f g = f refl
+by-test false f g = g refl
 
-  pub one-gt : a ≡ 62 → 5 ≡ head-of-one a
-  unfolding head-of-one
-  one-gt e = rw e
+pub and-false : (a : Bool) → (a && false) ≡ false
+and-false true = refl
+and-false false = refl
 
-  pub one-none : (a ≡ 61 → ⊥) → (a ≡ 60 → ⊥) → (a ≡ 62 → ⊥) → 0 ≡ head-of-one a
-  unfolding head-of-one
-  one-none x y z = rw (ne-eqb a 61 x, ne-eqb a 60 y, ne-eqb a 62 z)
+-- ---- counts
 
-pub ruleset one-ends = (one-eq, one-lt, one-gt, one-none)
+pub count-more : (n : ℕ) → 255 < n → 256 ≡ counted n
+unfolding counted
+count-more n h = omega arith
 
-module _ (a b : ℕ) where
-  pub two-ne : b ≡ 61 → a ≡ 47 → 2 ≡ head-of-two a b
-  unfolding head-of-two
-  two-ne e f = rw (e, f)
+pub count-exact : (n : ℕ) → n ≤ 255 → n ≡ counted n
+unfolding counted
+count-exact n h = omega arith
 
-  pub two-le : b ≡ 61 → a ≡ 60 → 4 ≡ head-of-two a b
-  unfolding head-of-two
-  two-le e f = rw (e, f)
+pub ruleset count-ends = (count-more, count-exact)
 
-  pub two-ge : b ≡ 61 → a ≡ 62 → 6 ≡ head-of-two a b
-  unfolding head-of-two
-  two-ge e f = rw (e, f)
+-- counts are at most 256
+pub count-few : (n : ℕ) {k : ℕ} → k ≡ counted n → k ≤ 256
+unfolding counted
+count-few n e = omega arith
 
-  pub two-none : b ≡ 61 → (a ≡ 47 → ⊥) → (a ≡ 60 → ⊥) → (a ≡ 62 → ⊥) → 0 ≡ head-of-two a b
-  unfolding head-of-two
-  two-none e x y z = rw (e, ne-eqb a 47 x, ne-eqb a 60 y, ne-eqb a 62 z)
+pub node-placed : (b : ℕ) (n : Node) (ws : List ℕ) {ws′ : List ℕ} {k r : ℕ} → ws′ ≡ put-node ws b n → k ≡ node-words n → r ≡ counted (b + k) → Placed b n ws ws′ r
+node-placed b n ws w e f = record { count = f ∙ ap (λ m. counted (b + m)) e; stored = w }
 
-  pub two-other : (b ≡ 61 → ⊥) → (b ≡ 114 → ⊥) → 0 ≡ head-of-two a b
-  unfolding head-of-two
-  two-other x y = rw (ne-eqb b 61 x, ne-eqb b 114 y)
-
-  pub two-first : (b ≡ 61 → ⊥) → b ≡ 114 → (a ≡ 111 → ⊥) → 0 ≡ head-of-two a b
-  unfolding head-of-two
-  two-first x e y = rw (e, ne-eqb a 111 y)
-
-  pub two-or : (b ≡ 61 → ⊥) → b ≡ 114 → a ≡ 111 → 8 ≡ head-of-two a b
-  unfolding head-of-two
-  two-or x e f = rw (e, f)
-
-pub ruleset two-ends = (two-ne, two-le, two-ge, two-none, two-other, two-first, two-or)
-
-module _ (a b c : ℕ) where
-  pub and-second : a ≡ 97 → (b ≡ 110 → ⊥) → 0 ≡ head-of-three a b c
-  unfolding head-of-three
-  and-second e x = rw (e, ne-eqb b 110 x)
-
-  pub and-third : a ≡ 97 → b ≡ 110 → (c ≡ 100 → ⊥) → 0 ≡ head-of-three a b c
-  unfolding head-of-three
-  and-third e f x = rw (e, f, ne-eqb c 100 x)
-
-  pub and-all : a ≡ 97 → b ≡ 110 → c ≡ 100 → 7 ≡ head-of-three a b c
-  unfolding head-of-three
-  and-all e f g = rw (e, f, g)
-
-  pub not-first : (a ≡ 97 → ⊥) → (a ≡ 110 → ⊥) → 0 ≡ head-of-three a b c
-  unfolding head-of-three
-  not-first x y = rw (ne-eqb a 97 x, ne-eqb a 110 y)
-
-  pub not-second : (a ≡ 97 → ⊥) → a ≡ 110 → (b ≡ 111 → ⊥) → 0 ≡ head-of-three a b c
-  unfolding head-of-three
-  not-second x e y = rw (e, ne-eqb b 111 y)
-
-  pub not-third : (a ≡ 97 → ⊥) → a ≡ 110 → b ≡ 111 → (c ≡ 116 → ⊥) → 0 ≡ head-of-three a b c
-  unfolding head-of-three
-  not-third x e f y = rw (e, f, ne-eqb c 116 y)
-
-  pub not-all : (a ≡ 97 → ⊥) → a ≡ 110 → b ≡ 111 → c ≡ 116 → 9 ≡ head-of-three a b c
-  unfolding head-of-three
-  not-all x e f g = rw (e, f, g)
-
-pub ruleset three-ends = (and-second, and-third, and-all, not-first, not-second, not-third, not-all)
-
-module _ (n a b c : ℕ) {r : ℕ} where
-  pub by-one : n ≡ 1 → r ≡ head-of-one a → r ≡ head-lettered n a b c
-  unfolding head-lettered
-  by-one e f = f ∙ rw e
-
-  pub by-two : n ≡ 2 → r ≡ head-of-two a b → r ≡ head-lettered n a b c
-  unfolding head-lettered
-  by-two e f = f ∙ rw e
-
-  pub by-three : n ≡ 3 → r ≡ head-of-three a b c → r ≡ head-lettered n a b c
-  unfolding head-lettered
-  by-three e f = f ∙ rw e
-
-pub by-none : (n a b c : ℕ) → (n ≡ 1 → ⊥) → (n ≡ 2 → ⊥) → (n ≡ 3 → ⊥) → 0 ≡ head-lettered n a b c
-unfolding head-lettered
-by-none n a b c x y z = rw (ne-eqb n 1 x, ne-eqb n 2 y, ne-eqb n 3 z)
-
-pub ruleset by-ends = (by-one, by-two, by-three, by-none)
+pub ruleset placed-ends = (node-placed)
 
 -- ---- terms that are not declared
 
@@ -130,23 +65,18 @@ pub ruleset undeclared-ends = (undeclared-left, undeclared-right)
 
 -- ---- a comparison
 
-module _ (h b : ℕ) {x : Comparison} (y : Comparison) (e : x ≡ y) (ws : List ℕ) where
-  pub compared-none : {r : Seen} → not (x .ok) ≡ true → r ≡ nothing-seen → Answers r ws (compared-seen b y) (compared-stored h b y ws)
-  unfolding Answers compared-seen compared-stored
-  compared-none f g = rw (← e, not-true (x .ok) f) (g, refl)
-
-  pub compared-full : {r : Seen} → not (x .ok) ≡ false → 85 ≤ b → r ≡ nothing-seen → Answers r ws (compared-seen b y) (compared-stored h b y ws)
-  unfolding Answers compared-seen compared-stored
-  compared-full f l g = rw (← e, not-false (x .ok) f, le-ltb b 85 l) (g, refl)
-
-pub compared-some : (h b : ℕ) {x : Comparison} (y : Comparison) → x ≡ y → not (x .ok) ≡ false → b < 85 → (ws : List ℕ) {ws' : List ℕ}
-    → ws' ≡ put-node ws (b + 1) (record { head = h; left = x .left; right = x .right; before = b; value = x .value }) → {u : Bool} → u ≡ (eqb (x .left) 28 || eqb (x .right) 28)
-    → {l r : ℕ} → l ≡ with-bit 0 (x .left) → r ≡ with-bit 0 (x .right)
-    → Answers (record { ok = true; next = x .next; count = b + 1; over = x .over; unknown = u; lefts = l; rights = r }) ws' (compared-seen b y) (compared-stored h b y ws)
+pub compared-none : (h b : ℕ) {x : Comparison} (y : Comparison) → x ≡ y → (ws : List ℕ) {r : Seen} → not (x .ok) ≡ true → r ≡ nothing-seen → Answers r ws (compared-seen b y) (compared-stored h b y ws)
 unfolding Answers compared-seen compared-stored
-compared-some h b {x} y e f l ws w u p q = rw (← e, not-false (x .ok) f, lt-ltb b 85 l, u, p, q) (refl, w)
+compared-none h b {x} y e ws f g = rw (← e, not-true (x .ok) f) (g, refl)
 
-pub ruleset compared-ends = (compared-none, compared-full, compared-some)
+pub compared-some : (h b : ℕ) {x : Comparison} (y : Comparison) → x ≡ y → not (x .ok) ≡ false → (ws : List ℕ) {ws′ : List ℕ} {k : ℕ}
+    → Placed b (record { head = h; left = x .left; right = x .right; before = b; value = x .value }) ws ws′ k → {u : Bool} → u ≡ (eqb (x .left) 28 || eqb (x .right) 28)
+    → {l r : ℕ} → l ≡ with-bit 0 (x .left) → r ≡ with-bit 0 (x .right)
+    → Answers (record { ok = true; next = x .next; count = k; over = x .over; unknown = u; deep = false; lefts = l; rights = r }) ws′ (compared-seen b y) (compared-stored h b y ws)
+unfolding Answers compared-seen compared-stored compared-node node-words
+compared-some h b {x} y e f ws w u p q = rw (← e, not-false (x .ok) f, u, p, q, w .count) (refl, w .stored)
+
+pub ruleset compared-ends = (compared-none, compared-some)
 
 -- ---- a closing bracket
 
@@ -155,33 +85,66 @@ module _ (h b : ℕ) (s : Bytes) (i : Seen) (ws : List ℕ) where
   unfolding Answers closed-seen closed-stored
   closed-none f g = rw (not-true (i .ok) f) (g, refl)
 
-  module _ (f : not (i .ok) ≡ false) {q : ℕ} (e : q ≡ end-at (byte 41) s (i .next)) where
-    pub closed-open : {r : Seen} → q ≡ 0 → r ≡ nothing-seen → Answers r ws (closed-seen s i) (closed-stored h b s i ws)
+  module _ (f : not (i .ok) ≡ false) {q : ℕ} (e : q ≡ getD s (i .next) 0) where
+    pub closed-open : {r : Seen} → (q ≡ 41 → ⊥) → r ≡ nothing-seen → Answers r ws (closed-seen s i) (closed-stored h b s i ws)
     unfolding Answers closed-seen closed-stored
-    closed-open z g = rw (not-false (i .ok) f, ← e, z) (g, refl)
+    closed-open n g = rw (not-false (i .ok) f, ← e, ne-eqb q 41 n) (g, refl)
 
-    module _ (n : q ≡ 0 → ⊥) where
-      pub closed-full : {r : Seen} → 85 ≤ i .count → r ≡ nothing-seen → Answers r ws (closed-seen s i) (closed-stored h b s i ws)
+    module _ (z : q ≡ 41) where
+      pub closed-deep : {r : Seen} → i .deep ≡ true → r ≡ deep-seen (i .next + 1) → Answers r ws (closed-seen s i) (closed-stored h b s i ws)
       unfolding Answers closed-seen closed-stored
-      closed-full l g = rw (not-false (i .ok) f, ← e, ne-eqb q 0 n, le-ltb (i .count) 85 l) (g, refl)
+      closed-deep d g = rw (not-false (i .ok) f, ← e, z, d) (g, refl)
 
-      pub closed-some : {ws' : List ℕ} → i .count < 85 → ws' ≡ put-node ws (i .count + 1) (record { head = h; left = 0; right = 0; before = b; value = 0 })
-          → Answers (record { ok = true; next = q; count = i .count + 1; over = i .over; unknown = i .unknown; lefts = i .lefts; rights = i .rights }) ws' (closed-seen s i) (closed-stored h b s i ws)
-      unfolding Answers closed-seen closed-stored inner-node
-      closed-some l w = rw (not-false (i .ok) f, ← e, ne-eqb q 0 n, lt-ltb (i .count) 85 l) (refl, w)
+      pub closed-some : {ws′ : List ℕ} {k : ℕ} → i .deep ≡ false → Placed (i .count) (record { head = h; left = 0; right = 0; before = b; value = 0 }) ws ws′ k
+          → Answers (record { ok = true; next = i .next + 1; count = k; over = i .over; unknown = i .unknown; deep = false; lefts = i .lefts; rights = i .rights }) ws′ (closed-seen s i) (closed-stored h b s i ws)
+      unfolding Answers closed-seen closed-stored inner-node node-words
+      closed-some d w = rw (not-false (i .ok) f, ← e, z, d, w .count) (refl, w .stored)
 
-pub ruleset closed-ends = (closed-none, closed-open, closed-full, closed-some)
+pub ruleset closed-ends = (closed-none, closed-open, closed-deep, closed-some)
 
--- ---- two conditions of a list
+-- ---- some conditions, and one after them
 
 module _ (i j : Seen) where
-  pub both-none : {r : Seen} → not (j .ok) ≡ true → r ≡ nothing-seen → r ≡ both-seen i j
+  pub both-first : {r : Seen} → i .deep ≡ true → r ≡ deep-seen (j .next) → r ≡ both-seen i j
   unfolding both-seen
-  both-none f g = g ∙ rw (not-true (j .ok) f)
+  both-first f g = g ∙ rw f
 
-  pub both-some : not (j .ok) ≡ false → {o u : Bool} → o ≡ (i .over || j .over) → u ≡ (i .unknown || j .unknown) → {l r : ℕ} → l ≡ bitOr (i .lefts) (j .lefts) → r ≡ bitOr (i .rights) (j .rights)
-      → _≡_ {A = Seen} (record { ok = true; next = j .next; count = j .count; over = o; unknown = u; lefts = l; rights = r }) (both-seen i j)
-  unfolding both-seen
-  both-some f a b c d = rw (not-false (j .ok) f, a, b, c, d)
+  module _ (f : i .deep ≡ false) where
+    pub both-second : {r : Seen} → j .deep ≡ true → r ≡ deep-seen (j .next) → r ≡ both-seen i j
+    unfolding both-seen
+    both-second d g = g ∙ rw (f, d)
 
-pub ruleset both-ends = (both-none, both-some)
+    pub both-some : j .deep ≡ false → {o u : Bool} → o ≡ (i .over || j .over) → u ≡ (i .unknown || j .unknown) → {l r : ℕ} → l ≡ bitOr (i .lefts) (j .lefts) → r ≡ bitOr (i .rights) (j .rights)
+        → _≡_ {A = Seen} (record { ok = true; next = j .next; count = j .count; over = o; unknown = u; deep = false; lefts = l; rights = r }) (both-seen i j)
+    unfolding both-seen
+    both-some d a b c e = rw (f, d, a, b, c, e)
+
+pub ruleset both-ends = (both-first, both-second, both-some)
+
+-- ---- room
+
+module _ (room : ℕ) (i : Seen) where
+  pub fitted-none : not (i .ok) ≡ true → i ≡ fitted room i
+  unfolding fitted
+  fitted-none f = rw (not-true (i .ok) f)
+
+  module _ (f : not (i .ok) ≡ false) where
+    pub fitted-deep : i .deep ≡ true → i ≡ fitted room i
+    unfolding fitted
+    fitted-deep d = rw (not-false (i .ok) f, d)
+
+    module _ (d : i .deep ≡ false) where
+      pub fitted-many : {r : Seen} → 255 < i .count → r ≡ nothing-seen → r ≡ fitted room i
+      unfolding fitted has-room
+      fitted-many l g = g ∙ sym (rw (not-false (i .ok) f, d, lt-leb (i .count) 255 l, and-false (leb (i .count) room)))
+
+      module _ (l : i .count ≤ 255) where
+        pub fitted-short : {r : Seen} → room < i .count → r ≡ nothing-seen → r ≡ fitted room i
+        unfolding fitted has-room
+        fitted-short k g = g ∙ sym (rw (not-false (i .ok) f, d, lt-leb (i .count) room k))
+
+        pub fitted-some : i .count ≤ room → i ≡ fitted room i
+        unfolding fitted has-room
+        fitted-some k = rw (not-false (i .ok) f, d, le-leb (i .count) room k, le-leb (i .count) 255 l)
+
+pub ruleset fitted-ends = (fitted-none, fitted-deep, fitted-many, fitted-short, fitted-some)

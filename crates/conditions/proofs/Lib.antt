@@ -1,6 +1,10 @@
 pub mod Leaves
 pub mod Heads
+pub mod Skipping
 pub mod Folds
 pub mod Closing
-pub mod Reading
+pub mod Going
+pub mod Conditions
 pub mod Listing
+pub mod Capacity
+pub mod Storable

@@ -1,62 +1,41 @@
--- Conditions up to a closing bracket, and what is stored of a condition and of a list.
+-- Conditions up to a closing bracket, and what is read where its words have room.
 use mathlib.Core.Path.{_≡_, refl, sym, ap, _∙_}
-use mathlib.Core.List.{List, [], _∷_, _++_, map}
-use mathlib.Core.Bool.{Bool, true, false, not, cond}
-use mathlib.Core.Option.{Option, none, some, Option·none-ne-some}
-use Prim.Native.Nat.{ℕ, zero, suc, _+_, _-_, _≤_, _<_}
+use mathlib.Core.List.{List, [], _∷_, map}
+use mathlib.Core.Bool.{Bool, true, false, _&&_, not, cond}
+use mathlib.Core.Option.{Option, none, some}
+use Prim.Native.Nat.{ℕ, zero, suc, _+_, _-_, _≤_, _<_, min}
 use native.Mathlib.Omega.{arith}
 use lib.Dec.{leb, eqb}
-use lib.ListN.{length, drop}
-use borrow.Author.Tests.{eqb-true, le-leb, lt-leb, not-false}
-use Rattle.lists.specs.Lists.{empty?, gather}
-use Rattle.lists.proofs.Laws.{append-nil}
+use lib.ListN.{length, drop, getD}
+use borrow.Author.Tests.{eqb-true, eq-eqb, ne-eqb, lt-leb, leb-true, leb-false, lt-ltb, le-ltb, not-true, not-false}
+use Rattle.lists.specs.Lists.{empty?}
 use Rattle.syntax.specs.Grammar.{Bytes, Test, Cond, Conds, last, more}
+use Rattle.syntax.specs.Limits.{cond-depth}
 use Rattle.syntax.specs.Readers.{Read, bind, ensure, byte, closes, read-items, read-some, read-more, read-cond}
-use Rattle.model.specs.Conditions.{tests, tests-of, map-cond, map-conds}
-use Rattle.shape.specs.Ends.{end-at, any-cond, any-conds, any-some}
-use Rattle.shape.proofs.Places.{cuts-byte, ended-cases, step-found, under-less, reader-cuts}
-use Rattle.shape.proofs.Cutting.{cuts-any-cond, cuts-any-conds}
-use Rattle.shape.proofs.Fuel.{bind-same, conds-step}
-use Rattle.nodes.specs.Storing.{size, sizes, store, store-all, list-size, store-list}
+use Rattle.syntax.proofs.Steps.{bind-bind}
+use Rattle.syntax.proofs.Leaving.{left-within, byte-less}
+use Rattle.model.specs.Conditions.{tests}
+use Rattle.text.specs.Keywords.{place}
+use Rattle.text.specs.Readings.{any-cond, any-conds, any-some}
+use Rattle.text.proofs.Runs.{first-byte}
+use Rattle.text.proofs.Views.{left-drop}
+use Rattle.text.proofs.Fuel.{bind-same, any-cond-leaves, any-conds-leaves, conds-step}
+use Rattle.nodes.specs.Storing.{size, store, list-size}
 use Rattle.conditions.specs.declared.Seen.{Seen}
-use Rattle.conditions.specs.Seeing.{test-node, nodes-of, nothing-seen, seen-of, cond-seen, cond-stored, cond-at, list-seen, list-stored, list-at}
-use Rattle.conditions.specs.Steps.{CondIn, CondsIn, ListIn, conds-stored}
-use Rattle.conditions.proofs.Closing.{ok-none, by-test, seen-cases}
-use Rattle.conditions.proofs.Reading.{conds-size, conds-by, not-seen}
-
--- ---- conditions as a list
-
-unfoldable pub list-of : Conds Test → List (Cond Test)
-list-of (last c) = c ∷ []
-list-of (more c cs) = c ∷ list-of cs
-
-sizes-list : (ks : List ℕ) (cs : Conds Test) → list-size (map (nodes-of ks) (list-of cs)) ≡ sizes (map-conds (test-node ks) cs)
-unfolding list-of list-size map-cond nodes-of size
-sizes-list ks (last c) = omega arith
-sizes-list ks (more c cs) = ap (λ n. size (map-cond (test-node ks) c) + n) (sizes-list ks cs)
-
-store-lists : (ks : List ℕ) (cs : Conds Test) (b : ℕ) (ws : List ℕ) → store-list (map (nodes-of ks) (list-of cs)) b ws ≡ store-all (map-conds (test-node ks) cs) b ws
-unfolding list-of store-list map-cond nodes-of store
-store-lists ks (last c) b ws = refl
-store-lists ks (more c cs) b ws = store-lists ks cs (b + size (map-cond (test-node ks) c)) (store (map-cond (test-node ks) c) b ws)
-
-tests-list : (cs : Conds Test) → gather tests (list-of cs) ≡ tests-of cs
-unfolding list-of gather tests
-tests-list (last c) = append-nil (tests c)
-tests-list (more c cs) = ap (λ ts. tests c ++ ts) (tests-list cs)
+use Rattle.conditions.specs.Seeing.{nodes-of, nothing-seen, deep-seen, seen-of, has-room, cond-seen, cond-stored, cond-at, CondRead, list-seen, list-stored, list-at, ListRead}
+use Rattle.conditions.specs.Steps.{counted, Kind, one, many, told, put-read, CondIn, CondsIn, fitted, skipped-seen}
+use Rattle.conditions.proofs.Leaves.{never, by-test, count-exact}
+use Rattle.conditions.proofs.Closing.{unread-ok, told-near, told-deep, told-cases}
+use Rattle.conditions.proofs.Conditions.{cond-skipped}
+use Rattle.conditions.proofs.Going.{list-of, sizes-list, store-lists, tests-list, depth-list}
 
 -- ---- a list up to a closing bracket is a list of conditions that a closing bracket follows
 
-abbrev ended : Read (Conds Test) → Option (Read (List (Cond Test)))
+abbrev pub ended : Read (Conds Test) → Option (Read (List (Cond Test)))
 ended r = ensure (closes (r .left)) (record { what = list-of (r .what); left = r .left })
 
 abbrev with-first : Cond Test → Read (List (Cond Test)) → Option (Read (List (Cond Test)))
 with-first c xs = some (record { what = c ∷ xs .what; left = xs .left })
-
-bind-bind : {A B C : Type 0} (m : Option A) (f : A → Option B) (g : B → Option C) → bind (bind m f) g ≡ bind m (λ a. bind (f a) g)
-unfolding bind
-bind-bind none f g = refl
-bind-bind (some a) f g = refl
 
 unspaced : (x : ℕ) (xs : Bytes) → eqb 32 x ≡ false → any-conds (x ∷ xs) ≡ none
 unfolding byte ensure bind
@@ -97,9 +76,9 @@ items-conds zero (x ∷ xs) h e = absurd (omega arith)
 items-conds (suc k) bs h e =
     rw e
     (bind-same (byte 32 bs) _ _ (λ u p.
-    let v = under-less (reader-cuts (byte 32) (cuts-byte 32) bs u p) in
+    let v = byte-less 32 bs u p in
     bind-same (any-cond (u .left)) _ _ (λ c q.
-    let w = under-less (reader-cuts any-cond cuts-any-cond (u .left) c q) in
+    let w = left-within any-cond-leaves (u .left) c q in
     after-first (c .what) (c .left) k (omega arith) (λ z. items-conds k (c .left) (omega arith) z))
     ∙ sym (bind-bind (any-cond (u .left)) (λ c. read-more any-conds (c .what) (c .left)) ended))
     ∙ sym (ap (λ y. bind y ended) (conds-step bs) ∙ bind-bind (byte 32 bs) (λ u. bind (any-cond (u .left)) (λ c. read-more any-conds (c .what) (c .left))) ended))
@@ -111,7 +90,7 @@ not-empty (more c cs) = refl
 
 none-before : (l : Bytes) → closes l ≡ true → read-some closes any-cond (length l) l ≡ bind (any-conds l) ended
 unfolding read-some closes read-items bind ensure empty?
-none-before [] p = absurd (let q : _≡_ {A = ℕ} 0 1 = ap (λ t. cond t 1 0) p in omega arith)
+none-before [] p = never (sym p)
 none-before (x ∷ xs) p = let e : x ≡ 41 = sym (eqb-true 41 x p) in rw (e, unspaced 41 xs refl)
 
 some-before : (y : Option (Read (Conds Test))) → bind (bind y ended) (λ xs. ensure (not (empty? (xs .what))) xs) ≡ bind y ended
@@ -123,118 +102,177 @@ some-before (some r) = go (closes (r .left))
     go true = rw (not-empty (r .what))
     go false = refl
 
-some-conds : (bs : Bytes) → any-some closes any-cond bs ≡ bind (any-conds bs) ended
+pub some-conds : (bs : Bytes) → any-some closes any-cond bs ≡ bind (any-conds bs) ended
 unfolding any-some read-some
 some-conds bs = by-test (closes bs) (none-before bs) (λ p. ap (λ y. bind y (λ xs. ensure (not (empty? (xs .what))) xs)) (items-conds (length bs) bs (omega arith) p) ∙ some-before (any-conds bs))
 
--- ---- the ends of a list
+-- ---- room
 
-close-next : (l : Bytes) → byte 41 l ≡ none → closes l ≡ false
-unfolding byte ensure closes
-close-next [] e = refl
-close-next (x ∷ xs) e = by-test (eqb 41 x) (λ p. absurd (Option·none-ne-some (record { what = tt; left = xs }) (sym e ∙ rw p))) (λ p. p)
+room-counted : (room m : ℕ) → has-room room (counted m) ≡ has-room room m
+unfolding has-room counted
+room-counted room m =
+    by-test (leb m 255)
+    (λ p. let l = leb-true m 255 p in let e : min m 256 ≡ m = omega arith in rw e)
+    (λ p. let l = leb-false m 255 p in rw (p, lt-leb (min m 256) 255 (omega arith)) (none-here (leb (min m 256) room) (leb m room)))
+  where
+    none-here : (a b : Bool) → (a && false) ≡ (b && false)
+    none-here true true = refl
+    none-here true false = refl
+    none-here false true = refl
+    none-here false false = refl
 
-close-here : (l : Bytes) (u : Read (Unit {0})) → byte 41 l ≡ some u → closes l ≡ true
-unfolding byte ensure closes
-close-here [] u e = absurd (Option·none-ne-some u e)
-close-here (x ∷ xs) u e = by-test (eqb 41 x) (λ p. p) (λ p. absurd (Option·none-ne-some u (sym (rw p) ∙ e)))
+room-few : (room m : ℕ) → has-room room m ≡ true → m ≤ 255
+unfolding has-room
+room-few room m e = leb-true m 255 (go (leb m room) e)
+  where
+    go : (a : Bool) → (a && leb m 255) ≡ true → leb m 255 ≡ true
+    go true e = e
+    go false e = never (sym e)
 
-module _ (ks : List ℕ) (s : Bytes) (at : ℕ) (ws ws₁ : List ℕ) (i : Seen) (c : CondsIn ks s 0 at ws ws₁ i) where
-  cases : {X : Type 0} → (any-some closes any-cond (drop at s) ≡ none → i ≡ nothing-seen → X)
-      → ((r : Read (Conds Test)) → any-some closes any-cond (drop at s) ≡ ended r → 85 < sizes (map-conds (test-node ks) (r .what)) → i ≡ nothing-seen → X)
-      → ((r : Read (Conds Test)) → any-some closes any-cond (drop at s) ≡ ended r → sizes (map-conds (test-node ks) (r .what)) ≤ 85 → i ≡ seen-of ks (tests-of (r .what)) (length s - length (r .left)) (sizes (map-conds (test-node ks) (r .what)))
-      → ws₁ ≡ store-all (map-conds (test-node ks) (r .what)) 0 ws → drop (i .next) s ≡ r .left → X) → X
-  unfolding CondsIn bind conds-stored seen-of
-  cases f g h =
-      seen-cases ks (conds-size ks s 0) tests-of s 0 (any-conds (drop at s)) (c .0 ∙ conds-by ks s 0 (any-conds (drop at s)))
-      (λ u v. f (some-conds (drop at s) ∙ rw u) v)
-      (λ r u m v. g r (some-conds (drop at s) ∙ rw u) (omega arith) v)
-      (λ r u m v.
-      let d = step-found s at any-conds r cuts-any-conds u in
-      let x : i .next ≡ length s - length (r .left) = ap (λ z. z .next) v in
-      let n : 0 + sizes (map-conds (test-node ks) (r .what)) ≡ sizes (map-conds (test-node ks) (r .what)) = omega arith in
-      h r (some-conds (drop at s) ∙ rw u) (omega arith) (v ∙ rw n) (c .1 (ap (λ z. z .ok) v) ∙ rw u) (rw x (d .here)))
+count-twice : (b w : ℕ) → counted (counted b + w) ≡ counted (b + w)
+unfolding counted
+count-twice b w = omega arith
 
-  list-full : (r : Read (Conds Test)) → 85 < sizes (map-conds (test-node ks) (r .what)) → list-seen ks s (ended r) ≡ nothing-seen
-  unfolding list-seen ensure
-  list-full r m = go (closes (r .left))
+fitted-near : (ks : List ℕ) (ts : List Test) (room next m : ℕ) → fitted room (seen-of ks ts next (counted m)) ≡ cond (has-room room m) (seen-of ks ts next m) nothing-seen
+unfolding fitted seen-of
+fitted-near ks ts room next m =
+    by-test (has-room room m) (λ p. rw (room-counted room m, p, sym (count-exact m (room-few room m p)))) (λ p. rw (room-counted room m, p))
+
+fitted-far : (room next : ℕ) → fitted room (deep-seen next) ≡ deep-seen next
+unfolding fitted deep-seen
+fitted-far room next = refl
+
+fitted-unread : (room : ℕ) → fitted room nothing-seen ≡ nothing-seen
+unfolding fitted nothing-seen
+fitted-unread room = refl
+
+-- what is told, where its words have room
+module _ {A : Type 0} (ks : List ℕ) (k : Kind A) (s : Bytes) (b level room : ℕ) (r : Read A) where
+  pub fitted-told : fitted room (told ks k s b level (some r)) ≡ cond (leb (k .depth (r .what)) level) (cond (has-room room (b + k .words (r .what))) (seen-of ks (k .tests (r .what)) (length s - length (r .left)) (b + k .words (r .what))) nothing-seen) (deep-seen (length s - length (r .left)))
+  fitted-told =
+      by-test (leb (k .depth (r .what)) level)
+      (λ p. ap (fitted room) (told-near ks k s b level r p) ∙ fitted-near ks (k .tests (r .what)) room (length s - length (r .left)) (b + k .words (r .what)) ∙ sym (rw p))
+      (λ p. ap (fitted room) (told-deep ks k s b level r p) ∙ fitted-far room (length s - length (r .left)) ∙ sym (rw p))
+
+-- what fits was counted
+pub record Fitting (i : Seen) : Type 0 where
+  pub ok : i .ok ≡ true
+  pub near : i .deep ≡ false
+  pub few : i .count ≤ 255
+
+fits-counted : (room : ℕ) (i : Seen) {r : Seen} → r ≡ fitted room i → r .ok ≡ true → r .deep ≡ false → Fitting i
+unfolding fitted
+fits-counted room i {r} e o d =
+    by-test (i .ok)
+    (λ p. by-test (i .deep)
+    (λ q. let x : r ≡ i = e ∙ rw (p, q) in never (sym q ∙ sym (ap (λ x. x .deep) x) ∙ d))
+    (λ q. by-test (has-room room (i .count)) (λ h. record { ok = p; near = q; few = room-few room (i .count) h }) (λ h. unread-ok (e ∙ rw (p, q, h)) o)))
+    (λ p. let x : r ≡ i = e ∙ rw p in never (sym o ∙ ap (λ x. x .ok) x ∙ p))
+
+-- ---- a condition of a line
+
+count-first : (b w : ℕ) → counted (counted b + w) ≤ 255 → counted b ≡ b
+unfolding counted
+count-first b w l = omega arith
+
+told-counted : (ks : List ℕ) (s : Bytes) (b level : ℕ) (o : Option (Read (Cond Test))) → told ks (one ks) s (counted b) level o ≡ told ks (one ks) s b level o
+unfolding told
+told-counted ks s b level none = refl
+told-counted ks s b level (some r) = rw (count-twice b (size (nodes-of ks (r .what))))
+
+module _ (ks : List ℕ) (s : Bytes) (b level at : ℕ) (ws : List ℕ) where
+  pub cond-long : {r : Seen} → 512 < length s → r ≡ nothing-seen → CondRead ks s b level at ws ws r
+  unfolding cond-at
+  cond-long l e = record { is = e ∙ sym (rw (lt-ltb 512 (length s) l)); stored = λ o d. unread-ok e o; kept = refl }
+
+  module _ (l : length s ≤ 512) {k : ℕ} (c : k ≡ counted b) {ws′ : List ℕ} {i : Seen} (j : CondIn ks s k level at ws ws′ i) {r : Seen} (e : r ≡ fitted (length ws′) i) where
+    cond-is : (o : Option (Read (Cond Test))) → fitted (length ws) (told ks (one ks) s b level o) ≡ cond-seen ks s (length ws) b level o
+    unfolding cond-seen told
+    cond-is none = fitted-unread (length ws)
+    cond-is (some a) = fitted-told ks (one ks) s b level (length ws) a
+
+    told-i : i ≡ told ks (one ks) s (counted b) level (any-cond (drop at s))
+    told-i = j .is ∙ ap (λ n. told ks (one ks) s n level (any-cond (drop at s))) c
+
+    exact : Fitting i → (o : Option (Read (Cond Test))) → any-cond (drop at s) ≡ o → put-read (one ks) k o ws ≡ cond-stored ks b o ws
+    unfolding put-read cond-stored seen-of deep-seen
+    exact f none q = refl
+    exact f (some a) q =
+        let x : i ≡ told ks (one ks) s (counted b) level (some a) = told-i ∙ ap (told ks (one ks) s (counted b) level) q in
+        by-test (leb (cond-depth (a .what)) level)
+        (λ p.
+        let n : i .count ≡ counted (counted b + size (nodes-of ks (a .what))) = ap (λ y. y .count) (x ∙ told-near ks (one ks) s (counted b) level a p) in
+        let m = f .few in
+        ap (λ n. store (nodes-of ks (a .what)) n ws) (c ∙ count-first b (size (nodes-of ks (a .what))) (omega arith)))
+        (λ p. never (sym (ap (λ y. y .deep) (x ∙ told-deep ks (one ks) s (counted b) level a p)) ∙ f .near))
+
+    pub cond-fitted : CondRead ks s b level at ws ws′ r
+    unfolding cond-at
+    cond-fitted =
+        record {
+          is = e ∙ ap (λ n. fitted n i) (j .kept) ∙ ap (fitted (length ws)) (told-i ∙ told-counted ks s b level (any-cond (drop at s))) ∙ cond-is (any-cond (drop at s)) ∙ sym (rw (le-ltb 512 (length s) l));
+          stored = λ o d. let f = fits-counted (length ws′) i e o d in j .stored (f .ok) (f .near) (f .few) ∙ exact f (any-cond (drop at s)) refl;
+          kept = j .kept;
+        }
+
+  -- where no bracket may be opened
+  pub cond-unopened : {r : Seen} → length s ≤ 512 → level ≡ 0 → r ≡ skipped-seen s at → CondRead ks s b level at ws ws r
+  cond-unopened {r} l z e = cond-fitted l refl (cond-skipped ks s (counted b) level at ws z e) (e ∙ sym (ap (fitted (length ws)) e ∙ stays))
     where
-      go : (t : Bool) → list-seen ks s (ensure t (record { what = list-of (r .what); left = r .left })) ≡ nothing-seen
-      go true = rw (sizes-list ks (r .what), lt-leb (sizes (map-conds (test-node ks) (r .what))) 85 m)
-      go false = refl
+      stays : fitted (length ws) (skipped-seen s at) ≡ skipped-seen s at
+      stays = unfold skipped-seen in by-test (eqb (place s (any-cond (drop at s))) 0) (λ t. rw t (fitted-unread (length ws))) (λ t. rw t (unfold fitted deep-seen in refl))
 
-  nothing-in : {r : Seen} → list-seen ks s (any-some closes any-cond (drop at s)) ≡ nothing-seen → r ≡ nothing-seen → ListIn ks s at ws ws₁ r
-  unfolding ListIn list-at
-  nothing-in e q = (q ∙ sym e, λ o. absurd (ok-none q o))
+pub ruleset read-cond-ends = (cond-long, cond-fitted, cond-unopened)
 
-  pub list-unread : {r : Seen} → not (i .ok) ≡ true → r ≡ nothing-seen → ListIn ks s at ws ws₁ r
-  unfolding list-seen
-  list-unread o q =
-      cases (λ u v. nothing-in (rw u) q) (λ r u m v. nothing-in (ap (list-seen ks s) u ∙ list-full r m) q)
-      (λ r u m v w d. absurd (not-seen ks (tests-of (r .what)) (length s - length (r .left)) (sizes (map-conds (test-node ks) (r .what))) o v))
+-- ---- conditions of a line, up to a closing bracket
 
-  module _ (o : not (i .ok) ≡ false) {e : ℕ} (f : e ≡ end-at (byte 41) s (i .next)) where
-    pub list-open : {r : Seen} → e ≡ 0 → r ≡ nothing-seen → ListIn ks s at ws ws₁ r
-    unfolding list-seen ensure
-    list-open z q =
-        cases (λ u v. nothing-in (rw u) q) (λ r u m v. nothing-in (ap (list-seen ks s) u ∙ list-full r m) q)
-        (λ r u m v w d. ended-cases (byte 41) (cuts-byte 41) s (i .next) f (λ x y. nothing-in (ap (list-seen ks s) u ∙ rw (close-next (r .left) (sym (ap (byte 41) d) ∙ y))) q) (λ x y g k l. absurd (omega arith)))
+closes-first : (bs : Bytes) → closes bs ≡ eqb 41 (getD bs 0 0)
+unfolding closes
+closes-first [] = refl
+closes-first (x ∷ xs) = refl
 
-    pub list-closed : (e ≡ 0 → ⊥) → ListIn ks s at ws ws₁ i
-    unfolding ListIn list-at list-seen list-stored ensure
-    list-closed n =
-        cases (λ u v. absurd (ok-none v (not-false (i .ok) o))) (λ r u m v. absurd (ok-none v (not-false (i .ok) o)))
-        (λ r u m v w d. ended-cases (byte 41) (cuts-byte 41) s (i .next) f (λ x y. absurd (n x)) (λ x y g k l.
-        let b = le-leb (sizes (map-conds (test-node ks) (r .what))) 85 m in
-        let t : any-some closes any-cond (drop at s) ≡ some (record { what = list-of (r .what); left = r .left }) = u ∙ rw (close-here (r .left) x (sym (ap (byte 41) d) ∙ y)) in
-        (v ∙ rw (t, sizes-list ks (r .what), b, tests-list (r .what)), λ k. w ∙ rw (t, sizes-list ks (r .what), b, store-lists ks (r .what) 0 ws))))
+module _ (ks : List ℕ) (s : Bytes) (level at : ℕ) (ws : List ℕ) where
+  pub list-long : {r : Seen} → 512 < length s → r ≡ nothing-seen → ListRead ks s level at ws ws r
+  unfolding list-at
+  list-long l e = record { is = e ∙ sym (rw (lt-ltb 512 (length s) l)); stored = λ o d. unread-ok e o; kept = refl }
 
-pub ruleset list-ends = (list-unread, list-open, list-closed)
+  module _ (l : length s ≤ 512) {ws₁ : List ℕ} {i : Seen} (j : CondsIn ks s 0 level at ws ws₁ i) where
+    -- where no list is read
+    unlisted : {r : Seen} → any-some closes any-cond (drop at s) ≡ none → r ≡ nothing-seen → ListRead ks s level at ws ws₁ r
+    unfolding list-at list-seen
+    unlisted n e = record { is = e ∙ sym (rw (le-ltb 512 (length s) l, n)); stored = λ o d. unread-ok e o; kept = j .kept }
 
--- ---- what is answered and what is stored, of a condition and of a list
+    pub list-unread : {r : Seen} → not (i .ok) ≡ true → r ≡ nothing-seen → ListRead ks s level at ws ws₁ r
+    unfolding bind
+    list-unread o e =
+        told-cases ks (many ks) s 0 level (any-conds (drop at s)) (j .is) (λ n m. unlisted (some-conds (drop at s) ∙ rw n) e) (λ c n m k. never (sym m ∙ not-true (i .ok) o))
 
-module _ (ks : List ℕ) (s : Bytes) (b at : ℕ) (ws : List ℕ) where
-  pub cond-answer : (ws' : List ℕ) (r : Seen) → CondIn ks s b at ws ws' r → r ≡ cond-at ks s b at
-  unfolding CondIn cond-at
-  cond-answer ws' r c = c .0
+    module _ (o : not (i .ok) ≡ false) {y : ℕ} (q : y ≡ getD s (i .next) 0) where
+      listed : {X : Type 0} → ((c : Read (Conds Test)) → any-conds (drop at s) ≡ some c → closes (c .left) ≡ eqb 41 y → X) → X
+      listed f =
+          told-cases ks (many ks) s 0 level (any-conds (drop at s)) (j .is) (λ n m. unread-ok m (not-false (i .ok) o))
+          (λ c n m k. f c n (ap closes (sym (ap (λ p. drop p s) k ∙ left-drop any-conds-leaves s at c n)) ∙ closes-first (drop (i .next) s) ∙ ap (eqb 41) (first-byte s (i .next) ∙ sym q)))
 
-  pub cond-kept-words : {x : Seen} → x ≡ cond-at ks s b at → not (x .ok) ≡ true → ws ≡ cond-stored ks b (any-cond (drop at s)) ws
-  unfolding cond-at cond-stored cond-seen
-  cond-kept-words {x} e o = go (any-cond (drop at s)) e
-    where
-      go : (y : Option (Read (Cond Test))) → x ≡ cond-seen ks s b y → ws ≡ cond-stored ks b y ws
-      go none q = refl
-      go (some r) q =
-          by-test (leb (b + size (nodes-of ks (r .what))) 85) (λ p. absurd (not-seen ks (tests (r .what)) (length s - length (r .left)) (b + size (nodes-of ks (r .what))) o (q ∙ rw p)))
-          (λ p. rw p)
+      pub list-open : {r : Seen} → (y ≡ 41 → ⊥) → r ≡ nothing-seen → ListRead ks s level at ws ws₁ r
+      unfolding bind ensure
+      list-open z e = listed (λ c n m. unlisted (some-conds (drop at s) ∙ rw (n, m, ne-eqb 41 y (λ w. z (sym w)))) e)
 
-  pub cond-new-words : {x : Seen} (ws' : List ℕ) (r : Seen) → x ≡ cond-at ks s b at → not (x .ok) ≡ false → CondIn ks s b at ws ws' r → ws' ≡ cond-stored ks b (any-cond (drop at s)) ws
-  unfolding CondIn cond-at
-  cond-new-words {x} ws' r e o c = c .1 (ap (λ z. z .ok) (c .0 ∙ sym e) ∙ not-false (x .ok) o)
+      module _ (z : y ≡ 41) {r : Seen} (e : r ≡ fitted (length ws₁) i) where
+        list-is : (c : Read (Conds Test)) → fitted (length ws) (told ks (many ks) s 0 level (some c)) ≡ list-seen ks s (length ws) level (some (record { what = list-of (c .what); left = c .left }))
+        unfolding list-seen
+        list-is c =
+            let n : 0 + list-size (map (nodes-of ks) (list-of (c .what))) ≡ list-size (map (nodes-of ks) (list-of (c .what))) = omega arith in
+            fitted-told ks (many ks) s 0 level (length ws) c ∙ rw (sym (depth-list level (c .what)), sym (tests-list (c .what)), sym (sizes-list ks (c .what)), n)
 
-pub ruleset cond-check-ends = (cond-answer)
+        pub list-closed : ListRead ks s level at ws ws₁ r
+        unfolding list-at list-stored put-read bind ensure
+        list-closed =
+            listed (λ c n m.
+            let x : any-some closes any-cond (drop at s) ≡ some (record { what = list-of (c .what); left = c .left }) = some-conds (drop at s) ∙ rw (n, m, eq-eqb 41 y (sym z)) in
+            record {
+              is = e ∙ ap (λ n. fitted n i) (j .kept) ∙ ap (fitted (length ws)) (j .is ∙ ap (told ks (many ks) s 0 level) n) ∙ list-is c ∙ sym (rw (le-ltb 512 (length s) l, x));
+              stored = λ o d. let f = fits-counted (length ws₁) i e o d in j .stored (f .ok) (f .near) (f .few) ∙ ap (λ w. put-read (many ks) 0 w ws) n ∙ sym (store-lists ks (c .what) 0 ws) ∙ sym (ap (λ w. list-stored ks w ws) x);
+              kept = j .kept;
+            })
 
-pub ruleset cond-store-ends = (cond-answer, cond-kept-words, cond-new-words)
-
-module _ (ks : List ℕ) (s : Bytes) (at : ℕ) (ws : List ℕ) where
-  pub list-answer : (ws' : List ℕ) (r : Seen) → ListIn ks s at ws ws' r → r ≡ list-at ks s at
-  unfolding ListIn
-  list-answer ws' r c = c .0
-
-  pub list-kept-words : {x : Seen} → x ≡ list-at ks s at → not (x .ok) ≡ true → ws ≡ list-stored ks (any-some closes any-cond (drop at s)) ws
-  unfolding list-at list-stored list-seen
-  list-kept-words {x} e o = go (any-some closes any-cond (drop at s)) e
-    where
-      go : (y : Option (Read (List (Cond Test)))) → x ≡ list-seen ks s y → ws ≡ list-stored ks y ws
-      go none q = refl
-      go (some r) q =
-          by-test (leb (list-size (map (nodes-of ks) (r .what))) 85) (λ p. absurd (not-seen ks (gather tests (r .what)) (length s - length (r .left)) (list-size (map (nodes-of ks) (r .what))) o (q ∙ rw p)))
-          (λ p. rw p)
-
-  pub list-new-words : {x : Seen} (ws' : List ℕ) (r : Seen) → x ≡ list-at ks s at → not (x .ok) ≡ false → ListIn ks s at ws ws' r → ws' ≡ list-stored ks (any-some closes any-cond (drop at s)) ws
-  unfolding ListIn
-  list-new-words {x} ws' r e o c = c .1 (ap (λ z. z .ok) (c .0 ∙ sym e) ∙ not-false (x .ok) o)
-
-pub ruleset list-check-ends = (list-answer)
-
-pub ruleset list-store-ends = (list-answer, list-kept-words, list-new-words)
+pub ruleset read-list-ends = (list-long, list-unread, list-open, list-closed)

@@ -1,149 +1,66 @@
-// Conditions of a line: what they name, and their nodes in lent words.
+// Conditions of a line: what they name, and their nodes in words.
 ghost use mathlib.Core.Path.{_≡_};
 ghost use mathlib.Core.Bool.{true, _||_};
+ghost use Prim.Native.Nat.{suc, _≤_};
 ghost use lib.Dec.{eqb};
-ghost use lib.ListN.{drop};
-ghost use Rattle.syntax.specs.Readers.{closes};
-ghost use Rattle.shape.specs.Ends.{any-cond, any-some};
-ghost use Rattle.terms.specs.Terms.{comparison-at};
-ghost use Rattle.conditions.specs.Seeing.{head-at, nothing-seen, cond-at, cond-stored, list-at, list-stored};
-ghost use Rattle.conditions.specs.Steps.{Answers, CondIn, CondsIn, ListIn, head-of-one, head-of-two, head-of-three, head-lettered, compared-seen, compared-stored, closed-seen, closed-stored, both-seen};
+ghost use lib.ListN.{length, drop};
+ghost use Rattle.syntax.specs.Limits.{max-line};
+ghost use Rattle.text.specs.Keywords.{place};
+ghost use Rattle.text.specs.Readings.{any-cond};
+ghost use Rattle.terms.specs.Terms.{unknown-code, comparison-at};
+ghost use Rattle.conditions.specs.Seeing.{head-at, nothing-seen, deep-seen, begun, CondRead, ListRead, most-words};
+ghost use Rattle.conditions.specs.Steps.{counted, Placed, compared-seen, compared-stored, closed-seen, closed-stored, both-seen, Answers, fitted, CondIn, CondsIn, stuck, after-cond, skipped-seen, max-nest};
 use nodes::Node;
-use nodes::put_node;
-use terms::comparison_at;
+use terms::Term;
+use text::Line;
+use text::Word;
 
-// The head of a condition by its number, and the place after it.
+// The head of a condition by its number, 0 for none, and the place after it.
 pub struct Headed {
     pub head: u32,
     pub next: usize,
 }
 
-// What is read of conditions. `count` nodes are stored after them; `lefts` and `rights` are the codes of their terms as bits.
+// What is read of conditions, up to a place. `count` words are stored after them; `lefts` and `rights` are the codes of their terms as bits.
+// `deep`: brackets nest deeper than they may, and nothing else is told.
 pub struct Seen {
     pub ok: bool,
     pub next: usize,
     pub count: u32,
     pub over: bool,
     pub unknown: bool,
+    pub deep: bool,
     pub lefts: u32,
     pub rights: u32,
 }
 
-// The head that is one letter.
-fn head_of_one(a: u8) -> u32
-    ensures { λ r. ⌜ r ≡ head-of-one a ⌝ }
-{
-    if a == b'=' {
-        return 1;
-    }
-    if a == b'<' {
-        return 3;
-    }
-    if a == b'>' {
-        return 5;
-    }
-    0
+impl Seen {
+    // How many words a node's link can tell: it has one byte.
+    pub const MOST: u32 = 255;
+    // All counts beyond are this one.
+    pub const MORE: u32 = 256;
 }
 
-// The head that is two letters.
-fn head_of_two(a: u8, b: u8) -> u32
-    ensures { λ r. ⌜ r ≡ head-of-two a b ⌝ }
-{
-    if b == b'=' {
-        if a == b'/' {
-            return 2;
-        }
-        if a == b'<' {
-            return 4;
-        }
-        if a == b'>' {
-            return 6;
-        }
-        return 0;
-    }
-    if b != b'r' {
-        return 0;
-    }
-    if a != b'o' {
-        return 0;
-    }
-    8
-}
-
-// The head that is three letters.
-fn head_of_three(a: u8, b: u8, c: u8) -> u32
-    ensures { λ r. ⌜ r ≡ head-of-three a b c ⌝ }
-{
-    if a == b'a' {
-        if b != b'n' {
-            return 0;
-        }
-        if c != b'd' {
-            return 0;
-        }
-        return 7;
-    }
-    if a != b'n' {
-        return 0;
-    }
-    if b != b'o' {
-        return 0;
-    }
-    if c != b't' {
-        return 0;
-    }
-    9
-}
-
-// The head by its length and its letters, 0 where it is none.
-fn head_by(n: usize, a: u8, b: u8, c: u8) -> u32
-    ensures { λ r. ⌜ r ≡ head-lettered n a b c ⌝ }
-{
-    if n == 1 {
-        return head_of_one(a);
-    }
-    if n == 2 {
-        return head_of_two(a, b);
-    }
-    if n == 3 {
-        return head_of_three(a, b, c);
-    }
-    0
-}
-
-// The head of a condition at a place.
+// Returns the head of a condition at a place, and the place after it; 0 and 0 mean that there is none.
 pub fn head_at(s: &[u8], at: usize) -> Headed
     ensures { λ r. ⌜ r ≡ head-at (now (s .entry)) at ⌝ }
 {
-    let p = shape::byte_end(s, at, b'(');
-    if p == 0 {
+    if text::byte(s, at) != b'(' {
         return Headed { head: 0, next: 0 };
     }
-    if s.len() <= p {
-        return Headed { head: 0, next: 0 };
-    }
-    let e = text::run_end(s, p, text::Class::Plain);
-    let a = text::byte(s, p);
-    let b = text::byte(s, p + 1);
-    let c = text::byte(s, p + 2);
-    let n = head_by(e - p, a, b, c);
+    let w = text::word_at(s, at + 1);
+    let n = Word::head(w.code);
     if n == 0 {
         return Headed { head: 0, next: 0 };
     }
-    Headed { head: n, next: e }
-}
-
-// Whether one of two terms is not declared.
-fn undeclared(left: u32, right: u32) -> bool
-    ensures { λ r. ⌜ r ≡ (eqb left 28 || eqb right 28) ⌝ }
-{
-    if left == 28 {
-        return true;
+    Headed {
+        head: n,
+        next: w.next,
     }
-    right == 28
 }
 
-fn nothing_seen() -> Seen
+// Returns what is seen where there is no condition.
+pub fn nothing_seen() -> Seen
     ensures { λ r. ⌜ r ≡ nothing-seen ⌝ }
 {
     Seen {
@@ -152,20 +69,178 @@ fn nothing_seen() -> Seen
         count: 0,
         over: false,
         unknown: false,
+        deep: false,
         lefts: 0,
         rights: 0,
     }
 }
 
-// A comparison after its head, its node after the first b.
-fn compared(s: &[u8], at: usize, ks: &[u64], words: &mut [u32], head: u32, b: u32) -> Seen
-    ensures { λ r. ⌜ Answers r (now (words .exit)) (compared-seen b (comparison-at (now (ks .entry)) (now (s .entry)) at)) (compared-stored head b (comparison-at (now (ks .entry)) (now (s .entry)) at) (now (words .entry))) ⌝ }
+// Conditions up to a place, whose brackets nest too deep.
+fn deep_seen(next: usize) -> Seen
+    ensures { λ r. ⌜ r ≡ deep-seen next ⌝ }
 {
-    let c = comparison_at(s, at, ks);
-    if !c.ok {
-        return nothing_seen();
+    Seen {
+        ok: true,
+        next: next,
+        count: 0,
+        over: false,
+        unknown: false,
+        deep: true,
+        lefts: 0,
+        rights: 0,
     }
-    if Node::LAST <= b {
+}
+
+// Returns what is seen before the first condition, at a place and after the first b words.
+pub fn begun(at: usize, b: u32) -> Seen
+    ensures { λ r. ⌜ r ≡ begun at b ⌝ }
+{
+    Seen {
+        ok: true,
+        next: at,
+        count: b,
+        over: false,
+        unknown: false,
+        deep: false,
+        lefts: 0,
+        rights: 0,
+    }
+}
+
+// ---- where a condition ends that nests too deep, with no recursion
+
+// How far a skip has come: the place of the next condition, 0 where there is none; how many conditions of conditions are open; whether it has come to the end.
+pub struct Skip {
+    pub at: usize,
+    pub nest: usize,
+    pub done: bool,
+}
+
+impl Skip {
+    // How many conditions of conditions can be open at once: each takes four bytes of a line or more.
+    pub const MOST: usize = 128;
+}
+
+// No condition goes on.
+fn stuck() -> Skip
+    ensures { λ r. ⌜ r ≡ stuck ⌝ }
+{
+    Skip {
+        at: 0,
+        nest: 0,
+        done: true,
+    }
+}
+
+// After a condition that ended at a place: the brackets that close, up to where the next condition begins or the outermost ends.
+fn after(s: &[u8], single: &[bool; Skip::MOST], at: usize, nest: usize) -> Skip
+    requires { ⌜ nest ≤ max-nest ⌝ }
+    ensures { λ r. ⌜ r ≡ after-cond (now (s .entry)) (now (single .entry)) at nest ⌝ }
+{
+    let mut p = at;
+    let mut n = nest;
+    while 0 < n {
+        let b = text::byte(s, p);
+        if b == b')' {
+            p += 1;
+            n -= 1;
+            continue;
+        }
+        if b != b' ' {
+            return stuck();
+        }
+        if single[n - 1] {
+            return stuck();
+        }
+        return Skip {
+            at: p + 1,
+            nest: n,
+            done: false,
+        };
+    }
+    Skip {
+        at: p,
+        nest: 0,
+        done: true,
+    }
+}
+
+// Where a condition ends that begins at a place, 0 where there is none, however deep its brackets nest.
+fn skip_cond(s: &[u8], at: usize, names: &[u64]) -> usize
+    requires { ⌜ length (now s) ≤ max-line ⌝ }
+    ensures { λ r. ⌜ r ≡ place (now (s .entry)) (any-cond (drop at (now (s .entry)))) ⌝ }
+{
+    let mut single = [false; Skip::MOST];
+    let mut nest: usize = 0;
+    let mut p = at;
+    while p < s.len() {
+        let h = head_at(s, p);
+        let n = h.head;
+        if n == 0 {
+            return 0;
+        }
+        if n < Node::AND {
+            let c = terms::comparison_at(s, h.next, names);
+            if !c.ok {
+                return 0;
+            }
+            let k = after(s, &single, c.next, nest);
+            if k.done {
+                return k.at;
+            }
+            p = k.at;
+            nest = k.nest;
+            continue;
+        }
+        let q = h.next;
+        if text::byte(s, q) != b' ' {
+            return 0;
+        }
+        single[nest] = n == Node::NOT;
+        nest += 1;
+        p = q + 1;
+    }
+    0
+}
+
+// ---- the reader
+
+// Whether one of two terms is not declared.
+fn undeclared(left: u32, right: u32) -> bool
+    ensures { λ r. ⌜ r ≡ (eqb left unknown-code || eqb right unknown-code) ⌝ }
+{
+    if left == Term::UNKNOWN {
+        return true;
+    }
+    right == Term::UNKNOWN
+}
+
+// A count of words.
+fn counted(n: u32) -> u32
+    ensures { λ r. ⌜ r ≡ counted n ⌝ }
+{
+    if Seen::MOST < n {
+        return Seen::MORE;
+    }
+    n
+}
+
+// A node after the first b words, where it has room: how many words there are then.
+fn placed(words: &mut [u32], b: u32, n: Node) -> u32
+    requires { ⌜ b ≤ suc most-words ⌝ }
+    ensures { λ r. ⌜ Placed b n (now (words .entry)) (now (words .exit)) r ⌝ }
+{
+    nodes::put_node(words, b as usize, n);
+    counted(b + nodes::node_words(n) as u32)
+}
+
+// A comparison after its head, its node after the first b words.
+fn compared(s: &[u8], at: usize, names: &[u64], words: &mut [u32], head: u32, b: u32) -> Seen
+    requires { ⌜ b ≤ suc most-words ⌝ }
+    ensures { λ r. ⌜ Answers r (now (words .exit)) (compared-seen b (comparison-at (now (names .entry)) (now (s .entry)) at)) (compared-stored head b (comparison-at (now (names .entry)) (now (s .entry)) at) (now (words .entry))) ⌝ }
+{
+    let c = terms::comparison_at(s, at, names);
+    if !c.ok {
         return nothing_seen();
     }
     let n = Node {
@@ -175,16 +250,17 @@ fn compared(s: &[u8], at: usize, ks: &[u64], words: &mut [u32], head: u32, b: u3
         before: b,
         value: c.value,
     };
-    put_node(words, (b + 1) as usize, n);
+    let count = placed(words, b, n);
     let unknown = undeclared(c.left, c.right);
     let lefts = masks::with(0, c.left);
     let rights = masks::with(0, c.right);
     Seen {
         ok: true,
         next: c.next,
-        count: b + 1,
+        count: count,
         over: c.over,
         unknown: unknown,
+        deep: false,
         lefts: lefts,
         rights: rights,
     }
@@ -192,19 +268,18 @@ fn compared(s: &[u8], at: usize, ks: &[u64], words: &mut [u32], head: u32, b: u3
 
 // The closing bracket of `and`, `or` and `not`, whose node follows those inside.
 fn closed(s: &[u8], words: &mut [u32], head: u32, b: u32, i: Seen) -> Seen
+    requires { ⌜ i .count ≤ suc most-words ⌝ }
     ensures { λ r. ⌜ Answers r (now (words .exit)) (closed-seen (now (s .entry)) i) (closed-stored head b (now (s .entry)) i (now (words .entry))) ⌝ }
 {
     if !i.ok {
         return nothing_seen();
     }
     let at = i.next;
-    let q = shape::byte_end(s, at, b')');
-    if q == 0 {
+    if text::byte(s, at) != b')' {
         return nothing_seen();
     }
-    let k = i.count;
-    if Node::LAST <= k {
-        return nothing_seen();
+    if i.deep {
+        return deep_seen(at + 1);
     }
     let n = Node {
         head: head,
@@ -213,24 +288,28 @@ fn closed(s: &[u8], words: &mut [u32], head: u32, b: u32, i: Seen) -> Seen
         before: b,
         value: 0,
     };
-    put_node(words, (k + 1) as usize, n);
+    let count = placed(words, i.count, n);
     Seen {
         ok: true,
-        next: q,
-        count: k + 1,
+        next: at + 1,
+        count: count,
         over: i.over,
         unknown: i.unknown,
+        deep: false,
         lefts: i.lefts,
         rights: i.rights,
     }
 }
 
-// A condition, and those after it in its list.
+// Conditions, and one after them.
 fn both(i: Seen, j: Seen) -> Seen
     ensures { λ r. ⌜ r ≡ both-seen i j ⌝ }
 {
-    if !j.ok {
-        return nothing_seen();
+    if i.deep {
+        return deep_seen(j.next);
+    }
+    if j.deep {
+        return deep_seen(j.next);
     }
     let over = text::either(i.over, j.over);
     let unknown = text::either(i.unknown, j.unknown);
@@ -242,109 +321,123 @@ fn both(i: Seen, j: Seen) -> Seen
         count: j.count,
         over: over,
         unknown: unknown,
+        deep: false,
         lefts: lefts,
         rights: rights,
     }
 }
 
-// A condition at a place, its nodes after the first b.
-fn cond_in(s: &[u8], at: usize, ks: &[u64], words: &mut [u32], b: u32) -> Seen
-    ensures { λ r. ⌜ CondIn (now (ks .entry)) (now (s .entry)) b at (now (words .entry)) (now (words .exit)) r ⌝ }
+// A condition too deep in brackets: only where it ends.
+fn skipped(s: &[u8], at: usize, names: &[u64]) -> Seen
+    requires { ⌜ length (now s) ≤ max-line ⌝ }
+    ensures { λ r. ⌜ r ≡ skipped-seen (now (s .entry)) at ⌝ }
 {
+    let e = skip_cond(s, at, names);
+    if e == 0 {
+        return nothing_seen();
+    }
+    deep_seen(e)
+}
+
+// A condition at a place, its words after the first b; `level` brackets may still be opened.
+fn cond_in(s: &[u8], at: usize, names: &[u64], words: &mut [u32], b: u32, level: u32) -> Seen
+    requires { ⌜ (length (now s) ≤ max-line) × (b ≤ suc most-words) ⌝ }
+    ensures { λ r. ⌜ CondIn (now (names .entry)) (now (s .entry)) b level at (now (words .entry)) (now (words .exit)) r ⌝ }
+{
+    if level == 0 {
+        return skipped(s, at, names);
+    }
     let h = head_at(s, at);
     let n = h.head;
     let p = h.next;
     if n == 0 {
         return nothing_seen();
     }
-    if n < 7 {
-        return compared(s, p, ks, words, n, b);
+    if n < Node::AND {
+        return compared(s, p, names, words, n, b);
     }
-    if n < 9 {
-        let i = conds_in(s, p, ks, words, b);
+    if n < Node::NOT {
+        let i = conds_in(s, p, names, words, b, level - 1);
         return closed(s, words, n, b, i);
     }
-    let q = shape::byte_end(s, p, b' ');
-    if q == 0 {
+    if text::byte(s, p) != b' ' {
         return nothing_seen();
     }
-    let i = cond_in(s, q, ks, words, b);
-    closed(s, words, 9, b, i)
+    let i = cond_in(s, p + 1, names, words, b, level - 1);
+    closed(s, words, Node::NOT, b, i)
 }
 
-// One or more conditions, each after one space, their nodes after the first b.
-fn conds_in(s: &[u8], at: usize, ks: &[u64], words: &mut [u32], b: u32) -> Seen
-    ensures { λ r. ⌜ CondsIn (now (ks .entry)) (now (s .entry)) b at (now (words .entry)) (now (words .exit)) r ⌝ }
+// One or more conditions, each after one space, their words after the first b.
+fn conds_in(s: &[u8], at: usize, names: &[u64], words: &mut [u32], b: u32, level: u32) -> Seen
+    requires { ⌜ (length (now s) ≤ max-line) × (b ≤ suc most-words) ⌝ }
+    ensures { λ r. ⌜ CondsIn (now (names .entry)) (now (s .entry)) b level at (now (words .entry)) (now (words .exit)) r ⌝ }
 {
-    let p = shape::byte_end(s, at, b' ');
-    if p == 0 {
+    if text::byte(s, at) != b' ' {
         return nothing_seen();
     }
-    let i = cond_in(s, p, ks, words, b);
+    let mut r = begun(at, b);
+    while r.next < s.len() {
+        let p = r.next;
+        if s[p] != b' ' {
+            return r;
+        }
+        let i = cond_in(s, p + 1, names, words, r.count, level);
+        if !i.ok {
+            return nothing_seen();
+        }
+        r = both(r, i);
+    }
+    nothing_seen()
+}
+
+// What is read, where its words have room.
+fn fitted(i: Seen, room: usize) -> Seen
+    ensures { λ r. ⌜ r ≡ fitted room i ⌝ }
+{
     if !i.ok {
-        return nothing_seen();
-    }
-    let q = i.next;
-    if s.len() <= q {
-        return nothing_seen();
-    }
-    if s[q] != b' ' {
         return i;
     }
-    let j = conds_in(s, q, ks, words, i.count);
-    both(i, j)
-}
-
-// One or more conditions up to a closing bracket.
-fn list_in(s: &[u8], at: usize, ks: &[u64], words: &mut [u32]) -> Seen
-    ensures { λ r. ⌜ ListIn (now (ks .entry)) (now (s .entry)) at (now (words .entry)) (now (words .exit)) r ⌝ }
-{
-    let i = conds_in(s, at, ks, words, 0);
-    if !i.ok {
+    if i.deep {
+        return i;
+    }
+    if Seen::MOST < i.count {
         return nothing_seen();
     }
-    let q = i.next;
-    let e = shape::byte_end(s, q, b')');
-    if e == 0 {
+    if room < i.count as usize {
         return nothing_seen();
     }
     i
 }
 
-// What a condition at a place names, and whether it is read with room for its nodes after the first b.
-pub fn cond_check(s: &[u8], at: usize, ks: &[u64], b: u32) -> Seen
-    ensures { λ r. ⌜ r ≡ cond-at (now (ks .entry)) (now (s .entry)) b at ⌝ }
+// Returns what is seen of a condition at a place of a line where `level` brackets may still be opened; `ok` is false where there is none or its words have no room.
+// Leaves its words after the first b, and all others as they were; where it is not read or too deep, as many words, of any value.
+pub fn read_cond(s: &[u8], at: usize, names: &[u64], words: &mut [u32], b: u32, level: u32) -> Seen
+    ensures { λ r. ⌜ CondRead (now (names .entry)) (now (s .entry)) b level at (now (words .entry)) (now (words .exit)) r ⌝ }
 {
-    let mut none = [0u32; 1]; // no node has room in it
-    cond_in(s, at, ks, &mut none, b)
-}
-
-// The same, and its nodes are stored where it is.
-pub fn cond_store(s: &[u8], at: usize, ks: &[u64], words: &mut [u32], b: u32) -> Seen
-    ensures { λ r. ⌜ (r ≡ cond-at (now (ks .entry)) (now (s .entry)) b at) × (now (words .exit) ≡ cond-stored (now (ks .entry)) b (any-cond (drop at (now (s .entry)))) (now (words .entry))) ⌝ }
-{
-    let c = cond_check(s, at, ks, b);
-    if !c.ok {
-        return c;
+    if Line::BYTES < s.len() {
+        return nothing_seen();
     }
-    cond_in(s, at, ks, words, b)
-}
-
-// What conditions up to a closing bracket name, and whether they are read with room for their nodes.
-pub fn list_check(s: &[u8], at: usize, ks: &[u64]) -> Seen
-    ensures { λ r. ⌜ r ≡ list-at (now (ks .entry)) (now (s .entry)) at ⌝ }
-{
-    let mut none = [0u32; 1]; // no node has room in it
-    list_in(s, at, ks, &mut none)
-}
-
-// The same, and their nodes are stored where they are.
-pub fn list_store(s: &[u8], at: usize, ks: &[u64], words: &mut [u32]) -> Seen
-    ensures { λ r. ⌜ (r ≡ list-at (now (ks .entry)) (now (s .entry)) at) × (now (words .exit) ≡ list-stored (now (ks .entry)) (any-some closes any-cond (drop at (now (s .entry)))) (now (words .entry))) ⌝ }
-{
-    let c = list_check(s, at, ks);
-    if !c.ok {
-        return c;
+    if level == 0 {
+        return skipped(s, at, names);
     }
-    list_in(s, at, ks, words)
+    let i = cond_in(s, at, names, words, counted(b), level);
+    fitted(i, words.len())
+}
+
+// Returns what is seen of one or more conditions of a line up to a closing bracket, and the place of that; `ok` is false as in `read_cond`.
+// Leaves their words from the first on, and all others as they were; where they are not read or too deep, as many words, of any value.
+pub fn read_list(s: &[u8], at: usize, names: &[u64], words: &mut [u32], level: u32) -> Seen
+    ensures { λ r. ⌜ ListRead (now (names .entry)) (now (s .entry)) level at (now (words .entry)) (now (words .exit)) r ⌝ }
+{
+    if Line::BYTES < s.len() {
+        return nothing_seen();
+    }
+    let i = conds_in(s, at, names, words, 0, level);
+    if !i.ok {
+        return nothing_seen();
+    }
+    if text::byte(s, i.next) != b')' {
+        return nothing_seen();
+    }
+    fitted(i, words.len())
 }

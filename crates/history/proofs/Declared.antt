@@ -1,61 +1,105 @@
 -- A stream more: the record has its stream, with no rows.
-use mathlib.Core.Path.{_≡_, refl, sym, ap, ap₂, _∙_}
+use mathlib.Core.Path.{_≡_, sym, ap, ap₂, _∙_}
 use mathlib.Core.List.{List, [], _∷_, _++_, map, map-append}
-use Prim.Native.Nat.{ℕ, suc, _+_, _*_, _-_, _<_, min}
+use mathlib.Core.Bool.{_&&_, _||_, not}
+use mathlib.Core.Option.{some}
+use Prim.Native.Nat.{ℕ, suc, _+_, _*_, _<_}
 use native.Mathlib.Nat.{zero-add}
 use native.Mathlib.Omega.{arith}
-use lib.IntN.{ℤ}
-use lib.Dec.{T, eqb, eqb→eq}
-use lib.ListN.{length, length-append, getD}
-use Rattle.lists.specs.Lists.{every, nth, count-from}
-use Rattle.lists.proofs.Laws.{parts, nth-before}
-use Rattle.model.specs.Queries.{Stream, no-stream}
+use lib.Dec.{T, ltb, ltb→lt}
+use lib.ListN.{length, length-append}
+use Rattle.refusal.specs.Checks.{passes}
+use Rattle.refusal.proofs.Passing.{pass-first, pass-rest, pass-test}
+use Rattle.lists.specs.Lists.{every, nth, count-from, distinct, same-list}
+use Rattle.lists.proofs.Laws.{parts, and-l, nth-before, not-or-l, every-append-r}
+use Rattle.lists.proofs.Counting.{count-more, map-alike}
+use Rattle.syntax.specs.Grammar as G
+use Rattle.syntax.specs.Grammar.{body?}
+use Rattle.syntax.specs.Limits.{max-streams, max-rows}
+use Rattle.model.specs.Queries.{Stream, Schema, Row, no-stream}
 use Rattle.calls.specs.Names.{columns-named}
-use Rattle.schema.specs.Schemas.{streams-in, width-of, schema-of}
-use Rattle.schema.specs.declared.Schema.{Schema}
-use Rattle.schema.proofs.Soundness.{length-schema, length-columns}
-use Rattle.schema.proofs.Tables.{columns-named-in}
-use Rattle.schema.proofs.Adding.{map-count}
-use Rattle.ledger.specs.Records.{row-in, count-in, rows-in, record-of, rows-sound}
-use Rattle.ledger.specs.declared.Ledger.{Ledger}
-use Rattle.lists.proofs.Counting.{count-more, every-at}
-use Rattle.ledger.proofs.Records.{streams-le}
+use Rattle.calls.specs.Bounds.{stream-bounded}
+use Rattle.calls.specs.Validity.{valid-stream, valid-schema, valid-record}
+use Rattle.calls.specs.Tables.{declared, stream-checks}
+use Rattle.calls.specs.Calls as C
+use Rattle.calls.proofs.Valid.{stream-valid}
+use Rattle.schema.specs.Schemas.{streams-in, width-in, schema-of}
+use Rattle.schema.proofs.Tests.{streams-most}
+use Rattle.schema.proofs.Lookups.{length-schema, length-columns}
+use Rattle.schema.proofs.Adding.{schema-more, sound-more}
+use Rattle.stream_line.specs.Declaring as D
+use Rattle.ledger.specs.Records.{Memory, with-names, row-in, count-in, rows-in, record-of, memory-sound}
+use Rattle.ledger.proofs.Soundness.{sound-parts}
+use Rattle.ledger.proofs.Valid.{sound-valid}
+use Rattle.ledger.proofs.Kept.{undeclared-none, names-sound}
+use Rattle.history.specs.States.{State, Sound}
 
-module _ (q q′ : Schema) (s : Stream) (e : schema-of q′ ≡ schema-of q ++ (s ∷ [])) where
-  pub one-more : streams-in q′ ≡ suc (streams-in q)
-  one-more = let a = length-schema q in let b = length-schema q′ in let c = ap length e in let d = length-append (schema-of q) (s ∷ []) in omega arith
+-- ---- names of a schema with one stream more
 
-  named-before : (i : ℕ) → i < streams-in q → columns-named (schema-of q′) i ≡ columns-named (schema-of q) i
+module _ (ns ns′ : List ℕ) (s : Stream) (e : schema-of ns′ ≡ schema-of ns ++ (s ∷ [])) where
+  one-more : streams-in ns′ ≡ suc (streams-in ns)
+  one-more = let a = length-schema ns in let b = length-schema ns′ in let c = ap length e in let d = length-append (schema-of ns) (s ∷ []) in omega arith
+
+  width-before : (i : ℕ) → i < streams-in ns → width-in ns′ i ≡ width-in ns i
   unfolding columns-named
-  named-before i h = let l : i < length (schema-of q) = (let a = length-schema q in omega arith) in ap (λ d. nth no-stream d i .columns) e ∙ ap (λ t. t .columns) (nth-before no-stream (schema-of q) (s ∷ []) i l)
-
-  width-before : (i : ℕ) → i < streams-in q → width-of q′ i ≡ width-of q i
   width-before i h =
-      let l : i < streams-in q′ = (let m = one-more in omega arith) in
-      sym (length-columns q′ i) ∙ ap length (sym (columns-named-in q′ i (streams-in q′) refl l) ∙ named-before i h ∙ columns-named-in q i (streams-in q) refl h) ∙ length-columns q i
+      let l : i < streams-in ns′ = (let m = one-more in omega arith) in
+      let k : i < length (schema-of ns) = (let a = length-schema ns in omega arith) in
+      sym (length-columns ns′ i l) ∙ ap (λ (d : Schema). length (nth no-stream d i .columns)) e ∙ ap (λ (t : Stream). length (t .columns)) (nth-before no-stream (schema-of ns) (s ∷ []) i k) ∙ length-columns ns i h
 
-  module _ (l : Ledger) (times : List ℕ) (values : List ℤ) where
-    rows-before : (i : ℕ) → i < streams-in q → rows-in l q′ times values i ≡ rows-in l q times values i
-    unfolding rows-in
-    rows-before i h = ap (λ w. map (λ r. row-in times values w (i * 128 + r)) (count-from 0 (count-in l i))) (width-before i h)
+module _ (m : Memory) (ns : List ℕ) (s : Stream) (e : schema-of ns ≡ schema-of (m .names) ++ (s ∷ [])) (ok : T (memory-sound m)) where
+  rows-before : (i : ℕ) → i < streams-in (m .names) → rows-in (with-names m ns) i ≡ rows-in m i
+  unfolding rows-in
+  rows-before i h = ap (λ w. map (λ r. row-in (m .times) (m .values) w (i * max-rows + r)) (count-from 0 (count-in (m .ledger) i))) (width-before (m .names) ns s e i h)
 
-    rows-new : T (rows-sound l q times values) → rows-in l q′ times values (streams-in q) ≡ []
-    unfolding rows-in count-in rows-sound count-from
-    rows-new r =
-        let m = streams-le q′ in
-        let k = one-more in
-        let t : T (every (λ s. eqb (getD (l .rows) s 0) 0) (count-from (streams-in q) (4 - streams-in q))) = search parts in
-        let z = eqb→eq (getD (l .rows) (streams-in q) 0) 0 (every-at (λ s. eqb (getD (l .rows) s 0) 0) (streams-in q) (4 - streams-in q) t (streams-in q) (omega arith) (omega arith)) in
-        ap (λ n. map (λ r. row-in times values (width-of q′ (streams-in q)) (streams-in q * 128 + r)) (count-from 0 (min n 128))) z
+  rows-new : rows-in (with-names m ns) (streams-in (m .names)) ≡ []
+  unfolding rows-in count-from
+  rows-new =
+      let k = one-more (m .names) ns s e in
+      let l = streams-most ns in
+      rw (undeclared-none m ok (streams-in (m .names)) (omega arith) (omega arith))
 
-    all-rows : T (rows-sound l q times values) → map (rows-in l q′ times values) (count-from 0 (streams-in q′)) ≡ map (rows-in l q times values) (count-from 0 (streams-in q)) ++ ([] ∷ [])
-    all-rows r =
-        ap (λ n. map (rows-in l q′ times values) (count-from 0 n)) one-more
-        ∙ ap (map (rows-in l q′ times values)) (count-more 0 (streams-in q))
-        ∙ map-append (rows-in l q′ times values) (count-from 0 (streams-in q)) ((0 + streams-in q) ∷ [])
-        ∙ ap₂ (λ xs x. xs ++ (x ∷ [])) (map-count (rows-in l q′ times values) (rows-in l q times values) 0 (streams-in q) (λ i h. rows-before i (omega arith))) (ap (rows-in l q′ times values) (zero-add (streams-in q)) ∙ rows-new r)
+  record-more : record-of (with-names m ns) ≡ C.with-stream (record-of m) (some s)
+  unfolding record-of C.with-stream
+  record-more =
+      ap₂ (λ (d : Schema) (rs : List (List Row)). record { clock = m .ledger .clock; schema = d; rows = rs }) e
+      (ap (λ n. map (rows-in (with-names m ns)) (count-from 0 n)) (one-more (m .names) ns s e)
+      ∙ ap (map (rows-in (with-names m ns))) (count-more 0 (streams-in (m .names)))
+      ∙ map-append (rows-in (with-names m ns)) (count-from 0 (streams-in (m .names))) ((0 + streams-in (m .names)) ∷ [])
+      ∙ ap₂ (λ xs x. xs ++ (x ∷ [])) (map-alike (rows-in (with-names m ns)) (rows-in m) 0 (streams-in (m .names)) (λ i a b. rows-before i (omega arith))) (ap (rows-in (with-names m ns)) (zero-add (streams-in (m .names))) ∙ rows-new))
 
-    pub record-more : T (rows-sound l q times values)
-        → record-of l q′ times values ≡ record { clock = l .clock; schema = schema-of q ++ (s ∷ []); rows = record-of l q times values .rows ++ ([] ∷ []) }
-    unfolding record-of
-    record-more r = ap₂ (λ d rs. record { clock = l .clock; schema = d; rows = rs }) e (all-rows r)
+-- ---- what an accepted stream call leaves
+
+module _ (m : State) (ok : Sound m) (s : Stream) (b : T (body? G.stream s)) (p : T (passes (stream-checks (schema-of (m .names)) s))) where
+  few : streams-in (m .names) < max-streams
+  unfolding stream-checks
+  few =
+      let t = pass-test _ (stream-bounded s && ltb (length (schema-of (m .names))) max-streams) _ p in
+      let l = ltb→lt (length (schema-of (m .names))) max-streams (search parts) in
+      let e = length-schema (m .names) in
+      omega arith
+
+  apart : T (not (declared (schema-of (m .names)) (s .name)))
+  unfolding stream-checks
+  apart = not-or-l (declared (schema-of (m .names)) (s .name)) (not (distinct same-list (s .columns))) (pass-first _ (declared (schema-of (m .names)) (s .name) || not (distinct same-list (s .columns))) _ (pass-rest _ _ _ p))
+
+  valid : T (valid-stream s)
+  unfolding valid-record valid-schema every
+  valid =
+      let t = stream-valid (record-of m) (sound-valid m (ok .typed .ranges) (ok .lent)) s b (unfold record-of in p) in
+      and-l (valid-stream s) _ (every-append-r valid-stream (record-of m .schema) (s ∷ []) (search parts depth 8))
+
+  more : schema-of (D.with-stream (m .names) (some s)) ≡ schema-of (m .names) ++ (s ∷ [])
+  unfolding D.with-stream
+  more = schema-more (m .names) s (sound-parts m (ok .lent) .names) few valid
+
+  pub stream-effect : record-of (with-names m (D.with-stream (m .names) (some s))) ≡ C.with-stream (record-of m) (some s)
+  stream-effect = record-more m (D.with-stream (m .names) (some s)) s more (ok .lent)
+
+  pub stream-sound : Sound (with-names m (D.with-stream (m .names) (some s)))
+  stream-sound =
+      let k = one-more (m .names) (D.with-stream (m .names) (some s)) s more in
+      record {
+        typed = record { counts = ok .typed .counts; ranges = ok .typed .ranges };
+        lent = names-sound m (D.with-stream (m .names) (some s)) (unfold D.with-stream in sound-more (m .names) s (sound-parts m (ok .lent) .names) few valid apart) (omega arith) (ok .lent);
+      }

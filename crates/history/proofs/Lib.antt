@@ -1,3 +1,8 @@
 pub mod Declared
 pub mod Steps
-pub mod Traces
+pub mod Beginning
+pub mod Later
+pub mod Events
+pub mod Interference
+pub mod Outcomes
+pub mod Order

@@ -1,43 +1,56 @@
--- What goes in with the calls on the record and comes back or is left, and what each call promises of it.
+-- The calls on the record: what goes from call to call, and what each call promises of it.
 use mathlib.Core.Path.{_≡_}
 use mathlib.Core.List.{List}
-use Prim.Native.Nat.{ℕ}
-use lib.IntN.{ℤ, pos}
-use lib.Dec.{T}
+use Prim.Native.Nat.{ℕ, _≤_}
+use lib.IntN.{ℤ}
+use lib.Dec.{T, eqb}
+use lib.ListN.{length}
+use Rattle.refusal.specs.declared.Verdict.{Verdict}
+use Rattle.lists.specs.Lists.{every}
 use Rattle.syntax.specs.Grammar.{Bytes}
-use Rattle.model.specs.Queries.{Record}
-use Rattle.calls.specs.Validity.{valid-record}
-use Rattle.calls.specs.Calls.{Call, stream, clock, row, clear}
-use Rattle.schema.specs.declared.Schema.{Schema}
-use Rattle.ledger.specs.Records.{record-of, record-sound, Clocked, Cleared, Rowed}
-use Rattle.ledger.specs.declared.Ledger.{Ledger}
+use Rattle.syntax.specs.Limits.{is-value}
+use Rattle.calls.specs.Calls.{Call, stream, clock, row, clear, clock-line, row-line, clear-line}
+use Rattle.schema.specs.Schemas.{schema-size}
+use Rattle.stream_line.specs.Declaring.{Declares}
 use Rattle.ledger.specs.declared.Entered.{Entered}
-use Rattle.streams.specs.Declaring.{Declares}
-use Rattle.streams.specs.declared.Declared.{Declared}
+use Rattle.ledger.specs.Records.{Memory, with-ledger, with-names, Typed, places-size, values-size, memory-sound}
+use Rattle.ledger.specs.Calls.{begun, clock-call, clear-call, RowCall}
+use Rattle.record_lines.specs.Calls.{clock-line-call, clear-line-call, RowLineCall}
 
--- the ledger and the schema, which go from call to call, and the rows lent to them
-pub record State : Type 0 where
-  pub ledger : Ledger
-  pub schema : Schema
-  pub times : List ℕ
-  pub values : List ℤ
+-- the ledger, which goes from call to call, and what is lent to each: names, times and values
+abbrev pub State : Type 0
+State = Memory
 
-unfoldable pub record-in : State → Record
-record-in s = record-of (s .ledger) (s .schema) (s .times) (s .values)
-
--- it may be lent, and stands for a valid record
-pub record Sound (s : State) : Type 0 where
-  pub lent : T (record-sound (s .ledger) (s .schema) (s .times) (s .values))
-  pub valid : T (valid-record (record-in s))
-
--- the contracts of the calls, each of a call with numbers; nothing else is touched
+-- The contracts of the calls, as the code has them: any text, any time of 64 bits, any row number and values.
 pub data Promise : Call → State → State → Type 0 where
-  declared : {s : State} {bs : Bytes} {r : Declared} → Declares (s .schema) bs r
-      → Promise (stream bs) s (record { ledger = s .ledger; schema = r .schema; times = s .times; values = s .values })
-  clocked : {s : State} {t : ℕ} {r : Entered} → Clocked (s .ledger) t r
-      → Promise (clock (pos t)) s (record { ledger = r .ledger; schema = s .schema; times = s .times; values = s .values })
-  cleared : {s : State} {r : Entered} → Cleared (s .ledger) r
-      → Promise clear s (record { ledger = r .ledger; schema = s .schema; times = s .times; values = s .values })
-  rowed : {s : State} {n : ℕ} {vs : List ℤ} {times : List ℕ} {values : List ℤ} {r : Entered}
-      → Rowed (record-sound (s .ledger) (s .schema) (s .times) (s .values)) (s .ledger) (s .schema) n vs (s .times) times (s .values) values r
-      → Promise (row n vs) s (record { ledger = r .ledger; schema = s .schema; times = times; values = values })
+  declared : {s : State} {bs : Bytes} {ns : List ℕ} {v : Verdict} → Declares (s .names) bs ns v → Promise (stream bs) s (with-names s ns)
+  clocked : {s : State} {t : ℤ} {r : Entered} → r ≡ clock-call (s .ledger) t → Promise (clock t) s (with-ledger s (r .ledger))
+  rowed : {s t : State} {n : ℕ} {vs : List ℤ} {v : Verdict} → RowCall s n vs t v → Promise (row n vs) s t
+  cleared : {s : State} {r : Entered} → r ≡ clear-call (s .ledger) → Promise clear s (with-ledger s (r .ledger))
+  clock-lined : {s : State} {bs : Bytes} {r : Entered} → r ≡ clock-line-call (s .ledger) bs → Promise (clock-line bs) s (with-ledger s (r .ledger))
+  row-lined : {s t : State} {bs : Bytes} {v : Verdict} → RowLineCall s bs t v → Promise (row-line bs) s t
+  clear-lined : {s : State} {bs : Bytes} {r : Entered} → r ≡ clear-line-call (s .ledger) bs → Promise (clear-line bs) s (with-ledger s (r .ledger))
+
+-- what a call says
+unfoldable pub verdict-in : {c : Call} {s t : State} → Promise c s t → Verdict
+verdict-in (declared {v} d) = v
+verdict-in (clocked {r} e) = r .verdict
+verdict-in (rowed {v} d) = v
+verdict-in (cleared {r} e) = r .verdict
+verdict-in (clock-lined {r} e) = r .verdict
+verdict-in (row-lined {v} d) = v
+verdict-in (clear-lined {r} e) = r .verdict
+
+-- it is of its types, and may be lent
+pub record Sound (s : State) : Type 0 where
+  pub typed : Typed s
+  pub lent : T (memory-sound s)
+
+-- a new ledger, names that are all 0, and memory enough, whatever times and values it holds
+pub record Fresh (s : State) : Type 0 where
+  pub begins : s .ledger ≡ begun
+  pub zero : T (every (λ n. eqb n 0) (s .names))
+  pub long : schema-size ≤ length (s .names)
+  pub places : places-size ≤ length (s .times)
+  pub room : values-size ≤ length (s .values)
+  pub ranges : T (every is-value (s .values))

@@ -1,38 +1,29 @@
 -- The profile entries at a place as the code reads them.
 use mathlib.Core.Path.{_≡_, refl, sym, ap, _∙_}
-use mathlib.Core.List.{List, [], _∷_, _++_, map, append-assoc}
+use mathlib.Core.List.{List, [], _∷_, _++_, map}
 use mathlib.Core.Bool.{Bool, true, false, _&&_, _||_, not}
 use mathlib.Core.Option.{Option, none, some}
 use Prim.Native.Nat.{ℕ, suc, _+_, _-_, _≤_, _<_, min}
 use native.Mathlib.Omega.{arith}
 use lib.IntN.{ℤ, pos}
-use lib.ListN.{length, getD, set, length-map}
+use lib.ListN.{length, drop, getD, set, length-map}
 use lib.Seq.{set-out}
 use Rattle.lists.specs.Lists.{every, count-from}
-use Rattle.syntax.specs.Grammar.{Bytes, Entry, put-name, put-open, put-entry}
-use Rattle.syntax.specs.Readers.{Read, read-entry, read-items, closes}
-use Rattle.syntax.proofs.Lines as L
-use Rattle.calls.specs.Bounds.{short, is-value}
+use Rattle.syntax.specs.Grammar.{Bytes, Entry}
+use Rattle.syntax.specs.Readers.{Read, read-entry, read-items, read-some, closes}
+use Rattle.syntax.proofs.Leaving.{entry-leaves}
+use Rattle.text.specs.Words.{value-kept}
+use Rattle.text.specs.Readings.{any-items}
+use Rattle.text.proofs.Views.{View}
+use Rattle.syntax.specs.Limits.{short, is-value}
 use Rattle.items.specs.declared.EntryRead.{EntryRead}
 use Rattle.items.specs.declared.Entries.{Entries}
-use Rattle.items.specs.Items.{items-at, first-of, code-short, value-kept, entry-read, entry-at, entries-read, entries-at, no-entries, entry-added, entries-ended}
-use Rattle.items.proofs.Reading.{Leaves, leaves-printed, View, items-leaves}
+use Rattle.items.specs.Items.{first-of, code-short, no-entry, entry-read, entry-at, entries-read, entries-at, no-entries, entry-added, entries-ended}
+use Rattle.items.proofs.Lists.{Listing, list-not, list-is, some-not, some-empty, some-is}
 use Rattle.items.proofs.Folds.{first-more, every-more, map-more, length-more, fold, fold-from, Way, joined, on, list-over, list-end, list-other, list-stuck, list-falls, list-more}
-use Rattle.items.proofs.ValueLists.{int-word, int-front}
-
--- an entry's text
-unfoldable pub entry-word : Entry → Bytes
-entry-word e = 40 ∷ 115 ∷ 101 ∷ 108 ∷ 102 ∷ 32 ∷ (e .name ++ (32 ∷ (int-word (e .value) ++ (41 ∷ []))))
-
-pub entry-front : (e : Entry) (rest : Bytes) → put-entry e rest ≡ entry-word e ++ rest
-unfolding put-entry put-open put-name entry-word
-entry-front e rest = simp (append-assoc, int-front)
-
-pub entry-leaves : Leaves read-entry
-entry-leaves = leaves-printed entry-word entry-front L.entry-read
 
 unfoldable pub entry-view : (s : Bytes) → View Entry EntryRead s
-unfolding entry-read
+unfolding entry-read no-entry
 entry-view s =
     record {
       item = read-entry;
@@ -98,7 +89,7 @@ nothing-yet = refl
 -- at first nothing is read
 pub entries-start : (s : Bytes) (at : ℕ) {r : Entries} → r ≡ no-entries → entries-at s at ≡ entries-on s r at
 unfolding entries-way entry-view entries-on on entries-at entries-read joined no-entries entries-ended so-far entry-bounded entry-code entry-value
-entries-start s at e = rw e (go (items-at read-entry s at))
+entries-start s at e = rw e (go (any-items closes read-entry (drop at s)))
   where
     go : (o : Option (Read (List Entry))) → entries-read s o ≡ joined (entries-way s) no-entries o
     go none = refl
@@ -154,16 +145,43 @@ module _ (r : Entries) (over : Bool) (name : ℕ) (value : ℤ) {l : Bool} (e : 
 
 -- ---- the whole list, for a reader of lines
 
-unfoldable pub entries-view : (s : Bytes) → View (List Entry) Entries s
-unfolding entries-read
-entries-view s =
+unfoldable entries-listing : (s : Bytes) → Listing Entry Entries s
+unfolding entries-read no-entries
+entries-listing s =
     record {
-      item = λ bs. read-items closes read-entry (suc (length s)) bs;
-      leaves = items-leaves closes entry-leaves (suc (length s));
+      item = read-entry;
+      leaves = entry-leaves;
       seen = entries-read s;
       ok = λ n. n .ok;
       next = λ n. n .next;
+      count = λ n. n .count;
+      most = 4;
       unseen = refl;
       ok-seen = λ a. refl;
       next-seen = λ a. refl;
+      count-seen = λ a. refl;
     }
+
+module _ (s : Bytes) (p : ℕ) {n : Entries} (e : n ≡ entries-at s p) where
+  pub entries-not : not (n .ok) ≡ true → read-items closes read-entry (length s) (drop p s) ≡ none
+  unfolding entries-at entries-listing
+  entries-not q = list-not (entries-listing s) p e q
+
+  pub some-entries-not : not (n .ok) ≡ true → read-some closes read-entry (length s) (drop p s) ≡ none
+  unfolding entries-at entries-listing
+  some-entries-not q = some-not (entries-listing s) p e q
+
+  module _ (q : not (n .ok) ≡ false) where
+    pub entries-is : {X : Type 0}
+        → ((xs : List Entry) → read-items closes read-entry (length s) (drop p s) ≡ some (record { what = xs; left = drop (n .next) s }) → n ≡ entries-read s (some (record { what = xs; left = drop (n .next) s })) → X) → X
+    unfolding entries-at entries-listing
+    entries-is k = list-is (entries-listing s) p e q k
+
+    pub some-entries-empty : n .count ≡ 0 → read-some closes read-entry (length s) (drop p s) ≡ none
+    unfolding entries-at entries-listing
+    some-entries-empty z = some-empty (entries-listing s) p e q z
+
+    pub some-entries-is : {X : Type 0} → (n .count ≡ 0 → ⊥)
+        → ((xs : List Entry) → read-some closes read-entry (length s) (drop p s) ≡ some (record { what = xs; left = drop (n .next) s }) → n ≡ entries-read s (some (record { what = xs; left = drop (n .next) s })) → X) → X
+    unfolding entries-at entries-listing
+    some-entries-is f k = some-is (entries-listing s) p e q f k

@@ -12,9 +12,11 @@ use borrow.Author.Tests.{ltb-true, ltb-false}
 use Rattle.lists.specs.Lists.{every, count-from}
 use Rattle.lists.proofs.Laws.{append-nil}
 use Rattle.syntax.specs.Grammar.{Bytes}
-use Rattle.syntax.specs.Readers.{Read, bind}
-use Rattle.items.specs.Items.{items-at, first-of}
-use Rattle.items.proofs.Reading.{View, view-none, view-some, view-beyond, more, items-over, items-end, items-other, items-stuck, items-more}
+use Rattle.syntax.specs.Readers.{Read, bind, closes}
+use Rattle.text.specs.Readings.{any-items}
+use Rattle.text.proofs.Views.{View, view-none, view-some, view-beyond}
+use Rattle.items.specs.Items.{first-of}
+use Rattle.items.proofs.Lists.{more, items-over, items-end, items-other, items-stuck, items-more}
 
 -- ---- the first of a list
 
@@ -128,7 +130,7 @@ module _ {A N R : Type 0} {s : Bytes} (way : Way A N R s) where
 
   -- what is read so far, joined to what is read from a place on
   unfoldable pub on : R → ℕ → R
-  on r i = joined r (items-at (way .view .item) s i)
+  on r i = joined r (any-items closes (way .view .item) (drop i s))
 
   joined-more : (r : R) (x : A) (o : Option (Read (List A))) → joined r (more x o) ≡ joined (way .step r x) o
   unfolding joined more bind fold
@@ -143,28 +145,28 @@ module _ {A N R : Type 0} {s : Bytes} (way : Way A N R s) where
   module _ {whole : R} (r : R) (i : ℕ) (inv : whole ≡ on r i) {x : R} where
     pub list-over : length s ≤ i → x ≡ way .fail → x ≡ whole
     unfolding on joined
-    list-over h e = e ∙ sym (inv ∙ ap (joined r) (items-over (way .view .item) s i h))
+    list-over h e = e ∙ sym (inv ∙ ap (joined r) (items-over (way .view .item) (way .view .leaves) s i h))
 
     module _ (h : i < length s) where
       pub list-end : getD s i 0 ≡ 41 → x ≡ way .close r i → x ≡ whole
       unfolding on joined fold
       list-end b e =
           let p : length s - length (drop i s) ≡ i = omega (arith, length-drop i s) in
-          e ∙ sym (inv ∙ ap (joined r) (items-end (way .view .item) s i h b) ∙ ap (way .close r) p)
+          e ∙ sym (inv ∙ ap (joined r) (items-end (way .view .item) (way .view .leaves) s i h b) ∙ ap (way .close r) p)
 
       pub list-other : (getD s i 0 ≡ 41 → ⊥) → (getD s i 0 ≡ 32 → ⊥) → x ≡ way .fail → x ≡ whole
       unfolding on joined
-      list-other f g e = e ∙ sym (inv ∙ ap (joined r) (items-other (way .view .item) s i h f g))
+      list-other f g e = e ∙ sym (inv ∙ ap (joined r) (items-other (way .view .item) (way .view .leaves) s i h f g))
 
       module _ {n : N} (b : getD s i 0 ≡ 32) (p : n ≡ way .view .seen (way .view .item (drop (i + 1) s))) where
         pub list-stuck : not (way .view .ok n) ≡ true → x ≡ way .fail → x ≡ whole
         unfolding on joined
-        list-stuck q e = e ∙ sym (inv ∙ ap (joined r) (items-stuck (way .view .item) s i h b (view-none (way .view) (i + 1) p q)))
+        list-stuck q e = e ∙ sym (inv ∙ ap (joined r) (items-stuck (way .view .item) (way .view .leaves) s i h b (view-none (way .view) (i + 1) p q)))
 
         pub list-more : not (way .view .ok n) ≡ false → x ≡ way .add r n → whole ≡ on x (way .view .next n)
         unfolding on
         list-more q e =
             view-some (way .view) (i + 1) p q (λ a z m y.
             let t = e ∙ ap (way .add r) m ∙ way .added r a in
-            inv ∙ ap (joined r) (items-more (way .view .item) s i h (way .view .leaves) a b z) ∙ joined-more r (a .what) (items-at (way .view .item) s (length s - length (a .left)))
+            inv ∙ ap (joined r) (items-more (way .view .item) (way .view .leaves) s i h a b z) ∙ joined-more r (a .what) (any-items closes (way .view .item) (drop (length s - length (a .left)) s))
             ∙ sym (rw (y, t)))

@@ -1,9 +1,8 @@
-pub mod Reading
+pub mod Lists
 pub mod Folds
 pub mod NameLists
 pub mod Sameness
 pub mod ValueLists
-pub mod Beginnings
 pub mod Profile
 pub mod EntryLists
-pub mod Naming
+pub mod NameCodes

@@ -5,24 +5,22 @@ use mathlib.Core.Bool.{Bool, true, false, _||_, not}
 use mathlib.Core.Option.{Option, none, some}
 use Prim.Native.Nat.{ℕ, suc, _+_, _-_, _≤_, _<_, min}
 use native.Mathlib.Omega.{arith}
-use lib.ListN.{length, getD, set, length-map}
+use lib.ListN.{length, drop, getD, set, length-map}
 use lib.Seq.{set-out}
 use Rattle.lists.specs.Lists.{every, count-from}
-use Rattle.syntax.specs.Grammar.{Bytes, put-name}
-use Rattle.syntax.specs.Readers.{Read, read-name, read-items, closes}
-use Rattle.syntax.proofs.Lexical.{name-read}
-use Rattle.calls.specs.Bounds.{short}
+use Rattle.syntax.specs.Grammar.{Bytes}
+use Rattle.syntax.specs.Readers.{Read, read-name, read-items, read-some, closes}
+use Rattle.syntax.proofs.Leaving.{name-leaves}
+use Rattle.syntax.specs.Limits.{short}
 use Rattle.text.specs.declared.Name.{Name}
 use Rattle.text.specs.Words as W
 use Rattle.text.specs.Words.{name-at}
+use Rattle.text.specs.Readings.{any-items}
+use Rattle.text.proofs.Views.{name-view}
 use Rattle.items.specs.declared.Names.{Names}
-use Rattle.items.specs.Items.{items-at, first-of, code-short, names-read, names-at, no-names, name-added, names-ended}
-use Rattle.items.proofs.Reading.{Leaves, leaves-printed, View, items-leaves}
+use Rattle.items.specs.Items.{first-of, code-short, names-read, names-at, no-names, name-added, names-ended}
+use Rattle.items.proofs.Lists.{Listing, list-not, list-is, some-not, some-empty, some-is}
 use Rattle.items.proofs.Folds.{first-more, every-more, map-more, length-more, fold, fold-from, Way, joined, on, list-over, list-end, list-other, list-stuck, list-falls, list-more}
-
-pub name-leaves : Leaves read-name
-unfolding put-name
-name-leaves = leaves-printed (λ n. n) (λ n rest. refl) name-read
 
 unfoldable pub name-step : Names → Bytes → Names
 name-step r w = name-added r (not (short w)) (code-short w)
@@ -41,20 +39,6 @@ one-more ws w =
     let m : min (length ws) 7 ≡ min (length (map code-short ws)) 7 = ap (λ n. min n 7) (sym (length-map ws code-short)) in
     alike (omega arith) (every-more short ws w)
     (ap (λ n. set (first-of 6 0 (map code-short ws)) n (code-short w)) m ∙ first-more 0 6 (map code-short ws) (code-short w) ∙ ap (first-of 6 0) (map-more code-short ws w))
-
-unfoldable pub name-view : (s : Bytes) → View Bytes Name s
-unfolding W.name-read
-name-view s =
-    record {
-      item = read-name;
-      leaves = name-leaves;
-      seen = W.name-read s;
-      ok = λ n. n .ok;
-      next = λ n. n .next;
-      unseen = refl;
-      ok-seen = λ a. refl;
-      next-seen = λ a. refl;
-    }
 
 unfoldable pub names-way : (s : Bytes) → Way Bytes Name Names s
 unfolding name-view W.name-read name-step code-short
@@ -79,7 +63,7 @@ nothing-yet = refl
 -- at first nothing is read
 pub names-start : (s : Bytes) (at : ℕ) {r : Names} → r ≡ no-names → names-at s at ≡ names-on s r at
 unfolding names-way name-view names-on on names-at names-read joined no-names names-ended so-far
-names-start s at e = rw e (go (items-at read-name s at))
+names-start s at e = rw e (go (any-items closes read-name (drop at s)))
   where
     go : (o : Option (Read (List Bytes))) → names-read s o ≡ joined (names-way s) no-names o
     go none = refl
@@ -135,16 +119,43 @@ pub ruleset name-adds = (name-full, name-room)
 
 -- ---- the whole list, for a reader of lines
 
-unfoldable pub names-view : (s : Bytes) → View (List Bytes) Names s
-unfolding names-read
-names-view s =
+unfoldable names-listing : (s : Bytes) → Listing Bytes Names s
+unfolding names-read no-names
+names-listing s =
     record {
-      item = λ bs. read-items closes read-name (suc (length s)) bs;
-      leaves = items-leaves closes name-leaves (suc (length s));
+      item = read-name;
+      leaves = name-leaves;
       seen = names-read s;
       ok = λ n. n .ok;
       next = λ n. n .next;
+      count = λ n. n .count;
+      most = 6;
       unseen = refl;
       ok-seen = λ a. refl;
       next-seen = λ a. refl;
+      count-seen = λ a. refl;
     }
+
+module _ (s : Bytes) (p : ℕ) {n : Names} (e : n ≡ names-at s p) where
+  pub names-not : not (n .ok) ≡ true → read-items closes read-name (length s) (drop p s) ≡ none
+  unfolding names-at names-listing
+  names-not q = list-not (names-listing s) p e q
+
+  pub some-names-not : not (n .ok) ≡ true → read-some closes read-name (length s) (drop p s) ≡ none
+  unfolding names-at names-listing
+  some-names-not q = some-not (names-listing s) p e q
+
+  module _ (q : not (n .ok) ≡ false) where
+    pub names-is : {X : Type 0}
+        → ((xs : List Bytes) → read-items closes read-name (length s) (drop p s) ≡ some (record { what = xs; left = drop (n .next) s }) → n ≡ names-read s (some (record { what = xs; left = drop (n .next) s })) → X) → X
+    unfolding names-at names-listing
+    names-is k = list-is (names-listing s) p e q k
+
+    pub some-names-empty : n .count ≡ 0 → read-some closes read-name (length s) (drop p s) ≡ none
+    unfolding names-at names-listing
+    some-names-empty z = some-empty (names-listing s) p e q z
+
+    pub some-names-is : {X : Type 0} → (n .count ≡ 0 → ⊥)
+        → ((xs : List Bytes) → read-some closes read-name (length s) (drop p s) ≡ some (record { what = xs; left = drop (n .next) s }) → n ≡ names-read s (some (record { what = xs; left = drop (n .next) s })) → X) → X
+    unfolding names-at names-listing
+    some-names-is f k = some-is (names-listing s) p e q f k

@@ -1,93 +1,28 @@
 -- The numbers at a place as the code reads them.
 use mathlib.Core.Path.{_≡_, refl, sym, ap, _∙_}
 use mathlib.Core.List.{List, [], _∷_, _++_, map}
-use mathlib.Core.Bool.{Bool, true, false, _||_, not, cond}
+use mathlib.Core.Bool.{Bool, true, false, _||_, not}
 use mathlib.Core.Option.{Option, none, some}
 use Prim.Native.Nat.{ℕ, suc, _+_, _-_, _≤_, _<_, min}
 use native.Mathlib.Omega.{arith}
-use lib.IntN.{ℤ, pos, negsuc}
-use lib.Signed.{ltZ}
-use lib.Dec.{T}
-use lib.ListN.{length, getD, set, length-map}
+use lib.IntN.{ℤ, pos}
+use lib.ListN.{length, drop, getD, set, length-map}
 use lib.Seq.{set-out}
-use mir.Syntax.{w32}
-use mir.Val.{SFits, toZ, ofZ}
-use mir.ValLaws.{toZ-ofZ}
-use borrow.Author.Tests.{le-leb, lt-leb, ltb-true, ltb-false}
 use Rattle.lists.specs.Lists.{every, count-from}
-use Rattle.syntax.specs.Grammar.{Bytes, put-nat, put-int, digits-from}
-use Rattle.syntax.specs.Readers.{Read, read-int, read-items, closes}
-use Rattle.syntax.proofs.Lexical.{int-read}
-use Rattle.calls.specs.Bounds.{top, is-value}
+use Rattle.syntax.specs.Grammar.{Bytes}
+use Rattle.syntax.specs.Readers.{Read, read-int, read-items, read-some, closes}
+use Rattle.syntax.proofs.Leaving.{int-leaves}
+use Rattle.syntax.specs.Limits.{is-value}
 use Rattle.text.specs.declared.Number.{Number}
-use Rattle.text.specs.Words.{clamp, number-read, number-at}
-use Rattle.text.proofs.Clamps as C
-use Rattle.text.proofs.Clamps.{clamp-value}
+use Rattle.text.specs.declared.Kept.{Kept}
+use Rattle.text.specs.Words.{clamp, number-read, number-at, value-kept, kept-of}
+use Rattle.text.specs.Readings.{any-items}
+use Rattle.text.proofs.Ranges.{kept-clamp}
+use Rattle.text.proofs.Views.{int-view}
 use Rattle.items.specs.declared.Values.{Values}
-use Rattle.items.specs.declared.Kept.{Kept}
-use Rattle.items.specs.Items.{items-at, first-of, value-kept, kept-of, values-read, values-at, no-values, value-added, values-ended}
-use Rattle.items.proofs.Reading.{Leaves, leaves-printed, View, items-leaves}
+use Rattle.items.specs.Items.{first-of, values-read, values-at, no-values, value-added, values-ended}
+use Rattle.items.proofs.Lists.{Listing, list-not, list-is, some-not, some-empty, some-is}
 use Rattle.items.proofs.Folds.{first-more, every-more, map-more, length-more, fold, fold-from, Way, joined, on, list-over, list-end, list-other, list-stuck, list-falls, list-more}
-
--- ---- one number
-
--- a number's text
-unfoldable pub int-word : ℤ → Bytes
-int-word (pos n) = digits-from (suc n) n []
-int-word (negsuc n) = 45 ∷ digits-from (suc (suc n)) (suc n) []
-
-pub int-front : (z : ℤ) (rest : Bytes) → put-int z rest ≡ int-word z ++ rest
-unfolding int-word put-int put-nat
-int-front (pos n) rest = refl
-int-front (negsuc n) rest = refl
-
-pub int-leaves : Leaves read-int
-int-leaves = leaves-printed int-word int-front int-read
-
--- clamping changes nothing that is kept
-pub kept-clamp : (z : ℤ) → kept-of (clamp z) ≡ kept-of z
-unfolding kept-of value-kept
-kept-clamp z = go (is-value z) refl
-  where
-    same : T (is-value z) → clamp z ≡ z
-    same t = C.value-kept z t
-
-    go : (b : Bool) → is-value z ≡ b → _≡_ {A = Kept} (record { wide = not (is-value (clamp z)); value = cond (is-value (clamp z)) (clamp z) (pos 0) }) (record { wide = not (is-value z); value = cond (is-value z) z (pos 0) })
-    go true e = rw (clamp-value z, same (rw e tt))
-    go false e = rw (clamp-value z, e)
-
-value-low : (z : ℤ) → ltZ z (negsuc 2147483647) ≡ true → is-value z ≡ false
-unfolding is-value top
-value-low (pos n) e = absurd (let k : _≡_ {A = ℕ} 0 1 = cc in omega arith)
-value-low (negsuc n) e = lt-leb n 2147483647 (ltb-true 2147483647 n e)
-
-value-high : (z : ℤ) → ltZ (pos 2147483647) z ≡ true → is-value z ≡ false
-unfolding is-value top
-value-high (pos n) e = lt-leb n 2147483647 (ltb-true 2147483647 n e)
-value-high (negsuc n) e = absurd (let k : _≡_ {A = ℕ} 0 1 = cc in omega arith)
-
-value-near : (z : ℤ) → ltZ z (negsuc 2147483647) ≡ false → ltZ (pos 2147483647) z ≡ false → (is-value z ≡ true) × SFits w32 z
-unfolding is-value top
-value-near (pos n) e f = let h = ltb-false 2147483647 n f in (le-leb n 2147483647 h, record { sfits = omega arith })
-value-near (negsuc n) e f = let h = ltb-false 2147483647 n e in (le-leb n 2147483647 h, record { sfits = omega arith })
-
--- the bits of a number, read as a signed number, are the number
-module _ (z : ℤ) {x : ℤ} (back : x ≡ z) where
-  pub kept-low : ltZ x (negsuc 2147483647) ≡ true → record { wide = true; value = pos 0 } ≡ kept-of z
-  unfolding kept-of value-kept
-  kept-low e = rw (value-low z (rw back at e))
-
-  pub kept-high : ltZ (pos 2147483647) x ≡ true → record { wide = true; value = pos 0 } ≡ kept-of z
-  unfolding kept-of value-kept
-  kept-high e = rw (value-high z (rw back at e))
-
-  module _ (e : ltZ x (negsuc 2147483647) ≡ false) (f : ltZ (pos 2147483647) x ≡ false) where
-    pub kept-fits : SFits w32 x
-    kept-fits = value-near x e f .1
-
-    pub kept-near : record { wide = false; value = toZ w32 (ofZ w32 x) } ≡ kept-of z
-    unfolding kept-of value-kept
-    kept-near = rw (toZ-ofZ w32 x kept-fits, back, value-near z (rw back at e) (rw back at f) .0)
 
 -- ---- the list
 
@@ -116,20 +51,6 @@ pub kept-step : (r : Values) (z : ℤ) → kept-added r (kept-of (clamp z)) ≡ 
 unfolding kept-added kept-of value-step
 kept-step r z = ap (kept-added r) (kept-clamp z)
 
-unfoldable pub int-view : (s : Bytes) → View ℤ Number s
-unfolding number-read
-int-view s =
-    record {
-      item = read-int;
-      leaves = int-leaves;
-      seen = number-read s;
-      ok = λ n. n .ok;
-      next = λ n. n .next;
-      unseen = refl;
-      ok-seen = λ a. refl;
-      next-seen = λ a. refl;
-    }
-
 unfoldable pub values-way : (s : Bytes) → Way ℤ Number Values s
 unfolding int-view number-read
 values-way s =
@@ -153,7 +74,7 @@ nothing-yet = refl
 -- at first nothing is read
 pub values-start : (s : Bytes) (at : ℕ) {r : Values} → r ≡ no-values → values-at s at ≡ values-on s r at
 unfolding values-way int-view values-on on values-at values-read joined no-values values-ended so-far
-values-start s at e = rw e (go (items-at read-int s at))
+values-start s at e = rw e (go (any-items closes read-int (drop at s)))
   where
     go : (o : Option (Read (List ℤ))) → values-read s o ≡ joined (values-way s) no-values o
     go none = refl
@@ -207,16 +128,43 @@ module _ (r : Values) (wide : Bool) (value : ℤ) {l : Bool} (e : l ≡ (r .wide
 
 -- ---- the whole list, for a reader of lines
 
-unfoldable pub values-view : (s : Bytes) → View (List ℤ) Values s
-unfolding values-read
-values-view s =
+unfoldable values-listing : (s : Bytes) → Listing ℤ Values s
+unfolding values-read no-values
+values-listing s =
     record {
-      item = λ bs. read-items closes read-int (suc (length s)) bs;
-      leaves = items-leaves closes int-leaves (suc (length s));
+      item = read-int;
+      leaves = int-leaves;
       seen = values-read s;
       ok = λ n. n .ok;
       next = λ n. n .next;
+      count = λ n. n .count;
+      most = 6;
       unseen = refl;
       ok-seen = λ a. refl;
       next-seen = λ a. refl;
+      count-seen = λ a. refl;
     }
+
+module _ (s : Bytes) (p : ℕ) {n : Values} (e : n ≡ values-at s p) where
+  pub values-not : not (n .ok) ≡ true → read-items closes read-int (length s) (drop p s) ≡ none
+  unfolding values-at values-listing
+  values-not q = list-not (values-listing s) p e q
+
+  pub some-values-not : not (n .ok) ≡ true → read-some closes read-int (length s) (drop p s) ≡ none
+  unfolding values-at values-listing
+  some-values-not q = some-not (values-listing s) p e q
+
+  module _ (q : not (n .ok) ≡ false) where
+    pub values-is : {X : Type 0}
+        → ((xs : List ℤ) → read-items closes read-int (length s) (drop p s) ≡ some (record { what = xs; left = drop (n .next) s }) → n ≡ values-read s (some (record { what = xs; left = drop (n .next) s })) → X) → X
+    unfolding values-at values-listing
+    values-is k = list-is (values-listing s) p e q k
+
+    pub some-values-empty : n .count ≡ 0 → read-some closes read-int (length s) (drop p s) ≡ none
+    unfolding values-at values-listing
+    some-values-empty z = some-empty (values-listing s) p e q z
+
+    pub some-values-is : {X : Type 0} → (n .count ≡ 0 → ⊥)
+        → ((xs : List ℤ) → read-some closes read-int (length s) (drop p s) ≡ some (record { what = xs; left = drop (n .next) s }) → n ≡ values-read s (some (record { what = xs; left = drop (n .next) s })) → X) → X
+    unfolding values-at values-listing
+    some-values-is f k = some-is (values-listing s) p e q f k

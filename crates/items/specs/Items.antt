@@ -8,19 +8,16 @@ use lib.Dec.{eqb}
 use lib.ListN.{length, drop, take, getD, set, replicate}
 use Rattle.lists.specs.Lists.{every, distinct, count-from}
 use Rattle.syntax.specs.Grammar.{Bytes, Entry}
-use Rattle.syntax.specs.Readers.{Reader, Read, closes, read-items, read-name, read-int, read-entry}
-use Rattle.calls.specs.Bounds.{short, is-value}
+use Rattle.syntax.specs.Readers.{Read, closes, read-name, read-int, read-entry}
+use Rattle.syntax.specs.Limits.{max-columns, max-entries, short, is-value}
 use Rattle.text.specs.declared.Name.{Name}
-use Rattle.text.specs.Words.{code-of}
+use Rattle.text.specs.declared.Kept.{Kept}
+use Rattle.text.specs.Words.{code-of, value-kept}
+use Rattle.text.specs.Readings.{any-items}
 use Rattle.items.specs.declared.Names.{Names}
 use Rattle.items.specs.declared.Values.{Values}
 use Rattle.items.specs.declared.Entries.{Entries}
-use Rattle.items.specs.declared.Kept.{Kept}
 use Rattle.items.specs.declared.EntryRead.{EntryRead}
-
--- the items of a kind at a place; there are never more than bytes
-unfoldable pub items-at : {A : Type 0} → Reader A → Bytes → ℕ → Option (Read (List A))
-items-at item s at = read-items closes item (suc (length s)) (drop at s)
 
 -- the first n of a list, with a filler past its end
 unfoldable pub first-of : {A : Type 0} → ℕ → A → List A → List A
@@ -32,27 +29,27 @@ first-of n filler xs = map (λ i. getD xs i filler) (count-from 0 n)
 unfoldable pub code-short : Bytes → ℕ
 code-short w = cond (short w) (code-of w) 0
 
+unfoldable pub no-names : Names
+no-names = record { ok = false; next = 0; count = 0; long = false; codes = replicate max-columns 0 }
+
 -- how many (7 for more than 6), whether one is longer than a name may be, and the numbers of the first six
 unfoldable pub names-read : Bytes → Option (Read (List Bytes)) → Names
-names-read s none = record { ok = false; next = 0; count = 0; long = false; codes = replicate 6 0 }
+names-read s none = no-names
 names-read s (some r) =
     record {
       ok = true;
       next = length s - length (r .left);
-      count = min (length (r .what)) 7;
+      count = min (length (r .what)) (suc max-columns);
       long = not (every short (r .what));
-      codes = first-of 6 0 (map code-short (r .what));
+      codes = first-of max-columns 0 (map code-short (r .what));
     }
 
 unfoldable pub names-at : Bytes → ℕ → Names
-names-at s at = names-read s (items-at read-name s at)
-
-unfoldable pub no-names : Names
-no-names = record { ok = false; next = 0; count = 0; long = false; codes = replicate 6 0 }
+names-at s at = names-read s (any-items closes read-name (drop at s))
 
 -- what is read so far, with one name more
 unfoldable pub name-added : Names → Bool → ℕ → Names
-name-added r long code = record { ok = r .ok; next = r .next; count = min (suc (r .count)) 7; long = r .long || long; codes = set (r .codes) (r .count) code }
+name-added r long code = record { ok = r .ok; next = r .next; count = min (suc (r .count)) (suc max-columns); long = r .long || long; codes = set (r .codes) (r .count) code }
 
 -- what is read so far, where the list ends at a place
 unfoldable pub names-ended : Names → ℕ → Names
@@ -60,35 +57,27 @@ names-ended r at = record { ok = true; next = at; count = r .count; long = r .lo
 
 -- ---- numbers
 
--- a value within the 32 bits, and else 0
-unfoldable pub value-kept : ℤ → ℤ
-value-kept z = cond (is-value z) z (pos 0)
+unfoldable pub no-values : Values
+no-values = record { ok = false; next = 0; count = 0; wide = false; values = replicate max-columns (pos 0) }
 
 -- how many (7 for more than 6), whether one is beyond 32 bits, and the first six
 unfoldable pub values-read : Bytes → Option (Read (List ℤ)) → Values
-values-read s none = record { ok = false; next = 0; count = 0; wide = false; values = replicate 6 (pos 0) }
+values-read s none = no-values
 values-read s (some r) =
     record {
       ok = true;
       next = length s - length (r .left);
-      count = min (length (r .what)) 7;
+      count = min (length (r .what)) (suc max-columns);
       wide = not (every is-value (r .what));
-      values = first-of 6 (pos 0) (map value-kept (r .what));
+      values = first-of max-columns (pos 0) (map value-kept (r .what));
     }
 
 unfoldable pub values-at : Bytes → ℕ → Values
-values-at s at = values-read s (items-at read-int s at)
-
--- a value, or that it is beyond 32 bits
-unfoldable pub kept-of : ℤ → Kept
-kept-of z = record { wide = not (is-value z); value = value-kept z }
-
-unfoldable pub no-values : Values
-no-values = record { ok = false; next = 0; count = 0; wide = false; values = replicate 6 (pos 0) }
+values-at s at = values-read s (any-items closes read-int (drop at s))
 
 -- what is read so far, with one number more
 unfoldable pub value-added : Values → Bool → ℤ → Values
-value-added r wide value = record { ok = r .ok; next = r .next; count = min (suc (r .count)) 7; wide = r .wide || wide; values = set (r .values) (r .count) value }
+value-added r wide value = record { ok = r .ok; next = r .next; count = min (suc (r .count)) (suc max-columns); wide = r .wide || wide; values = set (r .values) (r .count) value }
 
 -- what is read so far, where the list ends at a place
 unfoldable pub values-ended : Values → ℕ → Values
@@ -96,9 +85,12 @@ values-ended r at = record { ok = true; next = at; count = r .count; wide = r .w
 
 -- ---- profile entries
 
+unfoldable pub no-entry : EntryRead
+no-entry = record { ok = false; over = false; name = 0; value = pos 0; next = 0 }
+
 -- the entry at a place: whether there is one, whether its name is too long or its value beyond 32 bits, its name's number and its value, and the place after it
 unfoldable pub entry-read : Bytes → Option (Read Entry) → EntryRead
-entry-read s none = record { ok = false; over = false; name = 0; value = pos 0; next = 0 }
+entry-read s none = no-entry
 entry-read s (some r) =
     record {
       ok = true;
@@ -111,31 +103,28 @@ entry-read s (some r) =
 unfoldable pub entry-at : Bytes → ℕ → EntryRead
 entry-at s at = entry-read s (read-entry (drop at s))
 
-unfoldable pub no-entry : EntryRead
-no-entry = record { ok = false; over = false; name = 0; value = pos 0; next = 0 }
-
 -- an entry by its name and its value
 unfoldable pub entry-of : Name → Kept → ℕ → EntryRead
 entry-of n k next = record { ok = true; over = n .long || k .wide; name = n .code; value = k .value; next = next }
 
+unfoldable pub no-entries : Entries
+no-entries = record { ok = false; next = 0; count = 0; over = false; names = replicate max-entries 0; values = replicate max-entries (pos 0) }
+
 -- how many (5 for more than 4), whether a name is too long or a value beyond 32 bits, and the first four
 unfoldable pub entries-read : Bytes → Option (Read (List Entry)) → Entries
-entries-read s none = record { ok = false; next = 0; count = 0; over = false; names = replicate 4 0; values = replicate 4 (pos 0) }
+entries-read s none = no-entries
 entries-read s (some r) =
     record {
       ok = true;
       next = length s - length (r .left);
-      count = min (length (r .what)) 5;
+      count = min (length (r .what)) (suc max-entries);
       over = not (every (λ e. short (e .name) && is-value (e .value)) (r .what));
-      names = first-of 4 0 (map (λ e. code-short (e .name)) (r .what));
-      values = first-of 4 (pos 0) (map (λ e. value-kept (e .value)) (r .what));
+      names = first-of max-entries 0 (map (λ e. code-short (e .name)) (r .what));
+      values = first-of max-entries (pos 0) (map (λ e. value-kept (e .value)) (r .what));
     }
 
 unfoldable pub entries-at : Bytes → ℕ → Entries
-entries-at s at = entries-read s (items-at read-entry s at)
-
-unfoldable pub no-entries : Entries
-no-entries = record { ok = false; next = 0; count = 0; over = false; names = replicate 4 0; values = replicate 4 (pos 0) }
+entries-at s at = entries-read s (any-items closes read-entry (drop at s))
 
 -- what is read so far, with one entry more
 unfoldable pub entry-added : Entries → Bool → ℕ → ℤ → Entries
@@ -143,7 +132,7 @@ entry-added r over name value =
     record {
       ok = r .ok;
       next = r .next;
-      count = min (suc (r .count)) 5;
+      count = min (suc (r .count)) (suc max-entries);
       over = r .over || over;
       names = set (r .names) (r .count) name;
       values = set (r .values) (r .count) value;

@@ -4,31 +4,41 @@ ghost use Prim.Native.Nat.{_+_, _≤_, _<_, min};
 ghost use lib.Dec.{eqb};
 ghost use lib.ListN.{getD, take, drop};
 ghost use Rattle.lists.specs.Lists.{some?};
-ghost use Rattle.syntax.specs.Readers.{begins};
-ghost use Rattle.items.specs.Items.{no-names, name-added, names-ended, names-at, kept-of, no-values, value-added, values-ended, values-at, no-entry, entry-of, entry-at, no-entries, entry-added, entries-ended, entries-at, once};
+ghost use Rattle.syntax.specs.Limits.{max-columns, max-entries};
+ghost use Rattle.items.specs.Items.{no-names, name-added, names-ended, names-at, no-values, value-added, values-ended, values-at, no-entry, entry-of, entry-at, no-entries, entry-added, entries-ended, entries-at, once};
+use text::Kept;
+use text::Word;
 
-// Names: how many, 7 for more than six, whether one is too long, and the first six as numbers.
+// Names: how many, Names::OVER for more than are kept, whether one is too long, and the first of them as numbers.
 pub struct Names {
     pub ok: bool,
     pub next: usize,
     pub count: u32,
     pub long: bool,
-    pub codes: [u64; 6],
+    pub codes: [u64; Names::MOST],
 }
 
-// Numbers: how many, 7 for more than six, whether one is beyond 32 bits, and the first six.
+impl Names {
+    // How many names of a list are kept: as many as a stream may have columns.
+    pub const MOST: usize = 6;
+    // The count of a longer list.
+    pub const OVER: u32 = Names::MOST as u32 + 1;
+
+    // Returns Names::MOST, which is the bound of the definitions.
+    pub fn most() -> usize
+        ensures { λ r. ⌜ r ≡ max-columns ⌝ }
+    {
+        Names::MOST
+    }
+}
+
+// Numbers: how many, Names::OVER for more than are kept, whether one is beyond 32 bits, and the first of them.
 pub struct Values {
     pub ok: bool,
     pub next: usize,
     pub count: u32,
     pub wide: bool,
-    pub values: [i32; 6],
-}
-
-// A number within 32 bits, or that it is beyond.
-pub struct Kept {
-    pub wide: bool,
-    pub value: i32,
+    pub values: [i32; Names::MOST],
 }
 
 // A profile entry at a place.
@@ -40,14 +50,28 @@ pub struct EntryRead {
     pub next: usize,
 }
 
-// Profile entries: how many, 5 for more than four, whether one is out of bounds, and the first four.
+// Profile entries: how many, Entries::OVER for more than are kept, whether one is out of bounds, and the first of them.
 pub struct Entries {
     pub ok: bool,
     pub next: usize,
     pub count: u32,
     pub over: bool,
-    pub names: [u64; 4],
-    pub values: [i32; 4],
+    pub names: [u64; Entries::MOST],
+    pub values: [i32; Entries::MOST],
+}
+
+impl Entries {
+    // How many entries a caller may have.
+    pub const MOST: usize = 4;
+    // The count of a longer list.
+    pub const OVER: u32 = Entries::MOST as u32 + 1;
+
+    // Returns Entries::MOST, which is the bound of the definitions.
+    pub fn most() -> usize
+        ensures { λ r. ⌜ r ≡ max-entries ⌝ }
+    {
+        Entries::MOST
+    }
 }
 
 // No name was read.
@@ -59,7 +83,7 @@ fn no_names() -> Names
         next: 0,
         count: 0,
         long: false,
-        codes: [0; 6],
+        codes: [0; Names::MOST],
     }
 }
 
@@ -70,11 +94,11 @@ fn with_name(r: Names, n: text::Name) -> Names
     let long = text::either(r.long, n.long);
     let at = r.count as usize;
     let mut codes = r.codes;
-    if 6 <= at {
+    if Names::MOST <= at {
         return Names {
             ok: r.ok,
             next: r.next,
-            count: 7,
+            count: Names::OVER,
             long: long,
             codes: codes,
         };
@@ -103,7 +127,7 @@ fn names_ended(r: Names, at: usize) -> Names
     }
 }
 
-// The names at a place.
+// Returns the names at a place up to a closing bracket, and the place of that; `ok` is false where there is no such list, and all else 0.
 pub fn names_at(s: &[u8], at: usize) -> Names
     ensures { λ r. ⌜ r ≡ names-at (now (s .entry)) at ⌝ }
 {
@@ -126,29 +150,6 @@ pub fn names_at(s: &[u8], at: usize) -> Names
     no_names()
 }
 
-// A number within 32 bits, and 0 for one beyond.
-pub fn kept_value(n: text::Number) -> Kept
-    ensures { λ r. ⌜ r ≡ kept-of (n .value) ⌝ }
-{
-    let v = n.value;
-    if v < -2147483648 {
-        return Kept {
-            wide: true,
-            value: 0,
-        };
-    }
-    if 2147483647 < v {
-        return Kept {
-            wide: true,
-            value: 0,
-        };
-    }
-    Kept {
-        wide: false,
-        value: v as i32,
-    }
-}
-
 // No number was read.
 fn no_values() -> Values
     ensures { λ r. ⌜ r ≡ no-values ⌝ }
@@ -158,7 +159,7 @@ fn no_values() -> Values
         next: 0,
         count: 0,
         wide: false,
-        values: [0; 6],
+        values: [0; Names::MOST],
     }
 }
 
@@ -169,11 +170,11 @@ fn with_value(r: Values, k: Kept) -> Values
     let wide = text::either(r.wide, k.wide);
     let place = r.count as usize;
     let mut values = r.values;
-    if 6 <= place {
+    if Names::MOST <= place {
         return Values {
             ok: r.ok,
             next: r.next,
-            count: 7,
+            count: Names::OVER,
             wide: wide,
             values: values,
         };
@@ -203,7 +204,7 @@ fn values_ended(r: Values, at: usize) -> Values
     }
 }
 
-// The numbers at a place.
+// Returns the numbers at a place up to a closing bracket, and the place of that; `ok` is false where there is no such list, and all else 0.
 pub fn values_at(s: &[u8], at: usize) -> Values
     ensures { λ r. ⌜ r ≡ values-at (now (s .entry)) at ⌝ }
 {
@@ -220,29 +221,10 @@ pub fn values_at(s: &[u8], at: usize) -> Values
         if !n.ok {
             return no_values();
         }
-        r = with_value(r, kept_value(n));
+        r = with_value(r, n.kept());
         i = n.next;
     }
     no_values()
-}
-
-// Whether a text goes on with given bytes at a place.
-pub fn begins_at(s: &[u8], at: usize, w: &[u8]) -> bool
-    ensures { λ r. ⌜ r ≡ begins (now (w .entry)) (drop at (now (s .entry))) ⌝ }
-{
-    let mut i = 0;
-    let mut j = at;
-    while i < w.len() {
-        if s.len() <= j {
-            return false;
-        }
-        if s[j] != w[i] {
-            return false;
-        }
-        i += 1;
-        j += 1;
-    }
-    true
 }
 
 fn no_entry() -> EntryRead
@@ -271,14 +253,18 @@ fn entry_of(n: text::Name, k: Kept, next: usize) -> EntryRead
     }
 }
 
-// The profile entry at a place.
+// Returns the profile entry at a place, in brackets, and the place after it; `ok` is false where there is none, and all else 0.
 pub fn entry_at(s: &[u8], at: usize) -> EntryRead
     ensures { λ r. ⌜ r ≡ entry-at (now (s .entry)) at ⌝ }
 {
-    if !begins_at(s, at, b"(self ") {
+    let p = text::open_at(s, at, Word::SELF);
+    if p == 0 {
         return no_entry();
     }
-    let n = text::name_at(s, at + 6);
+    if text::byte(s, p) != b' ' {
+        return no_entry();
+    }
+    let n = text::name_at(s, p + 1);
     if !n.ok {
         return no_entry();
     }
@@ -294,7 +280,7 @@ pub fn entry_at(s: &[u8], at: usize) -> EntryRead
     if text::byte(s, j) != b')' {
         return no_entry();
     }
-    entry_of(n, kept_value(z), j + 1)
+    entry_of(n, z.kept(), j + 1)
 }
 
 // No entry was read.
@@ -306,8 +292,8 @@ fn no_entries() -> Entries
         next: 0,
         count: 0,
         over: false,
-        names: [0; 4],
-        values: [0; 4],
+        names: [0; Entries::MOST],
+        values: [0; Entries::MOST],
     }
 }
 
@@ -319,11 +305,11 @@ fn with_entry(r: Entries, e: EntryRead) -> Entries
     let at = r.count as usize;
     let mut names = r.names;
     let mut values = r.values;
-    if 4 <= at {
+    if Entries::MOST <= at {
         return Entries {
             ok: r.ok,
             next: r.next,
-            count: 5,
+            count: Entries::OVER,
             over: over,
             names: names,
             values: values,
@@ -358,7 +344,7 @@ fn entries_ended(r: Entries, at: usize) -> Entries
     }
 }
 
-// The profile entries at a place.
+// Returns the profile entries at a place up to a closing bracket, and the place of that; `ok` is false where there is no such list, and all else 0.
 pub fn entries_at(s: &[u8], at: usize) -> Entries
     ensures { λ r. ⌜ r ≡ entries-at (now (s .entry)) at ⌝ }
 {
@@ -382,8 +368,8 @@ pub fn entries_at(s: &[u8], at: usize) -> Entries
 }
 
 // Whether the number at a place stands again after it, among the first n.
-fn again(codes: [u64; 6], i: usize, n: usize) -> bool
-    requires { ⌜ (i < n) × (n ≤ 6) ⌝ }
+fn again(codes: [u64; Names::MOST], i: usize, n: usize) -> bool
+    requires { ⌜ (i < n) × (n ≤ max-columns) ⌝ }
     ensures { λ r. ⌜ r ≡ some? (eqb (getD codes i 0)) (drop (i + 1) (take n codes)) ⌝ }
 {
     let mut j = i + 1;
@@ -396,20 +382,20 @@ fn again(codes: [u64; 6], i: usize, n: usize) -> bool
     false
 }
 
-fn at_most_six(n: usize) -> usize
-    ensures { λ r. ⌜ r ≡ min n 6 ⌝ }
+fn at_most(n: usize) -> usize
+    ensures { λ r. ⌜ r ≡ min n max-columns ⌝ }
 {
-    if n < 6 {
+    if n < Names::MOST {
         return n;
     }
-    6
+    Names::MOST
 }
 
-// Whether of the first n numbers none stands twice.
-pub fn once(codes: [u64; 6], n: usize) -> bool
+// Returns whether of the first n numbers none stands twice.
+pub fn once(codes: [u64; Names::MOST], n: usize) -> bool
     ensures { λ r. ⌜ r ≡ once codes n ⌝ }
 {
-    let m = at_most_six(n);
+    let m = at_most(n);
     let mut i = 0;
     while i < m {
         if again(codes, i, m) {

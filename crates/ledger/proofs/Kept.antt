@@ -1,49 +1,54 @@
--- What an accepted call leaves may be lent again.
-use mathlib.Core.Path.{_≡_, refl}
-use mathlib.Core.List.{List, [], _∷_, _++_}
-use mathlib.Core.Bool.{_&&_}
+-- What an accepted call leaves stands for the record of the definitions, and may be lent again.
+use mathlib.Core.Path.{_≡_, refl, sym, ap, _∙_}
+use mathlib.Core.List.{List, [], _++_, map, map-map}
+use mathlib.Core.Bool.{Bool, _&&_}
+use mathlib.Core.Option.{some}
 use Prim.Native.Nat.{ℕ, zero, suc, _+_, _*_, _-_, _<_, _≤_}
 use native.Mathlib.Decide.{decLt}
 use native.Mathlib.Omega.{arith}
 use lib.IntN.{ℤ}
 use lib.Dec.{T, leb, eqb, le→leb, leb→le, eqb→eq}
-use lib.ListN.{length, getD, set, replicate, length-set}
-use lib.Seq.{paste, length-paste, getD-set-other}
+use lib.ListN.{length, getD, replicate, length-set, take, drop, take-append-drop}
+use lib.Seq.{length-paste, getD-set-other}
 use Rattle.lists.specs.Lists.{every, count-from}
-use Rattle.lists.proofs.Laws.{and-l, and-r, and-both, parts, every-weaken}
+use Rattle.lists.proofs.Laws.{and-l, and-r, and-both, every-weaken, every-append, every-append-l, every-append-r}
+use Rattle.lists.proofs.Counting.{map-alike, every-at, every-made, every-set}
+use Rattle.syntax.specs.Limits.{max-streams, max-columns, max-rows, top, is-value, natural}
 use Rattle.model.specs.Queries.{Row}
-use Rattle.calls.specs.Bounds.{top}
 use Rattle.calls.specs.Validity.{steady}
-use Rattle.schema.specs.Schemas.{streams-in, width-of}
-use Rattle.schema.specs.declared.Schema.{Schema}
-use Rattle.ledger.specs.declared.Ledger.{Ledger}
-use Rattle.ledger.specs.Records.{count-in, rows-in, ledger-sound, undeclared-empty, times-steady, stream-steady, streams-steady, rows-sound}
-use Rattle.lists.proofs.Counting.{every-at, every-made, every-set}
-use Rattle.ledger.proofs.Records.{ledger, streams-le, width-le}
+use Rattle.calls.specs.Calls as C
+use Rattle.calls.proofs.Valid.{steady-add}
+use Rattle.schema.specs.Schemas.{streams-in, width-in, schema-of, schema-sound}
+use Rattle.schema.proofs.Tests.{streams-most}
+use Rattle.ledger.specs.Records.{Memory, with-ledger, with-names, Typed, row-in, count-in, rows-in, record-of, ledger-sound, undeclared-empty, times-steady, stream-steady, streams-steady, memory-sound}
+use Rattle.ledger.specs.Calls.{row-place, with-rows, with-row}
+use Rattle.ledger.proofs.Soundness.{sound-parts, sound-made}
+use Rattle.ledger.proofs.Entering.{RowFits, row-room}
 use Rattle.ledger.proofs.Rows.{stream-other, stream-same}
-use Rattle.ledger.proofs.Soundness.{sound-tests, steady-rows}
 
-module _ (l : Ledger) (q : Schema) (times : List ℕ) (values : List ℤ) where
-  sound-made : T (ledger-sound l) → 512 ≤ length times → 3072 ≤ length values → T (undeclared-empty l (streams-in q)) → T (streams-steady l (streams-in q) times) → T (rows-sound l q times values)
-  sound-made a h k u t =
-      rw (sound-tests l q times values)
-      (and-both (ledger-sound l && leb 512 (length times) && leb 3072 (length values) && undeclared-empty l (streams-in q)) _
-      (and-both (ledger-sound l && leb 512 (length times) && leb 3072 (length values)) _
-      (and-both (ledger-sound l && leb 512 (length times)) _ (and-both (ledger-sound l) _ a (le→leb 512 (length times) h)) (le→leb 3072 (length values) k)) u) t)
+-- ---- rows in a row of places are steady where the places' times are
 
-record Parts (l : Ledger) (q : Schema) (times : List ℕ) (values : List ℤ) : Type 0 where
-  bounds : T (ledger-sound l)
-  places : 512 ≤ length times
-  room : 3072 ≤ length values
-  unused : T (undeclared-empty l (streams-in q))
-  tested : T (streams-steady l (streams-in q) times)
+steady-places : (times : List ℕ) (values : List ℤ) (w low k b a n : ℕ) → steady low k (map (λ r. row-in times values w (b + r)) (count-from a n)) ≡ times-steady times low k (b + a) n
+unfolding steady times-steady count-from row-in
+steady-places times values w low k b a zero = refl
+steady-places times values w low k b a (suc n) =
+    let e : b + suc a ≡ suc (b + a) = omega arith in
+    ap (λ c. leb low (getD times (b + a) 0) && c) (rw e at (steady-places times values w (getD times (b + a) 0) k b (suc a) n))
 
-sound-parts : (l : Ledger) (q : Schema) (times : List ℕ) (values : List ℤ) → T (rows-sound l q times values) → Parts l q times values
-sound-parts l q times values r =
-    let t = rw (sound-tests l q times values) at r in
-    record { bounds = search parts; places = leb→le 512 (length times) (search parts); room = leb→le 3072 (length values) (search parts); unused = search parts; tested = search parts }
+pub steady-rows : (m : Memory) (s : ℕ) → steady 0 (m .ledger .clock) (rows-in m s) ≡ stream-steady (m .ledger) (m .times) s
+unfolding rows-in stream-steady
+steady-rows m s =
+    let e : s * max-rows + 0 ≡ s * max-rows = omega arith in
+    rw e at (steady-places (m .times) (m .values) (width-in (m .names) s) 0 (m .ledger .clock) (s * max-rows) 0 (count-in (m .ledger) s))
 
 -- ---- a later clock
+
+abbrev pub clock-at : Memory → ℕ → Memory
+clock-at m t = with-ledger m (record { clock = t; rows = m .ledger .rows })
+
+pub clock-effect : (m : Memory) (t : ℤ) → record-of (clock-at m (natural t)) ≡ C.with-clock (record-of m) (some t)
+unfolding record-of rows-in count-in C.with-clock
+clock-effect m t = refl
 
 times-later : (times : List ℕ) (low k t at n : ℕ) → k ≤ t → T (times-steady times low k at n) → T (times-steady times low t at n)
 unfolding times-steady
@@ -51,124 +56,147 @@ times-later times low k t at zero h s = let e = leb→le low k s in le→leb low
 times-later times low k t at (suc n) h s =
     and-both (leb low (getD times at 0)) _ (and-l (leb low (getD times at 0)) _ s) (times-later times (getD times at 0) k t (suc at) n h (and-r (leb low (getD times at 0)) _ s))
 
-pub clock-sound : (l : Ledger) (t : ℕ) → t ≤ 2147483647 → T (ledger-sound l) → T (ledger-sound (ledger t (l .rows)))
-unfolding ledger-sound top
-clock-sound l t h s = and-both (leb t 2147483647) _ (le→leb t 2147483647 h) (and-r (leb (l .clock) 2147483647) _ s)
-
-pub clock-rows : (l : Ledger) (t : ℕ) → t ≤ 2147483647 → l .clock ≤ t → (q : Schema) (times : List ℕ) (values : List ℤ) → T (rows-sound l q times values) → T (rows-sound (ledger t (l .rows)) q times values)
-unfolding undeclared-empty streams-steady stream-steady count-in
-clock-rows l t h g q times values r =
-    let p = sound-parts l q times values r in
-    sound-made (ledger t (l .rows)) q times values (clock-sound l t h (p .bounds)) (p .places) (p .room) (p .unused)
-    (every-weaken (stream-steady l times) (stream-steady (ledger t (l .rows)) times) (λ s a. times-later times 0 (l .clock) t (s * 128) (count-in l s) g a) (count-from 0 (streams-in q)) (p .tested))
+pub clock-sound : (m : Memory) (t : ℕ) → t ≤ top → m .ledger .clock ≤ t → T (memory-sound m) → T (memory-sound (clock-at m t))
+unfolding ledger-sound undeclared-empty streams-steady stream-steady count-in
+clock-sound m t h g r =
+    let p = sound-parts m r in
+    sound-made (clock-at m t) (record {
+      names = p .names;
+      bounds = and-both (leb t top) _ (le→leb t top h) (and-r (leb (m .ledger .clock) top) _ (p .bounds));
+      places = p .places;
+      room = p .room;
+      unused = p .unused;
+      tested = every-weaken (stream-steady (m .ledger) (m .times)) _ (λ s a. times-later (m .times) 0 (m .ledger .clock) t (s * max-rows) (count-in (m .ledger) s) g a) (count-from 0 (streams-in (m .names))) (p .tested);
+    })
 
 -- ---- no rows
 
-none-at : (s : ℕ) → _≡_ {A = ℕ} (getD (replicate 4 0) s 0) 0
+abbrev pub emptied : Memory → Memory
+emptied m = with-ledger m (record { clock = m .ledger .clock; rows = replicate max-streams 0 })
+
+none-at : (s : ℕ) → _≡_ {A = ℕ} (getD (replicate max-streams 0) s 0) 0
 none-at zero = refl
 none-at (suc zero) = refl
 none-at (suc (suc zero)) = refl
 none-at (suc (suc (suc zero))) = refl
 none-at (suc (suc (suc (suc s)))) = refl
 
-pub empty-sound : (k : ℕ) → T (leb k top) → T (ledger-sound (ledger k (replicate 4 0)))
-unfolding ledger-sound every
-empty-sound k h = and-both (leb k top) _ h tt
+pub rows-none : (m : Memory) (s : ℕ) → rows-in (emptied m) s ≡ []
+unfolding rows-in count-in count-from
+rows-none m s = rw (none-at s)
 
-pub empty-rows : (k : ℕ) → T (leb k top) → (q : Schema) (times : List ℕ) (values : List ℤ) → 512 ≤ length times → 3072 ≤ length values → T (rows-sound (ledger k (replicate 4 0)) q times values)
-unfolding undeclared-empty streams-steady stream-steady count-in times-steady
-empty-rows k h q times values g v =
-    sound-made (ledger k (replicate 4 0)) q times values (empty-sound k h) g v
-    (every-made _ (streams-in q) (4 - streams-in q) (λ s a b. rw (none-at s) tt))
-    (every-made _ 0 (streams-in q) (λ s a b. rw (none-at s) (le→leb 0 k (omega arith))))
+pub clear-effect : (m : Memory) → record-of (emptied m) ≡ C.cleared (record-of m)
+unfolding record-of C.cleared
+clear-effect m =
+    ap (λ (rs : List (List Row)). record { clock = m .ledger .clock; schema = schema-of (m .names); rows = rs })
+    (map-alike _ (λ s. []) 0 (streams-in (m .names)) (λ s a b. rows-none m s) ∙ sym (map-map (λ rs. []) (rows-in m) (count-from 0 (streams-in (m .names)))))
 
-pub clear-sound : (l : Ledger) → T (ledger-sound l) → T (ledger-sound (ledger (l .clock) (replicate 4 0)))
+-- whatever stood there
+pub empty-sound : (m : Memory) → T (schema-sound (m .names)) → T (leb (m .ledger .clock) top) → max-streams * max-rows ≤ length (m .times) → max-streams * max-rows * max-columns ≤ length (m .values)
+    → T (memory-sound (emptied m))
+unfolding ledger-sound undeclared-empty streams-steady stream-steady count-in times-steady every
+empty-sound m n h g v =
+    sound-made (emptied m) (record {
+      names = n;
+      bounds = and-both (leb (m .ledger .clock) top) _ h tt;
+      places = g;
+      room = v;
+      unused = every-made _ (streams-in (m .names)) (max-streams - streams-in (m .names)) (λ s a b. rw (none-at s) tt);
+      tested = every-made _ 0 (streams-in (m .names)) (λ s a b. rw (none-at s) (le→leb 0 (m .ledger .clock) (omega arith)));
+    })
+
+pub clear-sound : (m : Memory) → T (memory-sound m) → T (memory-sound (emptied m))
 unfolding ledger-sound
-clear-sound l s = empty-sound (l .clock) (and-l (leb (l .clock) top) _ s)
+clear-sound m r = let p = sound-parts m r in empty-sound m (p .names) (and-l (leb (m .ledger .clock) top) _ (p .bounds)) (p .places) (p .room)
 
-pub clear-rows : (l : Ledger) (q : Schema) (times : List ℕ) (values : List ℤ) → T (rows-sound l q times values) → T (rows-sound (ledger (l .clock) (replicate 4 0)) q times values)
-unfolding ledger-sound
-clear-rows l q times values r = let p = sound-parts l q times values r in empty-rows (l .clock) (and-l (leb (l .clock) top) _ (p .bounds)) q times values (p .places) (p .room)
+-- ---- other names, of no fewer streams: those that are new have no rows yet
 
--- ---- a stream more
+none-undeclared : (m : Memory) → T (memory-sound m) → (s : ℕ) → streams-in (m .names) ≤ s → s < max-streams → T (eqb (getD (m .ledger .rows) s 0) 0)
+unfolding undeclared-empty
+none-undeclared m r s a b = every-at (λ s. eqb (getD (m .ledger .rows) s 0) 0) (streams-in (m .names)) (max-streams - streams-in (m .names)) (sound-parts m r .unused) s a (omega arith)
 
-stream-none : (l : Ledger) (times : List ℕ) (s : ℕ) → T (eqb (getD (l .rows) s 0) 0) → T (stream-steady l times s)
-unfolding stream-steady count-in times-steady
-stream-none l times s t = rw (eqb→eq (getD (l .rows) s 0) 0 t) (le→leb 0 (l .clock) (omega arith))
+-- a stream that is not declared has no rows
+pub undeclared-none : (m : Memory) → T (memory-sound m) → (s : ℕ) → streams-in (m .names) ≤ s → s < max-streams → count-in (m .ledger) s ≡ 0
+unfolding count-in
+undeclared-none m r s a b = rw (eqb→eq (getD (m .ledger .rows) s 0) 0 (none-undeclared m r s a b))
 
--- streams that are declared later have no rows yet
-pub declared-rows : (l : Ledger) (q q′ : Schema) (times : List ℕ) (values : List ℤ) → streams-in q ≤ streams-in q′ → T (rows-sound l q times values) → T (rows-sound l q′ times values)
+pub names-sound : (m : Memory) (ns : List ℕ) → T (schema-sound ns) → streams-in (m .names) ≤ streams-in ns → T (memory-sound m) → T (memory-sound (with-names m ns))
 unfolding undeclared-empty streams-steady
-declared-rows l q q′ times values h r =
-    let m = streams-le q′ in
-    let p = sound-parts l q times values r in
-    sound-made l q′ times values (p .bounds) (p .places) (p .room)
-    (every-made _ (streams-in q′) (4 - streams-in q′) (λ s a b. none (p .unused) s (omega arith) (omega arith)))
-    (every-made _ 0 (streams-in q′) (λ s a b. each (p .unused) (p .tested) s (omega arith) (decLt s (streams-in q))))
+names-sound m ns n h r =
+    let p = sound-parts m r in
+    let k = streams-most ns in
+    sound-made (with-names m ns) (record {
+      names = n;
+      bounds = p .bounds;
+      places = p .places;
+      room = p .room;
+      unused = every-made _ (streams-in ns) (max-streams - streams-in ns) (λ s a b. none-undeclared m r s (omega arith) (omega arith));
+      tested = every-made _ 0 (streams-in ns) (λ s a b. each s (omega arith) (decLt s (streams-in (m .names))));
+    })
   where
-    none : T (undeclared-empty l (streams-in q)) → (s : ℕ) → streams-in q ≤ s → s < 4 → T (eqb (getD (l .rows) s 0) 0)
-    none u s a b = every-at (λ s. eqb (getD (l .rows) s 0) 0) (streams-in q) (4 - streams-in q) u s a (omega arith)
-
-    each : T (undeclared-empty l (streams-in q)) → T (streams-steady l (streams-in q) times) → (s : ℕ) → s < 4 → Dec (s < streams-in q) → T (stream-steady l times s)
-    each u t s a (yes b) = every-at (stream-steady l times) 0 (streams-in q) t s (omega arith) (omega arith)
-    each u t s a (no b) = stream-none l times s (none u s (omega arith) a)
+    each : (s : ℕ) → s < max-streams → Dec (s < streams-in (m .names)) → T (stream-steady (m .ledger) (m .times) s)
+    each s a (yes b) = every-at (stream-steady (m .ledger) (m .times)) 0 (streams-in (m .names)) (sound-parts m r .tested) s (omega arith) (omega arith)
+    each s a (no b) = unfold stream-steady times-steady in rw (undeclared-none m r s (omega arith) a) (le→leb 0 (m .ledger .clock) (omega arith))
 
 -- ---- a row more
 
-steady-add : (low k : ℕ) (vs : List ℤ) (rs : List Row) → T (steady low k rs) → T (steady low k (rs ++ (record { at = k; values = vs } ∷ [])))
-unfolding steady
-steady-add low k vs [] t = and-both (leb low k) (leb k k) t (le→leb k k (omega arith))
-steady-add low k vs (r ∷ rs) t = and-both (leb low (r .at)) _ (and-l (leb low (r .at)) _ t) (steady-add (r .at) k vs rs (and-r (leb low (r .at)) _ t))
+every-take : {A : Type 0} (p : A → Bool) (n : ℕ) (xs : List A) → T (every p xs) → T (every p (take n xs))
+every-take p n xs t = every-append-l p (take n xs) (drop n xs) (rw (take-append-drop n xs) t)
 
-module _ (l : Ledger) (q : Schema) (s : ℕ) (vs : List ℤ) (times : List ℕ) (values : List ℤ) (four : length (l .rows) ≡ 4)
-    (inT : 512 ≤ length times) (inV : 3072 ≤ length values) (hs : s < streams-in q) (hw : length vs ≡ width-of q s) (hn : count-in l s < 128) where
-  abbrev p : ℕ
-  p = s * 128 + count-in l s
+every-drop : {A : Type 0} (p : A → Bool) (n : ℕ) (xs : List A) → T (every p xs) → T (every p (drop n xs))
+every-drop p n xs t = every-append-r p (take n xs) (drop n xs) (rw (take-append-drop n xs) t)
 
-  abbrev next : Ledger
-  next = ledger (l .clock) (set (l .rows) s (count-in l s + 1))
+pub row-typed : (m : Memory) (s : ℕ) (vs : List ℤ) → Typed m → T (every is-value vs) → Typed (with-row m s vs)
+unfolding with-row with-rows
+row-typed m s vs y v =
+    let at : ℕ = row-place (m .ledger) s * max-columns in
+    record {
+      counts = length-set (m .ledger .rows) s (suc (count-in (m .ledger) s)) ∙ y .counts;
+      ranges = every-append is-value (take at (m .values) ++ take (length vs) vs) (drop (at + length vs) (m .values))
+          (every-append is-value (take at (m .values)) (take (length vs) vs) (every-take is-value at (m .values) (y .ranges)) (every-take is-value (length vs) vs v))
+          (every-drop is-value (at + length vs) (m .values) (y .ranges));
+    }
 
-  abbrev stored : List ℕ
-  stored = set times p (l .clock)
+module _ (m : Memory) (s : ℕ) (vs : List ℤ) (four : length (m .ledger .rows) ≡ max-streams) (fit : RowFits m s (length vs)) where
+  was-steady : (j : ℕ) → j < streams-in (m .names) → T (steady 0 (m .ledger .clock) (rows-in m j))
+  unfolding streams-steady
+  was-steady j h = rw (steady-rows m j) (every-at (stream-steady (m .ledger) (m .times)) 0 (streams-in (m .names)) (sound-parts m (fit .sound) .tested) j (omega arith) (omega arith))
 
-  abbrev filled : List ℤ
-  filled = paste values (p * 6) vs (length vs)
-
-  pub row-lengths : (length stored ≡ length times) × (length filled ≡ length values)
-  row-lengths =
-      let a = streams-le q in
-      let b = width-le q s in
-      (length-set times p (l .clock), length-paste values (p * 6) vs (length vs) (omega arith) (omega arith))
-
-  steady-next : T (every (λ j. steady 0 (l .clock) (rows-in l q times values j)) (count-from 0 (streams-in q))) → (j : ℕ) → j < streams-in q → Dec (j < s) → Dec (s < j)
-      → T (steady 0 (l .clock) (rows-in next q stored filled j))
-  steady-next t j h (yes a) b =
-      rw (stream-other l q s vs times values four inT inV hs hw hn j (λ e. omega arith)) (every-at (λ j. steady 0 (l .clock) (rows-in l q times values j)) 0 (streams-in q) t j (omega arith) (omega arith))
-  steady-next t j h (no a) (yes b) =
-      rw (stream-other l q s vs times values four inT inV hs hw hn j (λ e. omega arith)) (every-at (λ j. steady 0 (l .clock) (rows-in l q times values j)) 0 (streams-in q) t j (omega arith) (omega arith))
-  steady-next t j h (no a) (no b) =
+  steady-next : (j : ℕ) → j < streams-in (m .names) → Dec (j < s) → Dec (s < j) → T (steady 0 (m .ledger .clock) (rows-in (with-row m s vs) j))
+  steady-next j h (yes a) b = rw (stream-other m s vs four fit j (λ e. omega arith)) (was-steady j h)
+  steady-next j h (no a) (yes b) = rw (stream-other m s vs four fit j (λ e. omega arith)) (was-steady j h)
+  steady-next j h (no a) (no b) =
       let e : j ≡ s = omega arith in
-      rw (e, stream-same l q s vs times values four inT inV hs hw hn)
-      (steady-add 0 (l .clock) vs (rows-in l q times values s) (every-at (λ j. steady 0 (l .clock) (rows-in l q times values j)) 0 (streams-in q) t s (omega arith) (omega arith)))
+      rw (e, stream-same m s vs four fit) (steady-add 0 (m .ledger .clock) vs (rows-in m s) (was-steady s (fit .declared)))
 
-  ledger-next : T (ledger-sound l) → T (ledger-sound next)
-  unfolding ledger-sound
-  ledger-next t = and-both (leb (l .clock) top) _ (and-l (leb (l .clock) top) _ t) (every-set (λ n. leb n 128) (l .rows) s (count-in l s + 1) (and-r (leb (l .clock) top) _ t) (le→leb (count-in l s + 1) 128 (omega arith)))
+  bounds-next : T (ledger-sound (with-rows (m .ledger) s))
+  unfolding ledger-sound with-rows
+  bounds-next =
+      let t = sound-parts m (fit .sound) .bounds in
+      let f = fit .space in
+      and-both (leb (m .ledger .clock) top) _ (and-l (leb (m .ledger .clock) top) _ t)
+      (every-set (λ n. leb n max-rows) (m .ledger .rows) s (suc (count-in (m .ledger) s)) (and-r (leb (m .ledger .clock) top) _ t) (le→leb (suc (count-in (m .ledger) s)) max-rows (omega arith)))
 
-  unused-next : T (undeclared-empty l (streams-in q)) → T (undeclared-empty next (streams-in q))
-  unfolding undeclared-empty
-  unused-next t =
-      every-made _ (streams-in q) (4 - streams-in q)
-      (λ j a b. rw (getD-set-other (l .rows) s j (count-in l s + 1) 0 (λ e. omega arith)) (every-at (λ j. eqb (getD (l .rows) j 0) 0) (streams-in q) (4 - streams-in q) t j a b))
+  unused-next : T (undeclared-empty (with-rows (m .ledger) s) (streams-in (m .names)))
+  unfolding undeclared-empty with-rows
+  unused-next =
+      let d = fit .declared in
+      every-made _ (streams-in (m .names)) (max-streams - streams-in (m .names))
+      (λ j a b. rw (getD-set-other (m .ledger .rows) s j (suc (count-in (m .ledger) s)) 0 (λ e. omega arith))
+      (every-at (λ j. eqb (getD (m .ledger .rows) j 0) 0) (streams-in (m .names)) (max-streams - streams-in (m .names)) (sound-parts m (fit .sound) .unused) j a b))
 
-  tested-next : T (rows-sound l q times values) → T (streams-steady next (streams-in q) stored)
-  unfolding streams-steady rows-sound
-  tested-next r =
-      let t : T (every (λ j. steady 0 (l .clock) (rows-in l q times values j)) (count-from 0 (streams-in q))) = search parts in
-      every-made _ 0 (streams-in q) (λ j a b. rw (steady-rows next q stored filled j) at (steady-next t j (omega arith) (decLt j s) (decLt s j)))
-
-  pub row-rows : T (rows-sound l q times values) → T (rows-sound next q stored filled)
-  row-rows r =
-      let p = sound-parts l q times values r in
-      let (a, b) = row-lengths in
-      sound-made next q stored filled (ledger-next (p .bounds)) (omega arith) (omega arith) (unused-next (p .unused)) (tested-next r)
+  pub row-sound : T (memory-sound (with-row m s vs))
+  unfolding with-row with-rows streams-steady
+  row-sound =
+      let p = sound-parts m (fit .sound) in
+      let k = row-room m s (length vs) fit in
+      let a = length-set (m .times) (row-place (m .ledger) s) (m .ledger .clock) in
+      let b = length-paste (m .values) (row-place (m .ledger) s * max-columns) vs (length vs) (k .values) (omega arith) in
+      sound-made (with-row m s vs) (record {
+        names = p .names;
+        bounds = bounds-next;
+        places = omega arith;
+        room = omega arith;
+        unused = unused-next;
+        tested = every-made _ 0 (streams-in (m .names)) (λ j a b. rw (steady-rows (with-row m s vs) j) at (steady-next j (omega arith) (decLt j s) (decLt s j)));
+      })

@@ -1,7 +1,7 @@
-pub mod Kept
-pub mod Records
-pub mod Rows
+pub mod Bounds
 pub mod Soundness
+pub mod Entering
+pub mod Told
+pub mod Rows
+pub mod Kept
 pub mod Valid
-pub mod Pasting
-pub mod Verdicts

@@ -1,63 +1,78 @@
--- Whether rows may be lent, test by test, in the order of the code.
-use mathlib.Core.Path.{_≡_, refl, ap}
-use mathlib.Core.List.{List, map}
-use mathlib.Core.Bool.{true, false, _&&_}
-use Prim.Native.Nat.{ℕ, zero, suc, _+_, _*_, _<_, _≤_}
-use native.Mathlib.Omega.{arith}
-use lib.IntN.{ℤ}
-use lib.Dec.{T, leb, leb→le}
-use lib.ListN.{length, getD}
-use borrow.Author.Tests.{le-leb, lt-leb}
-use Rattle.lists.specs.Lists.{count-from}
+-- Whether memory may be lent, test by test, in the order of the code.
+use mathlib.Core.Path.{_≡_, _∙_}
+use mathlib.Core.Bool.{Bool, true, false, _&&_, not}
+use Prim.Native.Nat.{ℕ, _<_, _≤_}
+use lib.Dec.{T, leb, le→leb, leb→le}
+use lib.ListN.{length}
+use borrow.Author.Tests.{le-leb, lt-leb, not-true, not-false}
 use Rattle.lists.proofs.Laws.{parts}
-use Rattle.calls.specs.Validity.{steady}
-use Rattle.schema.specs.Schemas.{streams-in, width-of}
-use Rattle.schema.specs.declared.Schema.{Schema}
-use Rattle.ledger.specs.declared.Ledger.{Ledger}
-use Rattle.ledger.specs.Records.{row-in, count-in, rows-in, ledger-sound, undeclared-empty, times-steady, stream-steady, streams-steady, rows-sound}
-use Rattle.lists.proofs.Counting.{every-alike}
+use Rattle.schema.specs.Schemas.{streams-in, schema-sound}
+use Rattle.ledger.specs.Records.{Memory, places-size, values-size, ledger-sound, undeclared-empty, streams-steady, rows-sound, memory-sound}
 
--- rows in a row of places are steady where the places' times are
-steady-places : (times : List ℕ) (values : List ℤ) (w low k b a n : ℕ) → steady low k (map (λ r. row-in times values w (b + r)) (count-from a n)) ≡ times-steady times low k (b + a) n
-unfolding steady times-steady count-from row-in
-steady-places times values w low k b a zero = refl
-steady-places times values w low k b a (suc n) =
-    let e : b + suc a ≡ suc (b + a) = omega arith in
-    ap (λ c. leb low (getD times (b + a) 0) && c) (rw e at (steady-places times values w (getD times (b + a) 0) k b (suc a) n))
+-- ---- the tests of the code
 
-pub steady-rows : (l : Ledger) (q : Schema) (times : List ℕ) (values : List ℤ) (s : ℕ) → steady 0 (l .clock) (rows-in l q times values s) ≡ stream-steady l times s
-unfolding rows-in stream-steady
-steady-rows l q times values s =
-    let e : s * 128 + 0 ≡ s * 128 = omega arith in
-    rw e at (steady-places times values (width-of q s) 0 (l .clock) (s * 128) 0 (count-in l s))
+module _ (m : Memory) {b : Bool} (e : b ≡ ledger-sound (m .ledger)) where
+  pub no-ledger : not b ≡ true → false ≡ rows-sound m
+  unfolding rows-sound
+  no-ledger h = rw (← e, not-true b h)
 
-module _ (l : Ledger) (q : Schema) (times : List ℕ) (values : List ℤ) where
-  pub sound-tests : rows-sound l q times values ≡ (ledger-sound l && leb 512 (length times) && leb 3072 (length values) && undeclared-empty l (streams-in q) && streams-steady l (streams-in q) times)
-  unfolding rows-sound undeclared-empty streams-steady
-  sound-tests =
-      ap (λ b. ledger-sound l && leb 512 (length times) && leb 3072 (length values) && undeclared-empty l (streams-in q) && b)
-      (every-alike _ (stream-steady l times) 0 (streams-in q) (λ s i j. steady-rows l q times values s))
+  module _ (h : not b ≡ false) where
+    pub few-times : length (m .times) < places-size → false ≡ rows-sound m
+    unfolding rows-sound
+    few-times g = rw (← e, not-false b h, lt-leb places-size (length (m .times)) g)
 
-  pub no-ledger : ledger-sound l ≡ false → false ≡ rows-sound l q times values
-  no-ledger h = rw (sound-tests, h)
+    module _ (g : places-size ≤ length (m .times)) where
+      pub few-values : length (m .values) < values-size → false ≡ rows-sound m
+      unfolding rows-sound
+      few-values k = rw (← e, not-false b h, le-leb places-size (length (m .times)) g, lt-leb values-size (length (m .values)) k)
 
-  module _ (h : ledger-sound l ≡ true) where
-    pub few-times : length times < 512 → false ≡ rows-sound l q times values
-    few-times g = rw (sound-tests, h, lt-leb 512 (length times) g)
+      module _ (k : values-size ≤ length (m .values)) {n : ℕ} (s : n ≡ streams-in (m .names)) {u : Bool} (f : u ≡ undeclared-empty (m .ledger) n) where
+        pub rows-undeclared : not u ≡ true → false ≡ rows-sound m
+        unfolding rows-sound
+        rows-undeclared i = rw (← e, not-false b h, le-leb places-size (length (m .times)) g, le-leb values-size (length (m .values)) k, ← s, ← f, not-true u i)
 
-    module _ (g : 512 ≤ length times) where
-      pub few-values : length values < 3072 → false ≡ rows-sound l q times values
-      few-values k = rw (sound-tests, h, le-leb 512 (length times) g, lt-leb 3072 (length values) k)
+        pub by-times : not u ≡ false → {t : Bool} → t ≡ streams-steady (m .ledger) n (m .times) → t ≡ rows-sound m
+        unfolding rows-sound
+        by-times i r = r ∙ rw (← e, not-false b h, le-leb places-size (length (m .times)) g, le-leb values-size (length (m .values)) k, ← s, ← f, not-false u i)
 
-      module _ (k : 3072 ≤ length values) where
-        pub rows-undeclared : undeclared-empty l (streams-in q) ≡ false → false ≡ rows-sound l q times values
-        rows-undeclared u = rw (sound-tests, h, le-leb 512 (length times) g, le-leb 3072 (length values) k, u)
+pub no-names : (m : Memory) {b : Bool} → b ≡ schema-sound (m .names) → not b ≡ true → false ≡ memory-sound m
+unfolding memory-sound
+no-names m {b} e h = rw (← e, not-true b h)
 
-        pub by-times : undeclared-empty l (streams-in q) ≡ true → streams-steady l (streams-in q) times ≡ rows-sound l q times values
-        by-times u = rw (sound-tests, h, le-leb 512 (length times) g, le-leb 3072 (length values) k, u)
+pub by-rows : (m : Memory) {b r : Bool} → b ≡ schema-sound (m .names) → not b ≡ false → r ≡ rows-sound m → r ≡ memory-sound m
+unfolding memory-sound
+by-rows m {b} e h f = f ∙ rw (← e, not-false b h)
 
-  -- memory enough for every place
-  pub rows-room : rows-sound l q times values ≡ true → (512 ≤ length times) × (3072 ≤ length values)
-  rows-room e =
-      let t : T (ledger-sound l && leb 512 (length times) && leb 3072 (length values) && undeclared-empty l (streams-in q) && streams-steady l (streams-in q) times) = rw (← sound-tests, e) tt in
-      (leb→le 512 (length times) (search parts), leb→le 3072 (length values) (search parts))
+pub ruleset sound-ends = (no-ledger, few-times, few-values, rows-undeclared, by-times, no-names, by-rows)
+
+-- ---- what it means that memory may be lent
+
+pub record Sound (m : Memory) : Type 0 where
+  pub names : T (schema-sound (m .names))
+  pub bounds : T (ledger-sound (m .ledger))
+  pub places : places-size ≤ length (m .times)
+  pub room : values-size ≤ length (m .values)
+  pub unused : T (undeclared-empty (m .ledger) (streams-in (m .names)))
+  pub tested : T (streams-steady (m .ledger) (streams-in (m .names)) (m .times))
+
+pub sound-parts : (m : Memory) → T (memory-sound m) → Sound m
+unfolding memory-sound rows-sound
+sound-parts m t =
+    record {
+      names = search parts;
+      bounds = search parts depth 8;
+      places = leb→le places-size (length (m .times)) (search parts depth 8);
+      room = leb→le values-size (length (m .values)) (search parts depth 8);
+      unused = search parts depth 8;
+      tested = search parts depth 8;
+    }
+
+six : (a b c d e f : Bool) → T a → T b → T c → T d → T e → T f → T (a && (b && c && d && e && f))
+six true true true true true true p q r s t u = tt
+
+pub sound-made : (m : Memory) → Sound m → T (memory-sound m)
+unfolding memory-sound rows-sound
+sound-made m p =
+    six (schema-sound (m .names)) (ledger-sound (m .ledger)) (leb places-size (length (m .times))) (leb values-size (length (m .values))) (undeclared-empty (m .ledger) (streams-in (m .names)))
+    (streams-steady (m .ledger) (streams-in (m .names)) (m .times))
+    (p .names) (p .bounds) (le→leb places-size (length (m .times)) (p .places)) (le→leb values-size (length (m .values)) (p .room)) (p .unused) (p .tested)

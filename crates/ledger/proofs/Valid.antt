@@ -1,65 +1,104 @@
--- What the code calls sound is what the definitions call valid.
-use mathlib.Core.Path.{_≡_}
+-- What may be lent stands for a valid record; and what is refused though it does.
+use mathlib.Core.Path.{_≡_, refl, ap, ap₂, _∙_}
 use mathlib.Core.List.{List, map}
-use mathlib.Core.Bool.{_&&_}
-use Prim.Native.Nat.{ℕ, zero, suc, _+_, _*_, _<_, _≤_}
-use native.Mathlib.Omega.{arith}
+use mathlib.Core.Bool.{Bool, true, _&&_, and-true}
+use Prim.Native.Nat.{ℕ, zero, suc, _+_, _*_}
 use lib.IntN.{ℤ, pos}
-use lib.Dec.{T, leb, eqb, le→leb, eqb-refl}
+use lib.Dec.{T, leb, eqb, le→leb, leb→le, eqb-refl}
 use lib.ListN.{length, getD}
 use Rattle.lists.specs.Lists.{every, count-from}
-use Rattle.lists.proofs.Laws.{and-both, parts}
-use Rattle.calls.specs.Bounds.{is-value, top, max-rows}
+use Rattle.lists.proofs.Laws.{and-both, parts, T-true}
+use Rattle.lists.proofs.Counting.{map-length, every-map}
+use Rattle.syntax.specs.Limits.{is-value, top, max-columns, max-rows}
 use Rattle.calls.specs.Validity.{steady, valid-row, valid-rows, rows-match, valid-record, valid-schema}
-use Rattle.schema.specs.Schemas.{streams-in, width-of, column-name, stream-in, schema-of, schema-sound}
-use Rattle.schema.specs.declared.Schema.{Schema}
-use Rattle.ledger.specs.declared.Ledger.{Ledger}
-use Rattle.ledger.specs.Records.{row-in, count-in, rows-in, record-of, ledger-sound, rows-sound}
-use Rattle.lists.proofs.Counting.{map-length, every-at, every-map}
-use Rattle.ledger.proofs.Records.{count-le}
 use Rattle.text.proofs.Values.{value-at}
+use Rattle.schema.specs.Schemas.{streams-in, width-in, column-in, stream-in, schema-of, tidy}
+use Rattle.schema.proofs.Valid as S
+use Rattle.schema.proofs.Counted.{same-truth}
+use Rattle.ledger.specs.Records.{Memory, places-size, values-size, row-in, count-in, rows-in, record-of, ledger-sound, undeclared-empty, stream-steady, streams-steady, memory-sound, memory-tidy}
+use Rattle.ledger.proofs.Bounds.{count-le}
+use Rattle.ledger.proofs.Soundness.{sound-parts, sound-made}
+use Rattle.ledger.proofs.Told.{length-rows}
+use Rattle.ledger.proofs.Kept.{steady-rows}
+
+-- ---- the rows of the record: only their times can be wrong
 
 row-valid : (times : List ℕ) (values : List ℤ) (w p : ℕ) → T (every is-value values) → T (valid-row w (row-in times values w p))
 unfolding valid-row row-in
 row-valid times values w p v =
-    and-both (eqb (length vs) w) (every is-value vs) (rw (map-length (λ c. getD values (p * 6 + c) (pos 0)) 0 w) (eqb-refl w)) (every-map is-value _ 0 w (λ c a b. value-at values (p * 6 + c) v))
+    and-both (eqb (length vs) w) (every is-value vs) (rw (map-length (λ c. getD values (p * max-columns + c) (pos 0)) 0 w) (eqb-refl w)) (every-map is-value _ 0 w (λ c a b. value-at values (p * max-columns + c) v))
   where
     vs : List ℤ
-    vs = map (λ c. getD values (p * 6 + c) (pos 0)) (count-from 0 w)
+    vs = map (λ c. getD values (p * max-columns + c) (pos 0)) (count-from 0 w)
 
-module _ (l : Ledger) (q : Schema) (times : List ℕ) (values : List ℤ) (v : T (every is-value values)) where
-  few-rows : (s : ℕ) → T (leb (length (rows-in l q times values s)) 128)
+module _ (m : Memory) (v : T (every is-value (m .values))) where
+  each-valid : (s : ℕ) → every (valid-row (width-in (m .names) s)) (rows-in m s) ≡ true
   unfolding rows-in
-  few-rows s =
-      let h = count-le l s in
-      rw (map-length (λ r. row-in times values (width-of q s) (s * 128 + r)) 0 (count-in l s)) (le→leb (count-in l s) 128 h)
+  each-valid s = T-true (every (valid-row (width-in (m .names) s)) _) (every-map (valid-row (width-in (m .names) s)) _ 0 (count-in (m .ledger) s) (λ r a b. row-valid (m .times) (m .values) (width-in (m .names) s) (s * max-rows + r) v))
 
-  each-valid : (s : ℕ) → T (every (valid-row (width-of q s)) (rows-in l q times values s))
-  unfolding rows-in
-  each-valid s = every-map (valid-row (width-of q s)) _ 0 (count-in l s) (λ r a b. row-valid times values (width-of q s) (s * 128 + r) v)
+  few-rows : (s : ℕ) → leb (length (rows-in m s)) max-rows ≡ true
+  few-rows s = rw (length-rows m s) (T-true (leb (count-in (m .ledger) s) max-rows) (le→leb (count-in (m .ledger) s) max-rows (count-le (m .ledger) s)))
 
-  rows-valid : (s : ℕ) → T (steady 0 (l .clock) (rows-in l q times values s)) → T (valid-rows (l .clock) (width-of q s) (rows-in l q times values s))
-  unfolding valid-rows max-rows
-  rows-valid s t =
-      and-both (leb (length (rows-in l q times values s)) 128 && steady 0 (l .clock) (rows-in l q times values s)) _
-      (and-both (leb (length (rows-in l q times values s)) 128) _ (few-rows s) t) (each-valid s)
-
-  wide : (s : ℕ) → length (stream-in q s .columns) ≡ width-of q s
+  wide : (s : ℕ) → length (stream-in (m .names) s .columns) ≡ width-in (m .names) s
   unfolding stream-in
-  wide s = map-length (column-name q s) 0 (width-of q s)
+  wide s = map-length (column-in (m .names) s) 0 (width-in (m .names) s)
 
-  matched : (a n : ℕ) → ((s : ℕ) → a ≤ s → s < a + n → T (steady 0 (l .clock) (rows-in l q times values s)))
-      → T (rows-match (l .clock) (map (stream-in q) (count-from a n)) (map (rows-in l q times values) (count-from a n)))
-  unfolding rows-match count-from
-  matched a zero h = tt
-  matched a (suc n) h =
-      and-both (valid-rows (l .clock) (length (stream-in q a .columns)) (rows-in l q times values a)) (rows-match (l .clock) (map (stream-in q) (count-from (suc a) n)) (map (rows-in l q times values) (count-from (suc a) n)))
-      (rw (wide a) (rows-valid a (h a (omega arith) (omega arith)))) (matched (suc a) n (λ s i j. h s (omega arith) (omega arith)))
+  rows-valid : (s : ℕ) → valid-rows (m .ledger .clock) (length (stream-in (m .names) s .columns)) (rows-in m s) ≡ stream-steady (m .ledger) (m .times) s
+  unfolding valid-rows
+  rows-valid s = rw (wide s, few-rows s, each-valid s) (and-true (steady 0 (m .ledger .clock) (rows-in m s)) ∙ steady-rows m s)
 
--- what is lent with a sound schema and sound rows is a valid record
-pub sound-record : (l : Ledger) (q : Schema) (times : List ℕ) (values : List ℤ) → T (schema-sound q) → T (rows-sound l q times values) → T (every is-value values) → T (valid-record (record-of l q times values))
-unfolding valid-record record-of schema-sound rows-sound ledger-sound schema-of
-sound-record l q times values a b v =
-    let steady-all : T (every (λ s. steady 0 (l .clock) (rows-in l q times values s)) (count-from 0 (streams-in q))) = search parts in
-    and-both (leb (l .clock) top && valid-schema (map (stream-in q) (count-from 0 (streams-in q)))) _ (and-both (leb (l .clock) top) _ (search parts) (search parts))
-    (matched l q times values v 0 (streams-in q) (λ s i j. every-at (λ s. steady 0 (l .clock) (rows-in l q times values s)) 0 (streams-in q) steady-all s i j))
+  matched : (a n : ℕ) → rows-match (m .ledger .clock) (map (stream-in (m .names)) (count-from a n)) (map (rows-in m) (count-from a n)) ≡ every (stream-steady (m .ledger) (m .times)) (count-from a n)
+  unfolding rows-match count-from every
+  matched a zero = refl
+  matched a (suc n) = ap₂ _&&_ (rows-valid a) (matched (suc a) n)
+
+  -- the record is valid where its clock, its streams and the times of its rows are
+  pub valid-tests : valid-record (record-of m) ≡ (leb (m .ledger .clock) top && valid-schema (schema-of (m .names)) && streams-steady (m .ledger) (streams-in (m .names)) (m .times))
+  unfolding valid-record record-of schema-of streams-steady
+  valid-tests = ap (λ b. leb (m .ledger .clock) top && valid-schema (map (stream-in (m .names)) (count-from 0 (streams-in (m .names)))) && b) (matched 0 (streams-in (m .names)))
+
+-- ---- what may be lent
+
+five : (a b c d e : Bool) → T a → T b → T c → T d → T e → T (a && b && c && d && e)
+five true true true true true p q r s t = tt
+
+three : (a b c : Bool) → T a → T b → T c → T (a && b && c)
+three true true true p q r = tt
+
+module _ (m : Memory) (v : T (every is-value (m .values))) where
+  pub sound-valid : T (memory-sound m) → T (valid-record (record-of m))
+  unfolding ledger-sound
+  sound-valid t =
+      let p = sound-parts m t in
+      let b = p .bounds in
+      rw (valid-tests m v) (three (leb (m .ledger .clock) top) (valid-schema (schema-of (m .names))) (streams-steady (m .ledger) (streams-in (m .names)) (m .times)) (search parts) (S.sound-valid (m .names) (p .names)) (p .tested))
+
+  sound-tidy : T (memory-sound m) → T (memory-tidy m)
+  unfolding ledger-sound memory-tidy
+  sound-tidy t =
+      let p = sound-parts m t in
+      let b = p .bounds in
+      five (tidy (m .names)) (every (λ n. leb n max-rows) (m .ledger .rows)) (leb places-size (length (m .times))) (leb values-size (length (m .values))) (undeclared-empty (m .ledger) (streams-in (m .names)))
+      (S.sound-tidy (m .names) (p .names)) (search parts) (le→leb places-size (length (m .times)) (p .places)) (le→leb values-size (length (m .values)) (p .room)) (p .unused)
+
+  pub valid-sound : T (memory-tidy m) → T (valid-record (record-of m)) → T (memory-sound m)
+  unfolding ledger-sound memory-tidy
+  valid-sound t w =
+      let u = rw (valid-tests m v) at w in
+      sound-made m (record {
+        names = S.valid-sound (m .names) (search parts depth 8) (search parts depth 8);
+        bounds = and-both (leb (m .ledger .clock) top) (every (λ n. leb n max-rows) (m .ledger .rows)) (search parts depth 8) (search parts depth 8);
+        places = leb→le places-size (length (m .times)) (search parts depth 8);
+        room = leb→le values-size (length (m .values)) (search parts depth 8);
+        unused = search parts depth 8;
+        tested = search parts depth 8;
+      })
+
+  -- Memory may be lent where it is tidy and the record that it stands for is valid. What is refused by 12 though that record is valid: memory too short, a name after a gap or
+  -- a column of a stream that is not declared, a count above 128, and rows of a stream that is not declared. The record leaves these out, so that it is one for any memory;
+  -- but a stream declared later would begin with such names and rows, and a row of a short memory would have no place. No call and no line leaves memory so.
+  pub sound-is : memory-sound m ≡ (memory-tidy m && valid-record (record-of m))
+  sound-is =
+      same-truth (memory-sound m) (memory-tidy m && valid-record (record-of m))
+      (λ t. and-both (memory-tidy m) (valid-record (record-of m)) (sound-tidy t) (sound-valid t))
+      (λ t. valid-sound (search parts) (search parts))

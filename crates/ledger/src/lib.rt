@@ -1,19 +1,22 @@
 // The clock and the four row counts, which go in with a call and come back with it. Rows stand in lent memory: a time and six values a place, 128 places a stream.
 ghost use mathlib.Core.Path.{_≡_};
-ghost use Prim.Native.Nat.{_+_, _≤_};
+ghost use Prim.Native.Nat.{_+_, _*_, _≤_, _<_};
 ghost use lib.Dec.{T};
 ghost use lib.ListN.{length};
 ghost use lib.Seq.{paste};
 ghost use Rattle.lists.specs.Lists.{every};
-ghost use Rattle.calls.specs.Bounds.{is-value};
-ghost use Rattle.ledger.specs.Records.{refusing, count-in, ledger-sound, undeclared-empty, times-steady, streams-steady, rows-sound, Begun, Clocked, Cleared, Rowed, record-sound};
-use refusal::Refusal;
+ghost use Rattle.syntax.specs.Limits.{max-streams, max-columns, max-rows, is-value};
+ghost use Rattle.ledger.specs.Records.{places-size, values-size, count-in, ledger-sound, undeclared-empty, times-steady, streams-steady, rows-sound, memory-sound};
+ghost use Rattle.ledger.specs.Calls.{begun, entered, clocked, clock-call, cleared, clear-call, row-place, with-rows, row-shown, Enters, Stored, RowCall};
+use refusal::Checks;
 use refusal::Verdict;
-use schema::Schema;
+use schema::Stream;
+use text::Number;
+use text::Time;
 
 pub struct Ledger {
     pub clock: u32,
-    pub rows: [u32; 4],
+    pub rows: [u32; Stream::MOST],
 }
 
 // What a call says, and the ledger that it leaves.
@@ -23,35 +26,54 @@ pub struct Entered {
 }
 
 impl Ledger {
-    // The highest time.
-    pub const TOP: u32 = 2147483647;
     // How many rows a stream may have.
     pub const ROWS: usize = 128;
     // How many places are lent for rows.
-    pub const PLACES: usize = Schema::STREAMS * Ledger::ROWS;
+    pub const PLACES: usize = Stream::MOST * Ledger::ROWS;
     // How many values these hold.
-    pub const VALUES: usize = Ledger::PLACES * Schema::COLUMNS;
+    pub const VALUES: usize = Ledger::PLACES * Stream::COLUMNS;
 
-    // A fresh record: clock 0 and no rows.
+    // Returns Ledger::ROWS, which is the bound of the definitions.
+    pub fn rows() -> usize
+        ensures { λ r. ⌜ r ≡ max-rows ⌝ }
+    {
+        Ledger::ROWS
+    }
+
+    // Returns Ledger::PLACES, which follows from it.
+    pub fn places() -> usize
+        ensures { λ r. ⌜ r ≡ places-size ⌝ }
+    {
+        Ledger::PLACES
+    }
+
+    // Returns Ledger::VALUES, which follows from it.
+    pub fn values() -> usize
+        ensures { λ r. ⌜ r ≡ values-size ⌝ }
+    {
+        Ledger::VALUES
+    }
+
+    // Returns the ledger of a fresh record: clock 0 and no rows.
     pub fn new() -> Ledger
-        ensures { λ r. ⌜ Begun r ⌝ }
+        ensures { λ r. ⌜ r ≡ begun ⌝ }
     {
         Ledger {
             clock: 0,
-            rows: [0; 4],
+            rows: [0; Stream::MOST],
         }
     }
 
-    // The ledger is within its bounds.
+    // Returns whether the ledger may be lent: clock and counts are within their bounds (refusal 12).
     pub fn sound(self) -> bool
         ensures { λ r. ⌜ r ≡ ledger-sound self ⌝ }
     {
-        if Ledger::TOP < self.clock {
+        if Time::TOP < self.clock {
             return false;
         }
         let rows = self.rows;
         let mut s: usize = 0;
-        while s < Schema::STREAMS {
+        while s < Stream::MOST {
             if Ledger::ROWS < rows[s] as usize {
                 return false;
             }
@@ -60,57 +82,70 @@ impl Ledger {
         true
     }
 
-    // A refusal leaves the ledger as it is.
-    fn refused(self, why: Refusal) -> Entered
-        ensures { λ r. ⌜ r ≡ refusing self why ⌝ }
+    // The verdict, with another ledger where it is accepted, and this one where it is refused.
+    fn entered(self, v: Verdict, next: Ledger) -> Entered
+        ensures { λ r. ⌜ r ≡ entered v next self ⌝ }
     {
-        Entered {
-            verdict: Verdict::Refused(why),
-            ledger: self,
+        match v {
+            Verdict::Refused(f) => Entered {
+                verdict: Verdict::Refused(f),
+                ledger: self,
+            },
+            Verdict::Accepted => Entered {
+                verdict: Verdict::Accepted,
+                ledger: next,
+            },
         }
     }
 
-    // The clock goes on to a time that is not below it.
-    pub fn clock_to(self, t: u32) -> Entered
-        ensures { λ r. ⌜ Clocked self t r ⌝ }
+    // Returns what `clock` does for a time, after what a line showed (`checks`).
+    pub fn clock_with(self, t: Time, checks: Checks) -> Entered
+        ensures { λ r. ⌜ r ≡ clocked self t checks ⌝ }
     {
-        if !self.sound() {
-            return self.refused(Refusal::Lent);
-        }
-        if Ledger::TOP < t {
-            return self.refused(Refusal::Bound);
-        }
-        if t < self.clock {
-            return self.refused(Refusal::ClockBack);
-        }
+        let mut c = checks;
+        c.lent = !self.sound();
+        c.bound = text::either(c.bound, t.beyond);
+        c.back = t.value < self.clock;
         let mut next = self;
-        next.clock = t;
-        Entered {
-            verdict: Verdict::Accepted,
-            ledger: next,
-        }
+        next.clock = t.value;
+        self.entered(c.verdict(), next)
     }
 
-    // No rows; the clock stays.
+    // The clock call. Returns the verdict, and the ledger with the time, which may be any number; refused, the ledger as it was.
+    pub fn clock(self, t: i64) -> Entered
+        ensures { λ r. ⌜ r ≡ clock-call self t ⌝ }
+    {
+        let n = Number {
+            ok: true,
+            value: t,
+            next: 0,
+        };
+        self.clock_with(n.time(), Checks::new())
+    }
+
+    // Returns what `clear` does, after what a line showed (`checks`).
+    pub fn clear_with(self, checks: Checks) -> Entered
+        ensures { λ r. ⌜ r ≡ cleared self checks ⌝ }
+    {
+        let mut c = checks;
+        c.lent = !self.sound();
+        let mut next = self;
+        next.rows = [0; Stream::MOST];
+        self.entered(c.verdict(), next)
+    }
+
+    // The clear call. Returns the verdict, and the ledger with no rows and its clock; refused, the ledger as it was.
     pub fn clear(self) -> Entered
-        ensures { λ r. ⌜ Cleared self r ⌝ }
+        ensures { λ r. ⌜ r ≡ clear-call self ⌝ }
     {
-        if !self.sound() {
-            return self.refused(Refusal::Lent);
-        }
-        let mut next = self;
-        next.rows = [0; 4];
-        Entered {
-            verdict: Verdict::Accepted,
-            ledger: next,
-        }
+        self.clear_with(Checks::new())
     }
 
-    // How many rows a stream has.
+    // Returns how many rows a stream has, 0 where there is no such stream.
     pub fn count(self, s: usize) -> usize
         ensures { λ r. ⌜ r ≡ count-in self s ⌝ }
     {
-        if Schema::STREAMS <= s {
+        if Stream::MOST <= s {
             return 0;
         }
         let n = self.rows[s] as usize;
@@ -126,7 +161,7 @@ impl Ledger {
     {
         let rows = self.rows;
         let mut s = n;
-        while s < Schema::STREAMS {
+        while s < Stream::MOST {
             if rows[s] != 0 {
                 return false;
             }
@@ -137,7 +172,7 @@ impl Ledger {
 
     // The times of the first n streams are steady.
     fn streams_steady(self, n: usize, times: &[u32]) -> bool
-        requires { ⌜ (n ≤ 4) × (512 ≤ length (now times)) ⌝ }
+        requires { ⌜ (n ≤ max-streams) × (places-size ≤ length (now times)) ⌝ }
         ensures { λ r. ⌜ r ≡ streams-steady self n (now (times .entry)) ⌝ }
     {
         let mut s: usize = 0;
@@ -170,9 +205,9 @@ fn steady(times: &[u32], clock: u32, at: usize, count: usize) -> bool
     low <= clock
 }
 
-// Whether the rows may be lent with a ledger and a schema.
-pub fn rows_sound(l: Ledger, q: Schema, times: &[u32], values: &[i32]) -> bool
-    ensures { λ r. ⌜ r ≡ rows-sound l q (now (times .entry)) (now (values .entry)) ⌝ }
+// Returns whether ledger and rows may be lent with the names of the streams (refusal 12).
+pub fn rows_sound(l: Ledger, names: &[u64], times: &[u32], values: &[i32]) -> bool
+    ensures { λ r. ⌜ r ≡ rows-sound (record { ledger = l; names = now (names .entry); times = now (times .entry); values = now (values .entry) }) ⌝ }
 {
     if !l.sound() {
         return false;
@@ -183,15 +218,25 @@ pub fn rows_sound(l: Ledger, q: Schema, times: &[u32], values: &[i32]) -> bool
     if values.len() < Ledger::VALUES {
         return false;
     }
-    let n = q.streams();
+    let n = schema::streams(names);
     if !l.rest_empty(n) {
         return false;
     }
     l.streams_steady(n, times)
 }
 
+// Returns whether the record may be lent: names, ledger and rows (refusal 12).
+pub fn sound(l: Ledger, names: &[u64], times: &[u32], values: &[i32]) -> bool
+    ensures { λ r. ⌜ r ≡ memory-sound (record { ledger = l; names = now (names .entry); times = now (times .entry); values = now (values .entry) }) ⌝ }
+{
+    if !schema::sound(names) {
+        return false;
+    }
+    rows_sound(l, names, times, values)
+}
+
 // Each value that is lent is a 32-bit number, which is what check 3 asks. It is read so that this is known of it.
-pub fn known(vs: &[i32])
+fn known(vs: &[i32])
     ensures { λ _. ⌜ T (every is-value (now (vs .entry))) ⌝ }
 {
     let mut i: usize = 0;
@@ -214,56 +259,91 @@ fn put(values: &mut [i32], at: usize, vs: &[i32])
 }
 
 impl Ledger {
-    // A row more of a stream, stamped with the clock, where the schema is sound.
-    fn row_in(
+    // The ledger with one row more of a stream.
+    fn with_row(self, s: usize) -> Ledger
+        ensures { λ r. ⌜ r ≡ with-rows self s ⌝ }
+    {
+        let count = self.count(s);
+        let mut next = self;
+        if Stream::MOST <= s {
+            return next;
+        }
+        next.rows[s] = (count + 1) as u32;
+        next
+    }
+
+    // A row in the next place of its stream, stamped with the clock.
+    fn store(self, s: usize, vs: &[i32], times: &mut [u32], values: &mut [i32])
+        requires { ⌜ (row-place self s < length (now times)) × (row-place self s * max-columns + length (now vs) ≤ length (now values)) × (s < max-streams) ⌝ }
+        ensures { λ _. ⌜ Stored self s (now (vs .entry)) (now (times .entry)) (now (times .exit)) (now (values .entry)) (now (values .exit)) ⌝ }
+    {
+        let at = s * Ledger::ROWS + self.count(s);
+        times[at] = self.clock;
+        put(values, at * Stream::COLUMNS, vs);
+    }
+
+    // What is wrong with a row call, beside what a line showed before.
+    fn row_checks(
         self,
-        q: Schema,
+        names: &[u64],
+        s: usize,
+        n: usize,
+        times: &[u32],
+        values: &[i32],
+        checks: Checks,
+    ) -> Checks
+        ensures { λ r. ⌜ r ≡ row-shown (record { ledger = self; names = now (names .entry); times = now (times .entry); values = now (values .entry) }) s n checks ⌝ }
+    {
+        let mut c = checks;
+        c.lent = !sound(self, names, times, values);
+        c.undeclared = text::either(c.undeclared, schema::streams(names) <= s);
+        c.misplaced = text::either(c.misplaced, n != schema::width(names, s));
+        c.full = Ledger::ROWS <= self.count(s);
+        c
+    }
+
+    // Returns and leaves what `row` does, after what a line showed (`checks`).
+    pub fn row_with(
+        self,
+        names: &[u64],
         s: usize,
         vs: &[i32],
         times: &mut [u32],
         values: &mut [i32],
+        checks: Checks,
     ) -> Entered
-        ensures { λ r. ⌜ Rowed (rows-sound self q (now (times .entry)) (now (values .entry))) self q s (now (vs .entry)) (now (times .entry)) (now (times .exit)) (now (values .entry)) (now (values .exit)) r ⌝ }
+        ensures { λ r. ⌜ Enters (record { ledger = self; names = now (names .entry); times = now (times .entry); values = now (values .entry) }) s (now (vs .entry)) checks (record { ledger = r .ledger; names = now (names .entry); times = now (times .exit); values = now (values .exit) }) (r .verdict) ⌝ }
     {
-        if !rows_sound(self, q, times, values) {
-            return self.refused(Refusal::Lent);
-        }
-        known(vs);
-        if q.streams() <= s {
-            return self.refused(Refusal::Undeclared);
-        }
-        if vs.len() != q.width(s) {
-            return self.refused(Refusal::Misplaced);
-        }
-        let count = self.count(s);
-        if Ledger::ROWS <= count {
-            return self.refused(Refusal::StreamFull);
-        }
-        let at = s * Ledger::ROWS + count;
-        times[at] = self.clock;
-        put(values, at * Schema::COLUMNS, vs);
-        let mut next = self;
-        next.rows[s] = (count + 1) as u32;
-        Entered {
-            verdict: Verdict::Accepted, // the row is stored
-            ledger: next,
+        let c = self.row_checks(names, s, vs.len(), times, values, checks);
+        let v = c.verdict();
+        match v {
+            Verdict::Refused(f) => Entered {
+                verdict: Verdict::Refused(f),
+                ledger: self,
+            },
+            Verdict::Accepted => {
+                self.store(s, vs, times, values);
+                Entered {
+                    verdict: Verdict::Accepted, // the row is stored
+                    ledger: self.with_row(s),
+                }
+            }
         }
     }
 
-    // The row call: a row more of a stream, stamped with the clock.
+    // The row call: one row more of the stream of a number. Returns the verdict, and the ledger with one row more. Leaves the clock in its time and the values in its places,
+    // and all else as it was; refused, the ledger and all places as they were.
     pub fn row(
         self,
-        q: Schema,
+        names: &[u64],
         s: usize,
         vs: &[i32],
         times: &mut [u32],
         values: &mut [i32],
     ) -> Entered
-        ensures { λ r. ⌜ Rowed (record-sound self q (now (times .entry)) (now (values .entry))) self q s (now (vs .entry)) (now (times .entry)) (now (times .exit)) (now (values .entry)) (now (values .exit)) r ⌝ }
+        ensures { λ r. ⌜ RowCall (record { ledger = self; names = now (names .entry); times = now (times .entry); values = now (values .entry) }) s (now (vs .entry)) (record { ledger = r .ledger; names = now (names .entry); times = now (times .exit); values = now (values .exit) }) (r .verdict) ⌝ }
     {
-        if !q.sound() {
-            return self.refused(Refusal::Lent);
-        }
-        self.row_in(q, s, vs, times, values)
+        known(vs);
+        self.row_with(names, s, vs, times, values, Checks::new())
     }
 }

@@ -46,6 +46,18 @@ pub T-false : (b : Bool) → T (not b) → b ≡ false
 T-false true t = absurd t
 T-false false t = refl
 
+pub not-not : (b : Bool) → T (not (not b)) → T b
+not-not true t = tt
+not-not false t = absurd t
+
+pub not-or-l : (a b : Bool) → T (not (a || b)) → T (not a)
+not-or-l true b t = absurd t
+not-or-l false b t = tt
+
+pub not-or-r : (a b : Bool) → T (not (a || b)) → T (not b)
+not-or-r true b t = absurd t
+not-or-r false b t = t
+
 -- what a test gives, by its two cases
 pub cond-cases : {A X : Type 0} (b : Bool) (x y : A) {z : A} → cond b x y ≡ z → (T b → x ≡ z → X) → (T (not b) → y ≡ z → X) → X
 cond-cases true x y e f g = f tt e
@@ -87,16 +99,6 @@ module _ {A : Type 0} where
   pub all-append : {P : A → Type 0} {xs ys : List A} → All P xs → All P ys → All P (xs ++ ys)
   all-append all-nil k = k
   all-append (all-cons h hs) k = all-cons h (all-append hs k)
-
-  -- two lists that a test and a fact give alike
-  pub select-all : (p : A → Bool) → ((x : A) → T (p x)) → (xs : List A) → select p xs ≡ xs
-  unfolding select
-  select-all p f [] = refl
-  select-all p f (x ∷ xs) = go (p x) (f x) (select-all p f xs)
-    where
-      go : (b : Bool) → T b → select p xs ≡ xs → cond b (x ∷ select p xs) (select p xs) ≡ x ∷ xs
-      go true t e = ap (λ l. x ∷ l) e
-      go false t e = absurd t
 
   -- a first test that the second asks anyway
   pub select-select : (p q : A → Bool) → ((x : A) → T (q x) → T (p x)) → (xs : List A) → select q (select p xs) ≡ select q xs
@@ -172,6 +174,24 @@ module _ {A : Type 0} where
   every-member p x xs (List·Memᴰ·head {x = y} {xs = ys} e) t = let h : T (p y) = search parts in rw e h
   every-member p x xs (List·Memᴰ·tail {x = y} {xs = ys} m) t = every-member p x ys m (search parts)
 
+  -- a list that a test gives whole
+  pub select-every : (p : A → Bool) (xs : List A) → T (every p xs) → select p xs ≡ xs
+  unfolding select every
+  select-every p [] h = refl
+  select-every p (x ∷ xs) h = go (p x) (search parts) (select-every p xs (search parts))
+    where
+      go : (b : Bool) → T b → select p xs ≡ xs → cond b (x ∷ select p xs) (select p xs) ≡ x ∷ xs
+      go true t e = ap (λ l. x ∷ l) e
+      go false t e = absurd t
+
+  every-always : (p : A → Bool) → ((x : A) → T (p x)) → (xs : List A) → T (every p xs)
+  unfolding every
+  every-always p f [] = tt
+  every-always p f (x ∷ xs) = and-both (p x) (every p xs) (f x) (every-always p f xs)
+
+  pub select-all : (p : A → Bool) → ((x : A) → T (p x)) → (xs : List A) → select p xs ≡ xs
+  select-all p f xs = select-every p xs (every-always p f xs)
+
   pub every-all : (p : A → Bool) (xs : List A) → T (every p xs) → All (λ x. T (p x)) xs
   unfolding every
   every-all p [] h = all-nil
@@ -195,6 +215,24 @@ module _ {A : Type 0} where
   all-nth d n all-nil l = absurd (omega arith)
   all-nth d zero (all-cons h hs) l = h
   all-nth d (suc n) (all-cons h hs) l = all-nth d n hs (omega arith)
+
+pub every-gathered : {A B : Type 0} (p : B → Bool) (f : A → List B) (xs : List A) → T (every (λ x. every p (f x)) xs) → T (every p (gather f xs))
+unfolding every gather
+every-gathered p f [] t = tt
+every-gathered p f (x ∷ xs) t = every-append p (f x) (gather f xs) (search parts) (every-gathered p f xs (search parts))
+
+-- no item passes a test
+pub some-none : {A : Type 0} (p good : A → Bool) → ((x : A) → T (good x) → p x ≡ false) → (xs : List A) → T (every good xs) → some? p xs ≡ false
+unfolding some? every
+some-none p good f [] t = refl
+some-none p good f (x ∷ xs) t = rw (f x (search parts)) (some-none p good f xs (search parts))
+
+-- four tests, the inner two exchanged
+pub and-four : (a b c d : Bool) → ((a && b) && (c && d)) ≡ ((a && c) && (b && d))
+and-four true true c d = refl
+and-four true false true d = refl
+and-four true false false d = refl
+and-four false b c d = refl
 
 pub every-gather : {A B : Type 0} (p : B → Bool) (f : A → List B) (xs : List A) → T (every p (gather f xs)) → T (every (λ x. every p (f x)) xs)
 unfolding every gather
@@ -283,3 +321,53 @@ position-before n (m ∷ ns) ms t = go (same-list n m) t (position-before n ns m
     go : (b : Bool) → T (b || some? (same-list n) ns) → (T (some? (same-list n) ns) → position n (ns ++ ms) ≡ position n ns) → cond b 0 (suc (position n (ns ++ ms))) ≡ cond b 0 (suc (position n ns))
     go true t f = refl
     go false t f = ap suc (f t)
+
+-- ---- what a function makes of each item
+
+module _ {A B : Type 0} (f : A → B) where
+  pub nth-of-map : (d : A) (xs : List A) (n : ℕ) → nth (f d) (map f xs) n ≡ f (nth d xs n)
+  unfolding nth
+  nth-of-map d [] n = refl
+  nth-of-map d (x ∷ xs) zero = refl
+  nth-of-map d (x ∷ xs) (suc n) = nth-of-map d xs n
+
+  pub map-back : (g : B → A) {xs : List A} → All (λ x. g (f x) ≡ x) xs → map g (map f xs) ≡ xs
+  map-back g all-nil = refl
+  map-back g (all-cons h hs) = ap₂ _∷_ h (map-back g hs)
+
+  pub empty-map : (xs : List A) → empty? (map f xs) ≡ empty? xs
+  unfolding empty?
+  empty-map [] = refl
+  empty-map (x ∷ xs) = refl
+
+  -- what stands once stays so under a function that keeps apart what occurs
+  module _ (p : A → A → Bool) (q : B → B → Bool) where
+    pub absent-map : {P : A → Type 0} (x : A) {xs : List A} → ((y : A) → P y → T (q (f x) (f y)) → T (p x y)) → All P xs → T (not (some? (p x) xs)) → T (not (some? (q (f x)) (map f xs)))
+    unfolding some?
+    absent-map x k all-nil h = tt
+    absent-map x k (all-cons {x = y} {xs = ys} l ls) h = go (p x y) (q (f x) (f y)) (k y l) h (absent-map x k ls)
+      where
+        go : (a b : Bool) → (T b → T a) → T (not (a || some? (p x) ys)) → (T (not (some? (p x) ys)) → T (not (some? (q (f x)) (map f ys)))) → T (not (b || some? (q (f x)) (map f ys)))
+        go true b i h r = absurd h
+        go false true i h r = absurd (i tt)
+        go false false i h r = r h
+
+    pub distinct-map : {P : A → Type 0} {xs : List A} → ((x y : A) → P x → P y → T (q (f x) (f y)) → T (p x y)) → All P xs → T (distinct p xs) → T (distinct q (map f xs))
+    unfolding distinct
+    distinct-map k all-nil h = tt
+    distinct-map k (all-cons {x} {xs} l ls) h = and-both (not (some? (q (f x)) (map f xs))) _ (absent-map x (λ y. k x y l) ls (search parts)) (distinct-map k ls (search parts))
+
+    absent-unmap : (x : A) (xs : List A) → ((y : A) → T (p x y) → T (q (f x) (f y))) → T (not (some? (q (f x)) (map f xs))) → T (not (some? (p x) xs))
+    unfolding some?
+    absent-unmap x [] k h = tt
+    absent-unmap x (y ∷ ys) k h = go (p x y) (q (f x) (f y)) (k y) h (absent-unmap x ys k)
+      where
+        go : (a b : Bool) → (T a → T b) → T (not (b || some? (q (f x)) (map f ys))) → (T (not (some? (q (f x)) (map f ys))) → T (not (some? (p x) ys))) → T (not (a || some? (p x) ys))
+        go a true i h r = absurd h
+        go true false i h r = absurd (i tt)
+        go false false i h r = r h
+
+    pub distinct-unmap : ((x y : A) → T (p x y) → T (q (f x) (f y))) → (xs : List A) → T (distinct q (map f xs)) → T (distinct p xs)
+    unfolding distinct
+    distinct-unmap k [] h = tt
+    distinct-unmap k (x ∷ xs) h = and-both (not (some? (p x) xs)) _ (absent-unmap x xs (k x) (search parts)) (distinct-unmap k xs (search parts))

@@ -6,8 +6,8 @@ use lib.Bits.{bitAnd, bitOr}
 use lib.Dec.{ltb, eqb}
 
 -- whether bit i is set
-abbrev pub has : ℕ → ℕ → Bool
-has m i = eqb (m / 2 ^ i % 2) 1
+abbrev pub bit? : ℕ → ℕ → Bool
+bit? m i = eqb (m / 2 ^ i % 2) 1
 
 -- a mask of 32 bits with one more; beyond them it is as it was
 unfoldable pub with-bit : ℕ → ℕ → ℕ

@@ -1,11 +1,11 @@
 // Columns as bits of an unsigned mask.
 ghost use mathlib.Core.Path.{_≡_};
 ghost use lib.Bits.{bitOr};
-ghost use Rattle.masks.specs.Masks.{has, with-bit, inside};
+ghost use Rattle.masks.specs.Masks.{bit?, with-bit, inside};
 
-// Whether bit i is set.
+// Returns whether bit i is set.
 pub fn shows(m: u32, i: u32) -> bool
-    ensures { λ r. ⌜ r ≡ has m i ⌝ }
+    ensures { λ r. ⌜ r ≡ bit? m i ⌝ }
 {
     if 32 <= i {
         return false;
@@ -13,7 +13,7 @@ pub fn shows(m: u32, i: u32) -> bool
     (m >> i) % 2 == 1
 }
 
-// One bit more.
+// Returns the mask with bit i set; as it is where there is no such bit.
 pub fn with(m: u32, i: u32) -> u32
     ensures { λ r. ⌜ r ≡ with-bit m i ⌝ }
 {
@@ -23,14 +23,14 @@ pub fn with(m: u32, i: u32) -> u32
     m
 }
 
-// The bits of both.
+// Returns the bits of both.
 pub fn either(m: u32, n: u32) -> u32
     ensures { λ r. ⌜ r ≡ bitOr m n ⌝ }
 {
     m | n
 }
 
-// Whether every bit of m is set in n.
+// Returns whether every bit of m is set in n.
 pub fn within(m: u32, n: u32) -> bool
     ensures { λ r. ⌜ r ≡ inside m n ⌝ }
 {

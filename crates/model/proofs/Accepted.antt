@@ -209,9 +209,9 @@ pub sources-rewritten : (d : Schema) (who : Caller) (catalogue : List Grant) (q 
 unfolding rewritten routes keeping expand sources
 sources-rewritten d who catalogue q =
     all-select _ (λ x t e. e)
-    (by-form d who catalogue (λ g. Unit {0}) (all-any catalogue) (λ q x. sources (line d who x) ≡ sources q)
-    (λ s n k b t. sources-seen d who (source s) n) (λ c q x t e. e) (λ cs q x e. e) (λ a b q r x y t e f. ap₂ _++_ e f)
-    (λ a b q r n k o t. sources-over d who (join a b q r) n) (λ f c size offset q x t e. e) (λ f c size offset q n k b t. sources-summed d who q n) q)
+    (by-form d who catalogue (λ g. Unit {0}) (all-any catalogue) (λ q gs x. sources (line d who x) ≡ sources q)
+    (λ s n k b t. sources-seen d who (source s) n) (λ c q gs x t e. e) (λ cs q gs x e. e) (λ a b q r gs hs x y t e f. ap₂ _++_ e f)
+    (λ a b q r n k o t. sources-over d who (join a b q r) n) (λ f c size offset q gs x t e. e) (λ f c size offset q n k b t. sources-summed d who q n) q)
 
 -- Every route's rewritten query passes check 4.
 pub accepted : (d : Schema) (who : Caller) (catalogue : List Grant) → All (λ (g : Grant). T (grant-placed d g)) catalogue
@@ -264,9 +264,9 @@ pub sized-rewritten : (d : Schema) (who : Caller) (catalogue : List Grant) (q : 
 unfolding rewritten routes keeping expand sized
 sized-rewritten d who catalogue q z =
     all-select _ (λ x t h. h z)
-    (by-form d who catalogue (λ g. Unit {0}) (all-any catalogue) (λ q x. T (sized q) → T (sized (line d who x)))
-    (λ s n k b t z. sized-seen d who (source s) n) (λ c q x t h. h) (λ cs q x h. h)
-    (λ a b q r x y t h i z. and-both (sized (line d who x)) (sized (line d who y)) (h (search parts)) (i (search parts)))
+    (by-form d who catalogue (λ g. Unit {0}) (all-any catalogue) (λ q gs x. T (sized q) → T (sized (line d who x)))
+    (λ s n k b t z. sized-seen d who (source s) n) (λ c q gs x t h. h) (λ cs q gs x h. h)
+    (λ a b q r gs hs x y t h i z. and-both (sized (line d who x)) (sized (line d who y)) (h (search parts)) (i (search parts)))
     (λ a b q r n k o t z. sized-over d who (join a b q r) n z)
-    (λ f c size offset q x t h z. and-both (fitting size offset) (sized (line d who x)) (search parts) (h (search parts)))
+    (λ f c size offset q gs x t h z. and-both (fitting size offset) (sized (line d who x)) (search parts) (h (search parts)))
     (λ f c size offset q n k b t z. and-both (fitting size offset) (sized (line d who (summed d q n))) (search parts) (sized-summed d who q n (search parts))) q)

@@ -1,16 +1,16 @@
 -- An answer read by its own counts gives back, for each route, its grant numbers, its width and its rows.
-use mathlib.Core.Path.{_≡_, refl, sym, ap, ap₂, _∙_}
+use mathlib.Core.Path.{_≡_, refl, ap, ap₂, _∙_}
 use mathlib.Core.List.{List, [], _∷_, _++_, map}
-use Prim.Native.Nat.{ℕ, zero, suc, _+_, _*_}
+use Prim.Native.Nat.{ℕ, zero, suc}
 use native.Mathlib.Omega.{arith}
 use lib.IntN.{ℤ, pos, negsuc}
 use lib.ListN.{length, take, drop}
 use Rattle.lists.specs.Lists.{gather, nth}
-use Rattle.lists.proofs.Laws.{All, all-nil, all-cons}
-use Rattle.model.specs.Queries.{Row, Table, Record, Caller}
+use Rattle.lists.proofs.Laws.{All, all-cons}
+use Rattle.model.specs.Queries.{Row, Record, Caller}
 use Rattle.model.specs.Routes.{Route}
 use Rattle.model.specs.Answers.{route-table, row-cells, grant-cells, table-cells, answer-cells}
-use Rattle.model.proofs.Widths.{Wide, route-wide}
+use Rattle.model.proofs.Widths.{route-wide}
 
 -- what an answer says of a route
 pub record Part : Type 0 where

@@ -5,9 +5,9 @@ use mathlib.Core.Bool.{Bool, true, false, _&&_, _||_, not, cond}
 use Prim.Native.Nat.{ℕ, zero, suc, _≤_}
 use native.Mathlib.Omega.{arith}
 use lib.ListN.{length}
-use lib.Dec.{T, eqb, eqb→eq, eqb-refl}
+use lib.Dec.{T, eqb, eqb→eq, eqb-refl, not-T, T-not}
 use Rattle.lists.specs.Lists.{select, some?, gather, nth, count-from, distinct}
-use Rattle.lists.proofs.Laws.{and-both, or-l, or-r, or-cases, parts}
+use Rattle.lists.proofs.Laws.{and-both, or-l, or-r, or-cases, parts, some-before}
 use Rattle.model.specs.Queries.{Schema, no-stream, Col, col, same-col, columns-of}
 use Rattle.model.specs.Checks.{has}
 use Rattle.model.proofs.Columns.{same-col→eq, same-col-refl, has-append, has-append-r}
@@ -15,20 +15,7 @@ use Rattle.model.proofs.Columns.{same-col→eq, same-col-refl, has-appe
 -- ---- tests that fail
 
 not-by : (a b : Bool) → (T a → T b) → T (not b) → T (not a)
-not-by true b f n = go b (f tt) n
-  where
-    go : (b : Bool) → T b → T (not b) → T (not true)
-    go true t n = n
-    go false t n = t
-not-by false b f n = tt
-
-not-of : (a : Bool) → (T a → ⊥) → T (not a)
-not-of true f = f tt
-not-of false f = tt
-
-clash : (a : Bool) → T a → T (not a) → ⊥
-clash true t n = n
-clash false t n = t
+not-by a b f n = not-T a (λ t. T-not b n (f t))
 
 -- ---- parts of a list
 
@@ -41,11 +28,6 @@ module _ {A : Type 0} where
       go : (b : Bool) → T (some? q (cond b (x ∷ select p xs) (select p xs))) → (T (some? q (select p xs)) → T (some? q xs)) → T (q x || some? q xs)
       go true t f = or-cases (q x) (some? q (select p xs)) t (λ u. or-l (q x) _ u) (λ u. or-r (q x) _ (f u))
       go false t f = or-r (q x) _ (f t)
-
-  some-append : (q : A → Bool) (xs ys : List A) → T (some? q xs) → T (some? q (xs ++ ys))
-  unfolding some?
-  some-append q [] ys t = absurd t
-  some-append q (x ∷ xs) ys t = or-cases (q x) (some? q xs) t (λ u. or-l (q x) _ u) (λ u. or-r (q x) _ (some-append q xs ys u))
 
   module _ (same : A → A → Bool) where
     pub distinct-select : (p : A → Bool) (xs : List A) → T (distinct same xs) → T (distinct same (select p xs))
@@ -60,7 +42,7 @@ module _ {A : Type 0} where
     pub distinct-l : (xs ys : List A) → T (distinct same (xs ++ ys)) → T (distinct same xs)
     unfolding distinct
     distinct-l [] ys h = tt
-    distinct-l (x ∷ xs) ys h = and-both (not (some? (same x) xs)) _ (not-by (some? (same x) xs) (some? (same x) (xs ++ ys)) (some-append (same x) xs ys) (search parts)) (distinct-l xs ys (search parts))
+    distinct-l (x ∷ xs) ys h = and-both (not (some? (same x) xs)) _ (not-by (some? (same x) xs) (some? (same x) (xs ++ ys)) (some-before (same x) xs ys) (search parts)) (distinct-l xs ys (search parts))
 
     pub distinct-r : (xs ys : List A) → T (distinct same (xs ++ ys)) → T (distinct same ys)
     unfolding distinct
@@ -74,7 +56,7 @@ unfolding distinct has some?
 distinct-append [] ys h k f = k
 distinct-append (x ∷ xs) ys h k f =
     and-both (not (some? (same-col x) (xs ++ ys))) _
-    (not-of (has (xs ++ ys) x) (λ t. has-append x xs ys t (λ u. clash (has xs x) u (search parts)) (f x (or-l (same-col x x) _ (same-col-refl x)))))
+    (not-T (has (xs ++ ys) x) (λ t. has-append x xs ys t (λ u. T-not (has xs x) (search parts) u) (f x (or-l (same-col x x) _ (same-col-refl x)))))
     (distinct-append xs ys (search parts) k (λ c u. f c (or-r (same-col c x) _ u)))
 
 pub distinct-apart : (xs ys : List Col) → T (distinct same-col (xs ++ ys)) → (c : Col) → T (has xs c) → T (has ys c) → ⊥
@@ -82,7 +64,7 @@ unfolding distinct has some?
 distinct-apart [] ys h c t u = absurd t
 distinct-apart (x ∷ xs) ys h c t u =
     or-cases (same-col c x) (some? (same-col c) xs) t
-    (λ v. clash (has (xs ++ ys) x) (has-append-r x xs ys (rw (same-col→eq c x v) at u)) (search parts))
+    (λ v. T-not (has (xs ++ ys) x) (search parts) (has-append-r x xs ys (rw (same-col→eq c x v) at u)))
     (λ v. distinct-apart xs ys (search parts) c v u)
 
 -- ---- the columns of streams
@@ -109,7 +91,7 @@ unfolding distinct count-from has
 counted-once s a zero = tt
 counted-once s a (suc n) =
     and-both (not (some? (same-col (col s a)) (map (col s) (count-from (suc a) n)))) _
-    (not-of (has (map (col s) (count-from (suc a) n)) (col s a)) (λ t. let h = beyond s a (suc a) n t in omega arith)) (counted-once s (suc a) n)
+    (not-T (has (map (col s) (count-from (suc a) n)) (col s a)) (λ t. let h = beyond s a (suc a) n t in omega arith)) (counted-once s (suc a) n)
 
 module _ (d : Schema) where
   pub columns-distinct : (s : ℕ) → T (distinct same-col (columns-of d s))
@@ -136,4 +118,4 @@ module _ (d : Schema) where
   gather-distinct [] h = tt
   gather-distinct (s ∷ ss) h =
       distinct-append (columns-of d s) (gather (columns-of d) ss) (columns-distinct s) (gather-distinct ss (search parts))
-      (λ c t u. clash (some? (eqb s) ss) (among-streams s ss c t u) (search parts))
+      (λ c t u. T-not (some? (eqb s) ss) (search parts) (among-streams s ss c t u))

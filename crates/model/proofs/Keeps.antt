@@ -120,13 +120,13 @@ pub keeps-some : (d : Schema) (who : Caller) (catalogue : List Grant) (q : Query
 unfolding rewritten routes allowed within every
 keeps-some d who catalogue q w =
     all-select _ (λ x t h. h w t)
-    (by-form d who catalogue (λ g. Unit {0}) (all-any catalogue) (λ q x. T (allowed (columns-of d) q) → Filled d who x)
+    (by-form d who catalogue (λ g. Unit {0}) (all-any catalogue) (λ q gs x. T (allowed (columns-of d) q) → Filled d who x)
     (λ s n k b t w. filled-seen d who (source s) n)
-    (λ c q x t h w. filled-pick d who c x (h (search parts)))
-    (λ cs q x h w. filled-keep d who cs x (h (search parts)))
-    (λ a b q r x y l h k w. filled-join d who a b x y l (h (search parts)) (k (search parts)))
+    (λ c q gs x t h w. filled-pick d who c x (h (search parts)))
+    (λ cs q gs x h w. filled-keep d who cs x (h (search parts)))
+    (λ a b q r gs hs x y l h k w. filled-join d who a b x y l (h (search parts)) (k (search parts)))
     (λ a b q r n k o t w. filled-pair d who a b q r n)
-    (λ f c size offset q x t h w. filled-aggregate d who f c size offset x (search parts) (h (search parts)))
+    (λ f c size offset q gs x t h w. filled-aggregate d who f c size offset x (search parts) (h (search parts)))
     (λ f c size offset q n k b t w. filled-figures d who f c size offset q n w t) q)
 
 -- ---- that none stands twice
@@ -205,12 +205,12 @@ pub keeps-distinct : (d : Schema) (who : Caller) (catalogue : List Grant) (q : Q
 unfolding rewritten routes placed expand allowed sources keeps readable summing
 keeps-distinct d who catalogue q w k =
     all-select _ (λ x t h. h (search parts) (search parts) k)
-    (by-form d who catalogue (λ g. Unit {0}) (all-any catalogue) (Once d who)
+    (by-form d who catalogue (λ g. Unit {0}) (all-any catalogue) (λ q gs x. Once d who q x)
     (λ s n k b t w u h. once-seen d who (source s) n (once-of (source s) (n .grant) (search parts) u))
-    (λ c q x t i w u h. i (search parts) u h)
-    (λ cs q x i w u h. once-keep d who cs x (search parts) (i (search parts) u (search parts)))
-    (λ a b q r x y t i j w u h. and-both (keeps once (line d who x)) (keeps once (line d who y))
+    (λ c q gs x t i w u h. i (search parts) u h)
+    (λ cs q gs x i w u h. once-keep d who cs x (search parts) (i (search parts) u (search parts)))
+    (λ a b q r gs hs x y t i j w u h. and-both (keeps once (line d who x)) (keeps once (line d who y))
     (i (search parts) (distinct-l eqb (sources q) (sources r) u) (search parts)) (j (search parts) (distinct-r eqb (sources q) (sources r) u) (search parts)))
     (λ a b q r n k o t w u h. once-over d who (join a b q r) n (once-of (join a b q r) (n .grant) (search parts) u) w u h)
-    (λ f c size offset q x t i w u h. i (search parts) u h)
+    (λ f c size offset q gs x t i w u h. i (search parts) u h)
     (λ f c size offset q n k b t w u h. once-summed d who q n (once-of q (n .grant) (search parts) u) (search parts) u h) q)

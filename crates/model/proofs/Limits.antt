@@ -1,5 +1,5 @@
 -- The conditions of a grant's line may stand in a query over the grant's streams.
-use mathlib.Core.Path.{_≡_, refl, sym, ap, ap₂, _∙_}
+use mathlib.Core.Path.{_≡_, refl, ap, ap₂, _∙_}
 use mathlib.Core.List.{List, [], _∷_, _++_, map}
 use mathlib.Core.Bool.{Bool, _&&_}
 use mathlib.Core.Option.{Option, none, some}
@@ -7,8 +7,8 @@ use Prim.Native.Nat.{ℕ}
 use lib.Dec.{T}
 use Rattle.lists.specs.Lists.{every, gather}
 use Rattle.lists.proofs.Laws.{and-both, parts, gather-append, every-append, every-map}
-use Rattle.syntax.specs.Grammar.{Op, le, ge, Cond, test, all, any, neg, Conds, last, more, Entry}
-use Rattle.model.specs.Conditions.{tests, tests-of, conds-of, map-cond, map-conds}
+use Rattle.syntax.specs.Grammar.{Op, le, ge, Cond, all, Entry}
+use Rattle.model.specs.Conditions.{tests, conds-of}
 use Rattle.model.specs.Queries.{Schema, Col, columns-of, Term, column, time, number, self, Compare, Grant, Caller}
 use Rattle.model.specs.Grants.{fill-term, fill-compare, fill, limit, limits}
 use Rattle.model.specs.Checks.{within, term-cols, cond-cols, pick-left, pick-right, pickable, when-left, when-right, grantable, grant-placed}

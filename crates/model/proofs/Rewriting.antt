@@ -21,7 +21,7 @@ use Rattle.model.proofs.Ways.{on-routes}
 
 -- ---- conditions that hold together, as one condition
 
-and-true : (b : Bool) → b ≡ b && true
+pub and-true : (b : Bool) → b ≡ b && true
 and-true true = refl
 and-true false = refl
 
@@ -33,7 +33,7 @@ module _ {A : Type 0} (p : A → Bool) where
 
 -- ---- a condition of the grant that is the query's equality
 
-is-eq→eq : (o : Op) → T (is-eq o) → o ≡ eq
+pub is-eq→eq : (o : Op) → T (is-eq o) → o ≡ eq
 unfolding is-eq
 is-eq→eq eq h = refl
 is-eq→eq ne h = absurd h
@@ -43,7 +43,7 @@ is-eq→eq gt h = absurd h
 is-eq→eq ge h = absurd h
 
 module _ (p : List Entry) (ds : List Col) (r : Row) where
-  is-col-term : (c : Col) (t : Term) → T (is-col c t) → term-value ds r (fill-term p t) ≡ value ds (r .values) c
+  pub is-col-term : (c : Col) (t : Term) → T (is-col c t) → term-value ds r (fill-term p t) ≡ value ds (r .values) c
   unfolding is-col term-value fill-term
   is-col-term c (column d) h = ap (value ds (r .values)) (sym (same-col→eq c d h))
   is-col-term c time h = absurd h
@@ -67,7 +67,7 @@ module _ (p : List Entry) (ds : List Col) (r : Row) where
   eq-holds a b (any cs) h k = absurd h
   eq-holds a b (neg c) h k = absurd h
 
-  some-holds : (a b : Col) (ws more : List (Cond Compare)) → T (some? (is-equality a b) ws) → T (every (holds ds r) (map (fill p) ws ++ more)) → T (holds ds r (equality a b))
+  pub some-holds : (a b : Col) (ws more : List (Cond Compare)) → T (some? (is-equality a b) ws) → T (every (holds ds r) (map (fill p) ws ++ more)) → T (holds ds r (equality a b))
   unfolding some? every
   some-holds a b [] more h k = absurd h
   some-holds a b (c ∷ ws) more h k =
@@ -77,7 +77,7 @@ module _ (p : List Entry) (ds : List Col) (r : Row) where
 
 -- ---- a side is one stream
 
-stream : Query ℕ → ℕ
+unfoldable pub stream : Query ℕ → ℕ
 stream (source s) = s
 stream (pick c q) = stream q
 stream (keep cs q) = stream q
@@ -92,7 +92,7 @@ side-bare (keep cs q) h = side-bare q h
 side-bare (join a b q r) h = absurd h
 side-bare (aggregate f c size offset q) h = absurd h
 
-side-sources : (q : Query ℕ) → T (side q) → sources q ≡ stream q ∷ []
+pub side-sources : (q : Query ℕ) → T (side q) → sources q ≡ stream q ∷ []
 unfolding side sources stream
 side-sources (source s) h = refl
 side-sources (pick c q) h = side-sources q h

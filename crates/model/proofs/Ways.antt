@@ -2,10 +2,12 @@
 use mathlib.Core.Path.{_≡_, refl}
 use mathlib.Core.List.{List, [], _∷_, _++_, map}
 use mathlib.Core.Bool.{Bool, not}
-use Prim.Native.Nat.{ℕ, suc}
+use Prim.Native.Nat.{ℕ, suc, pred, _+_}
+use native.Mathlib.Omega.{arith}
 use lib.Dec.{T}
+use lib.ListN.{take, drop}
 use Rattle.lists.specs.Lists.{every, gather, empty?}
-use Rattle.lists.proofs.Laws.{and-both, parts, All, all-nil, all-cons, all-select, all-weaken, all-append, all-map, all-gather, gather-append}
+use Rattle.lists.proofs.Laws.{and-both, parts, All, all-nil, all-cons, all-select, all-weaken, all-both, all-append, all-map, all-gather, gather-append}
 use Rattle.syntax.specs.Grammar.{Cond, all, Fn}
 use Rattle.model.specs.Conditions.{conds-of}
 use Rattle.model.specs.Queries.{Schema, Col, columns-of, Compare, Query, source, pick, keep, join, aggregate, picks, header, Grant, Caller}
@@ -13,6 +15,7 @@ use Rattle.model.specs.Grants.{belongs, limits, shown-of}
 use Rattle.model.specs.Checks.{has, within, cond-cols, pickable, no-aggregate, side, linked, allowed, fitting, sized}
 use Rattle.model.specs.Routes.{bare, Source, Route, Numbered, numbered, opened, picked-by, seen, alone, onto, beside, columns, keeping, over-view, readable, summing, summed, showing, ways, routes}
 use Rattle.model.specs.Rewriting.{under, defined, expand}
+use Rattle.model.proofs.Asked.{grants-at}
 use Rattle.model.proofs.Columns.{has-within, has-present, within-l, within-r}
 
 -- a fact of every grant, of the numbered ones
@@ -93,44 +96,63 @@ module _ (d : Schema) (who : Caller) where
 
 -- ---- the principle, by the form of the query
 
--- P of a query and of what a route makes of it
+-- a numbered grant is the one of its number
+pub numbered-at : (catalogue : List Grant) → All (λ (n : Numbered). grants-at catalogue (n .no ∷ []) ≡ n .grant ∷ []) (numbered 1 catalogue)
+unfolding grants-at gather numbered
+numbered-at catalogue =
+    all-weaken (λ n h. let e : pred (n .no) ≡ h .0 = omega (arith, h .1) in rw (e, h .2)) (from 1 catalogue)
+  where
+    from : (k : ℕ) (gs : List Grant) → All (λ (n : Numbered). (i : ℕ) × (n .no ≡ k + i) × (take 1 (drop i gs) ≡ n .grant ∷ [])) (numbered k gs)
+    from k [] = all-nil
+    from k (g ∷ gs) = all-cons {x = record { no = k; grant = g }} (0, omega arith, refl) (all-weaken (λ n h. (suc (h .0), omega (arith, h .1), h .2)) (from (suc k) gs))
+
+pub grants-append : (catalogue : List Grant) (ns ms : List ℕ) → grants-at catalogue (ns ++ ms) ≡ grants-at catalogue ns ++ grants-at catalogue ms
+unfolding grants-at
+grants-append catalogue ns ms = gather-append _ ns ms
+
+-- P of a query, of the grants of a route, and of what the route makes of the query
 module _ (d : Schema) (who : Caller) (catalogue : List Grant) (K : Grant → Type 0) (ks : All K catalogue)
-    (P : Query ℕ → Query Source → Type 0)
-    (on-source : (s : ℕ) (n : Numbered) → K (n .grant) → T (belongs who (n .grant)) → T (readable d (source s) (n .grant)) → P (source s) (seen (source s) n))
-    (on-pick : (c : Cond Compare) (q : Query ℕ) (x : Query Source) → T (within (cond-cols c) (columns d x)) → P q x → P (pick c q) (pick c x))
-    (on-keep : (cs : List Col) (q : Query ℕ) (x : Query Source) → P q x → P (keep cs q) (keeping d cs x))
-    (on-join : (a b : Col) (q r : Query ℕ) (x y : Query Source) → T (linked a b (columns d x) (columns d y)) → P q x → P r y → P (join a b q r) (join a b x y))
+    (P : Query ℕ → List Grant → Query Source → Type 0)
+    (on-source : (s : ℕ) (n : Numbered) → K (n .grant) → T (belongs who (n .grant)) → T (readable d (source s) (n .grant)) → P (source s) (n .grant ∷ []) (seen (source s) n))
+    (on-pick : (c : Cond Compare) (q : Query ℕ) (gs : List Grant) (x : Query Source) → T (within (cond-cols c) (columns d x)) → P q gs x → P (pick c q) gs (pick c x))
+    (on-keep : (cs : List Col) (q : Query ℕ) (gs : List Grant) (x : Query Source) → P q gs x → P (keep cs q) gs (keeping d cs x))
+    (on-join : (a b : Col) (q r : Query ℕ) (gs hs : List Grant) (x y : Query Source) → T (linked a b (columns d x) (columns d y)) → P q gs x → P r hs y
+    → P (join a b q r) (gs ++ hs) (join a b x y))
     (on-pair : (a b : Col) (q r : Query ℕ) (n : Numbered) → K (n .grant) → T (belongs who (n .grant)) → T (readable d (join a b q r) (n .grant))
-    → P (join a b q r) (over-view d (join a b q r) n))
-    (on-aggregate : (f : Fn) (c : Col) (size offset : ℕ) (q : Query ℕ) (x : Query Source) → T (within (c ∷ []) (columns d x)) → P q x → P (aggregate f c size offset q) (aggregate f c size offset x))
+    → P (join a b q r) (n .grant ∷ []) (over-view d (join a b q r) n))
+    (on-aggregate : (f : Fn) (c : Col) (size offset : ℕ) (q : Query ℕ) (gs : List Grant) (x : Query Source) → T (within (c ∷ []) (columns d x)) → P q gs x
+    → P (aggregate f c size offset q) gs (aggregate f c size offset x))
     (on-figures : (f : Fn) (c : Col) (size offset : ℕ) (q : Query ℕ) (n : Numbered) → K (n .grant) → T (belongs who (n .grant)) → T (summing d f c size offset q (n .grant))
-    → P (aggregate f c size offset q) (aggregate f c size offset (summed d q n))) where
+    → P (aggregate f c size offset q) (n .grant ∷ []) (aggregate f c size offset (summed d q n))) where
+  abbrev Fits : Query ℕ → Route → Type 0
+  Fits q x = P q (grants-at catalogue (x .grants)) (x .query)
+
   from-opened : (q : Query ℕ) (p : Grant → Bool) (f : Numbered → Query Source)
-      → ((n : Numbered) → K (n .grant) → T (belongs who (n .grant)) → T (p (n .grant)) → P q (f n))
-      → All (λ (x : Route). P q (x .query)) (map (alone f) (opened who catalogue p))
+      → ((n : Numbered) → K (n .grant) → T (belongs who (n .grant)) → T (p (n .grant)) → P q (n .grant ∷ []) (f n))
+      → All (Fits q) (map (alone f) (opened who catalogue p))
   unfolding opened alone
   from-opened q p f h =
-      all-map {P = λ n. P q (f n)} (alone f) (λ n p. p)
-      (all-select _ (λ n t k. h n k (search parts) (search parts)) (all-numbered 1 ks))
+      all-map {P = λ n. P q (grants-at catalogue (n .no ∷ [])) (f n)} (alone f) (λ n p. p)
+      (all-select _ (λ n t k. rw (k .1) (h n (k .0) (search parts) (search parts))) (all-both (all-numbered 1 ks) (numbered-at catalogue)))
 
-  pub by-form : (q : Query ℕ) → All (λ (x : Route). P q (x .query)) (ways d who catalogue q)
+  pub by-form : (q : Query ℕ) → All (Fits q) (ways d who catalogue q)
   unfolding ways onto beside showing
   by-form (source s) = from-opened (source s) (readable d (source s)) (seen (source s)) (on-source s)
   by-form (pick c q) =
-      all-map {P = λ x. T (within (cond-cols c) (columns d (x .query))) × P q (x .query)} (onto (pick c)) (λ x h. on-pick c q (x .query) (h .0) (h .1))
+      all-map {P = λ x. T (within (cond-cols c) (columns d (x .query))) × Fits q x} (onto (pick c)) (λ x h. on-pick c q _ (x .query) (h .0) (h .1))
       (all-select _ (λ x t h. (t, h)) (by-form q))
-  by-form (keep cs q) = all-map {P = λ x. P q (x .query)} (onto (keeping d cs)) (λ x h. on-keep cs q (x .query) h) (by-form q)
+  by-form (keep cs q) = all-map {P = Fits q} (onto (keeping d cs)) (λ x h. on-keep cs q _ (x .query) h) (by-form q)
   by-form (join a b q r) =
       all-append
-      (all-gather {P = λ x. P q (x .query)}
-      (λ x h. all-map {P = λ y. T (linked a b (columns d (x .query)) (columns d (y .query))) × P r (y .query)} (beside a b x)
-      (λ y i. on-join a b q r (x .query) (y .query) (i .0) h (i .1))
+      (all-gather {P = Fits q}
+      (λ x h. all-map {P = λ y. T (linked a b (columns d (x .query)) (columns d (y .query))) × Fits r y} (beside a b x)
+      (λ y i. rw (grants-append catalogue (x .grants) (y .grants)) (on-join a b q r _ _ (x .query) (y .query) (i .0) h (i .1)))
       (all-select _ (λ y t i. (t, i)) (by-form r)))
       (by-form q))
       (from-opened (join a b q r) (readable d (join a b q r)) (over-view d (join a b q r)) (on-pair a b q r))
   by-form (aggregate f c size offset q) =
       all-append
-      (all-map {P = λ x. T (within (c ∷ []) (columns d (x .query))) × P q (x .query)} (onto (aggregate f c size offset)) (λ x h. on-aggregate f c size offset q (x .query) (h .0) (h .1))
+      (all-map {P = λ x. T (within (c ∷ []) (columns d (x .query))) × Fits q x} (onto (aggregate f c size offset)) (λ x h. on-aggregate f c size offset q _ (x .query) (h .0) (h .1))
       (all-select _ (λ x t h. (t, h)) (by-form q)))
       (from-opened (aggregate f c size offset q) (summing d f c size offset q) (λ n. aggregate f c size offset (summed d q n)) (on-figures f c size offset q))
 
@@ -165,8 +187,8 @@ module _ (d : Schema) (who : Caller) (catalogue : List Grant) (K : Grant → Typ
       (by-picks (picks q) _ (side-pickable (columns-of d) q (search parts) (search parts)) (within-l (gather cond-cols (picks q)) _ _ v) h)
 
   -- with what has to be known of the query and its line on the way
-  abbrev Good : Query ℕ → Query Source → Type 0
-  Good q x = (T (side q) → T (side (line d who x))) × (T (no-aggregate q) → T (no-aggregate (line d who x))) × (T (allowed (columns-of d) q) → T (sized q) → P x)
+  abbrev Good : Query ℕ → List Grant → Query Source → Type 0
+  Good q gs x = (T (side q) → T (side (line d who x))) × (T (no-aggregate q) → T (no-aggregate (line d who x))) × (T (allowed (columns-of d) q) → T (sized q) → P x)
 
   on-ways : (q : Query ℕ) → T (allowed (columns-of d) q) → T (sized q) → All (λ (x : Route). P (x .query)) (ways d who catalogue q)
   unfolding side no-aggregate allowed sized expand keeping over-view
@@ -174,9 +196,9 @@ module _ (d : Schema) (who : Caller) (catalogue : List Grant) (K : Grant → Typ
       all-weaken (λ x h. h .2 w z)
       (by-form d who catalogue K ks Good
       (λ s n k b t. (λ i. side-seen d who s n, λ i. free-seen d who (source s) n, λ w z. on-view (source s) n k b w t))
-      (λ c q x t h. (h .0, h .1, λ w z. on-pick c x (search parts) t (h .2 (search parts) z)))
-      (λ cs q x h. (h .0, h .1, λ w z. on-keep cs x (h .1 (search parts)) (h .2 (search parts) z)))
-      (λ a b q r x y t h i. (
+      (λ c q gs x t h. (h .0, h .1, λ w z. on-pick c x (search parts) t (h .2 (search parts) z)))
+      (λ cs q gs x h. (h .0, h .1, λ w z. on-keep cs x (h .1 (search parts)) (h .2 (search parts) z)))
+      (λ a b q r gs hs x y t h i. (
         λ s. s,
         λ n. and-both (no-aggregate (line d who x)) (no-aggregate (line d who y)) (h .1 (search parts)) (i .1 (search parts)),
         λ w z. on-join a b x y (h .0 (search parts)) (i .0 (search parts)) t (h .2 (search parts) (search parts)) (i .2 (search parts) (search parts)),
@@ -186,7 +208,7 @@ module _ (d : Schema) (who : Caller) (catalogue : List Grant) (K : Grant → Typ
         λ s. free-over d who (join a b q r) n s,
         λ w z. on-keep _ _ (free-picks d who (picks r) _ (free-picks d who (picks q) _ (free-seen d who (join a b q r) n))) (pair-picked a b q r n w t (on-view (join a b q r) n k o w t)),
       ))
-      (λ f c size offset q x t h. (λ s. s, λ n. n, λ w z. on-aggregate f c size offset x (h .1 (search parts)) t (search parts) (h .2 (search parts) (search parts))))
+      (λ f c size offset q gs x t h. (λ s. s, λ n. n, λ w z. on-aggregate f c size offset x (h .1 (search parts)) t (search parts) (h .2 (search parts) (search parts))))
       (λ f c size offset q n k b t. (λ s. s, λ n. n, λ w z. on-figures f c size offset q n k b w (search parts) t))
       q)
 

@@ -46,12 +46,12 @@ module _ (k : Costs) where
   picks-cost [] = 0
   picks-cost (c ∷ cs) = k .pick-cost c + picks-cost cs
 
-  cols-append : (cs ds : List Col) → cols-cost (cs ++ ds) ≡ cols-cost cs + cols-cost ds
+  pub cols-append : (cs ds : List Col) → cols-cost (cs ++ ds) ≡ cols-cost cs + cols-cost ds
   unfolding cols-cost
   cols-append [] ds = omega arith
   cols-append (c ∷ cs) ds = let h = cols-append cs ds in omega arith
 
-  cols-select : (p : Col → Bool) (cs : List Col) → cols-cost (select p cs) ≤ cols-cost cs
+  pub cols-select : (p : Col → Bool) (cs : List Col) → cols-cost (select p cs) ≤ cols-cost cs
   unfolding cols-cost select
   cols-select p [] = omega arith
   cols-select p (c ∷ cs) = go (p c) (cols-select p cs)
@@ -129,8 +129,8 @@ module _ (d : Schema) (who : Caller) (catalogue : List Grant) (k : Costs) (S N :
       go false = weight-over q n b w
 
   -- one view more for a side, two for others
-  abbrev Light : Query ℕ → Query Source → Type 0
-  Light q x = T (allowed (columns-of d) q) → (weight k (line d who x) ≤ weight k q + 2 * N) × (T (side q) → weight k (line d who x) ≤ weight k q + N)
+  abbrev Light : Query ℕ → List Grant → Query Source → Type 0
+  Light q gs x = T (allowed (columns-of d) q) → (weight k (line d who x) ≤ weight k q + 2 * N) × (T (side q) → weight k (line d who x) ≤ weight k q + N)
 
   -- The rewritten query of a route weighs at most two views more than its query.
   pub weighed : (q : Query ℕ) → T (allowed (columns-of d) q) → All (λ (r : Route). weight k (rewritten d who r) ≤ weight k q + 2 * N) (routes d who catalogue q)
@@ -139,11 +139,11 @@ module _ (d : Schema) (who : Caller) (catalogue : List Grant) (k : Costs) (S N :
       all-select _ (λ x t h. h w .0)
       (by-form d who catalogue (λ g. T (belongs who g) → Bounded g) of-grants Light
       (λ s n g b t w. let h = weight-seen (source s) n (g b) in (omega arith, λ s. omega arith))
-      (λ c q x t i w. let h = i (search parts) in let (h₀, h₁) = h in (omega arith, λ s. let h₂ = h₁ s in omega arith))
-      (λ cs q x i w. let h = i (search parts) in let (h₀, h₁) = h in let l = weight-keep cs x in (omega arith, λ s. let h₂ = h₁ s in omega arith))
-      (λ a b q r x y t i j w. let h = i (search parts) .1 (search parts) in let l = j (search parts) .1 (search parts) in (omega arith, λ s. absurd s))
+      (λ c q gs x t i w. let h = i (search parts) in let (h₀, h₁) = h in (omega arith, λ s. let h₂ = h₁ s in omega arith))
+      (λ cs q gs x i w. let h = i (search parts) in let (h₀, h₁) = h in let l = weight-keep cs x in (omega arith, λ s. let h₂ = h₁ s in omega arith))
+      (λ a b q r gs hs x y t i j w. let h = i (search parts) .1 (search parts) in let l = j (search parts) .1 (search parts) in (omega arith, λ s. absurd s))
       (λ a b q r n g o t w. (weight-over (join a b q r) n (g o) w, λ s. absurd s))
-      (λ f c size offset q x t i w. let h = i (search parts) .0 in (omega arith, λ s. absurd s))
+      (λ f c size offset q gs x t i w. let h = i (search parts) .0 in (omega arith, λ s. absurd s))
       (λ f c size offset q n g b t w. let h = weight-summed q n (g b) (search parts) in (omega arith, λ s. absurd s)) q)
 
 -- ---- forms

@@ -6,9 +6,9 @@ use native.Mathlib.Omega.{arith}
 use lib.IntN.{ℤ}
 use lib.ListN.{length, length-append, length-map}
 use Rattle.lists.specs.Lists.{gather}
-use Rattle.lists.proofs.Laws.{All, all-nil, all-cons, all-any, all-select, all-map, all-gather}
+use Rattle.lists.proofs.Laws.{All, all-nil, all-cons, all-head, all-any, all-select, all-weaken, all-left, all-right, all-map, all-gather}
 use Rattle.syntax.specs.Grammar.{Fn}
-use Rattle.model.specs.Queries.{Col, Query, source, pick, keep, join, aggregate, Caller, Row, Table, Record}
+use Rattle.model.specs.Queries.{Col, Query, source, pick, keep, join, aggregate, sources, Caller, Row, Table, Record}
 use Rattle.model.specs.Aggregates.{closed, answer-row, window, figures-of}
 use Rattle.model.specs.Meaning.{value, picked, kept-row, kept, both, pairs, aggregated, meaning}
 use Rattle.model.specs.Grants.{view}
@@ -37,22 +37,24 @@ unfolding answer-row
 answer-wide f end [] = all-nil
 answer-wide f end (v ∷ vs) = all-cons refl all-nil
 
-aggregated-wide : (k : ℕ) (f : Fn) (c : Col) (size offset : ℕ) (t : Table) → Wide (aggregated k f c size offset t)
+pub aggregated-wide : (k : ℕ) (f : Fn) (c : Col) (size offset : ℕ) (t : Table) → Wide (aggregated k f c size offset t)
 unfolding aggregated figures-of window
 aggregated-wide k f c size offset t = all-gather {P = λ j. Unit {0}} (λ j h. answer-wide f _ _) (all-any (closed k size offset))
 
-pub meaning-wide : {S : Type 0} (k : ℕ) (tab : S → Table) → ((s : S) → Wide (tab s)) → (q : Query S) → Wide (meaning k tab q)
-unfolding meaning picked
-meaning-wide k tab h (source s) = h s
-meaning-wide k tab h (pick c q) = all-select _ (λ r t p. p) (meaning-wide k tab h q)
-meaning-wide k tab h (keep cs q) = kept-wide cs (meaning k tab q)
-meaning-wide k tab h (join a b q r) = all-select _ (λ x t p. p) (pairs-wide (meaning k tab q) (meaning k tab r) (meaning-wide k tab h q) (meaning-wide k tab h r))
-meaning-wide k tab h (aggregate f c size offset q) = aggregated-wide k f c size offset (meaning k tab q)
+pub meaning-wide : {S : Type 0} (k : ℕ) (tab : S → Table) (q : Query S) → All (λ s. Wide (tab s)) (sources q) → Wide (meaning k tab q)
+unfolding meaning picked sources
+meaning-wide k tab (source s) h = all-head h
+meaning-wide k tab (pick c q) h = all-select _ (λ r t p. p) (meaning-wide k tab q h)
+meaning-wide k tab (keep cs q) h = kept-wide cs (meaning k tab q)
+meaning-wide k tab (join a b q r) h =
+    all-select _ (λ x t p. p)
+    (pairs-wide (meaning k tab q) (meaning k tab r) (meaning-wide k tab q (all-left (sources q) (sources r) h)) (meaning-wide k tab r (all-right (sources q) (sources r) h)))
+meaning-wide k tab (aggregate f c size offset q) h = aggregated-wide k f c size offset (meaning k tab q)
 
 -- whatever the record holds
 pub route-wide : (x : Record) (who : Caller) (r : Route) → Wide (route-table x who r)
 unfolding route-table view
-route-wide x who r = meaning-wide (x .clock) (λ s. view x who (s .grant)) (λ s. kept-wide _ _) (r .query)
+route-wide x who r = meaning-wide (x .clock) (λ s. view x who (s .grant)) (r .query) (all-weaken (λ s u. kept-wide _ _) (all-any (sources (r .query))))
 
 -- ---- cells
 

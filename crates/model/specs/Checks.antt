@@ -94,9 +94,9 @@ side (aggregate f c size offset q) = false
 unfoldable pub linked : Col → Col → List Col → List Col → Bool
 linked a b ls rs = has ls a && has rs b || has ls b && has rs a
 
--- every form stands where it may and names columns that are there; a query's sources have columns
+-- every form stands where it may and names columns that are there
 unfoldable pub allowed : {S : Type 0} → (S → List Col) → Query S → Bool
-allowed hs (source s) = not (empty? (hs s))
+allowed hs (source s) = true
 allowed hs (pick c q) = pickable c && within (cond-cols c) (header hs q) && allowed hs q
 allowed hs (keep cs q) = no-aggregate q && within cs (header hs q) && allowed hs q
 allowed hs (join a b q r) = side q && side r && linked a b (header hs q) (header hs r) && allowed hs q && allowed hs r

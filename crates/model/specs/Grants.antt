@@ -8,7 +8,7 @@ use Rattle.lists.specs.Lists.{select, some?, every, gather, same-list}
 use Rattle.syntax.specs.Grammar.{Bytes, Op, le, ge, Fn, Cond, test, Entry}
 use Rattle.model.specs.Conditions.{tests, map-cond}
 use Rattle.model.specs.Queries.{Schema, Col, same-col, columns-of, Term, column, time, number, self, Compare, Grant, Caller, Table, Record}
-use Rattle.model.specs.Meaning.{holds, kept, pairs, aggregated, stream-table, meaning-computes}
+use Rattle.model.specs.Meaning.{holds, kept, pairs, aggregated, table-of, meaning-computes}
 
 -- ---- whose: one who has its role and every profile entry that it names
 
@@ -58,8 +58,8 @@ limits who g = map (fill (who .profile)) (g .when) ++ (limit ge (g .from) ++ lim
 -- all rows of its streams side by side, left-major
 unfoldable pub whole : Record → List ℕ → Table
 whole x [] = record { cols = []; rows = [] }
-whole x (s ∷ []) = stream-table x s
-whole x (s ∷ (t ∷ ts)) = pairs (stream-table x s) (whole x (t ∷ ts))
+whole x (s ∷ []) = table-of x s
+whole x (s ∷ (t ∷ ts)) = pairs (table-of x s) (whole x (t ∷ ts))
 
 unfoldable pub limited : List (Cond Compare) → Table → Table
 limited cs t = record { cols = t .cols; rows = select (λ r. every (holds (t .cols) r) cs) (t .rows) }

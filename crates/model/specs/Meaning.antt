@@ -74,14 +74,14 @@ meaning clock tab (keep cs q) = kept cs (meaning clock tab q)
 meaning clock tab (join a b q r) = picked (equality a b) (pairs (meaning clock tab q) (meaning clock tab r))
 meaning clock tab (aggregate f c size offset q) = aggregated clock f c size offset (meaning clock tab q)
 
-unfoldable pub stream-table : Record → ℕ → Table
-stream-table x s = record { cols = columns-of (x .schema) s; rows = nth [] (x .rows) s }
+unfoldable pub table-of : Record → ℕ → Table
+table-of x s = record { cols = columns-of (x .schema) s; rows = nth [] (x .rows) s }
 
 -- a query run with no grants
 unfoldable pub plain : Record → Query ℕ → Table
-plain x q = meaning (x .clock) (stream-table x) q
+plain x q = meaning (x .clock) (table-of x) q
 
 -- To unfold this is to unfold every definition above.
 unfoldable pub meaning-computes : Unit {0}
-unfolding conditions-compute queries-compute aggregates-compute value term-value compares compare-holds holds picked kept-row kept both pairs equality aggregated meaning stream-table plain
+unfolding conditions-compute queries-compute aggregates-compute value term-value compares compare-holds holds picked kept-row kept both pairs equality aggregated meaning table-of plain
 meaning-computes = tt

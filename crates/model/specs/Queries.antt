@@ -7,13 +7,10 @@ use lib.IntN.{ℤ}
 use lib.Dec.{eqb}
 use lib.ListN.{length}
 use Rattle.lists.specs.Lists.{nth, gather, count-from, lists-compute}
-use Rattle.syntax.specs.Grammar.{Bytes, Op, Fn, Right, Cond, Entry}
+use Rattle.syntax.specs.Grammar.{Bytes, Op, Fn, Right, Cond}
+pub use Rattle.syntax.specs.Grammar.{Stream, Caller}
 
 -- ---- streams
-
-pub record Stream : Type 0 where
-  pub name : Bytes
-  pub columns : List Bytes
 
 -- the declared streams, in the order of their declarations; a stream's number is its place, counted from 0
 abbrev pub Schema : Type 0
@@ -91,7 +88,7 @@ module _ {S : Type 0} where
   forms (join a b q r) = suc (forms q + forms r)
   forms (aggregate f c size offset q) = suc (forms q)
 
--- ---- grants and callers
+-- ---- grants
 
 -- its streams, the columns it shows, the conditions that hold together, its first and last time, and the least SIZE and OFFSET of an aggregate right
 pub record Grant : Type 0 where
@@ -104,10 +101,6 @@ pub record Grant : Type 0 where
   pub to : Option ℕ
   pub size : ℕ
   pub offset : ℕ
-
-pub record Caller : Type 0 where
-  pub roles : List Bytes
-  pub profile : List Entry
 
 -- ---- rows
 

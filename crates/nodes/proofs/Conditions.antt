@@ -1,7 +1,7 @@
 -- The conditions of nodes that may be lent are those of a grant over the columns of the mask.
 use mathlib.Core.Path.{_≡_, refl}
 use mathlib.Core.List.{List, [], _∷_, _++_}
-use mathlib.Core.Bool.{Bool, true, false, _&&_, _||_, not, cond}
+use mathlib.Core.Bool.{Bool, true, false, _&&_, _||_, cond}
 use Prim.Native.Nat.{ℕ, zero, suc, _+_, _*_, _-_, _/_, _%_, _≤_, _<_}
 use native.Mathlib.Decide.{decLt}
 use native.Mathlib.Omega.{arith}
@@ -10,23 +10,26 @@ use lib.Dec.{T, eqb, leb, ltb, leb→le, ltb→lt, eqb→eq, le→leb, lt→ltb}
 use lib.ListN.{length}
 use borrow.Author.Tests.{eq-eqb, ne-eqb, lt-ltb, le-leb, lt-leb}
 use Rattle.lists.specs.Lists.{every, gather}
-use Rattle.lists.proofs.Laws.{and-l, and-r, and-both, or-cases, parts, every-append, every-weaken}
+use Rattle.lists.proofs.Laws.{and-l, and-r, and-both, or-cases, parts, every-append, every-weaken, T-true, every-gathered}
 use Rattle.syntax.specs.Grammar.{Cond}
 use Rattle.model.specs.Conditions.{tests, tests-of, conds-of}
 use Rattle.model.specs.Queries.{col, Term, column, Compare}
 use Rattle.model.specs.Checks.{term-cols, cond-cols, when-left, when-right, grantable}
-use Rattle.calls.specs.Bounds.{is-value, top}
+use Rattle.syntax.specs.Limits.{is-value}
 use Rattle.calls.specs.Validity.{valid-name, valid-term, valid-cond}
 use Rattle.text.specs.Words.{name-of}
 use Rattle.nodes.specs.declared.Node.{Node}
-use Rattle.nodes.specs.Nodes.{node-at, number-of, term-of, compare-of, link, some-conds, first-cond, headed, cond-in, list-in, conditions-of, comparing, reaches, linked, in-mask, column-in, terms-sound, node-sound, nodes-sound}
-use Rattle.lists.proofs.Counting.{every-at}
-use Rattle.nodes.proofs.Reaching.{link-falls, list-step, list-stop}
+use Rattle.nodes.specs.Nodes.{node-words, node-at, unbiased, coded-term, node-compare, link, some-conds, first-cond, headed, cond-in, list-in, conditions-of, comparing, reaches, linked, in-mask, column-in, terms-sound, node-sound, all-sound, nodes-sound}
+use Rattle.nodes.proofs.Words.{words-plain}
+use Rattle.nodes.proofs.Puts.{words-some}
+use Rattle.nodes.proofs.Reaching.{link-falls, list-step, list-stop, reaches-step, reaches-stop}
+use Rattle.nodes.proofs.Tests.{all-step, all-before}
+use Rattle.nodes.proofs.Stored.{Passes}
 
 -- ---- terms
 
-number-value : (v : ℕ) → v < 4294967296 → T (is-value (number-of v))
-unfolding number-of is-value top
+number-value : (v : ℕ) → v < 4294967296 → T (is-value (unbiased v))
+unfolding unbiased is-value
 number-value v h = go (decLt v 2147483648)
   where
     go : Dec (v < 2147483648) → T (is-value (cond (leb 2147483648 v) (pos (v - 2147483648)) (negsuc (2147483647 - v))))
@@ -40,8 +43,8 @@ left-sound mask t = when-left t && valid-term t && every (column-in mask) (term-
 unfoldable right-sound : ℕ → Term → Bool
 right-sound mask t = when-right t && valid-term t && every (column-in mask) (term-cols t)
 
-column-term : (code v : ℕ) → code < 24 → term-of code v ≡ column (col (code / 6) (code % 6))
-unfolding term-of
+pub column-term : (code v : ℕ) → code < 24 → coded-term code v ≡ column (col (code / 6) (code % 6))
+unfolding coded-term
 column-term code v h = rw (lt-ltb code 24 h)
 
 column-masked : (mask code : ℕ) → T (in-mask mask code) → T (column-in mask (col (code / 6) (code % 6)))
@@ -54,29 +57,29 @@ below-24 : (mask code : ℕ) → T (in-mask mask code) → code < 24
 unfolding in-mask
 below-24 mask code t = ltb→lt code 24 (search parts)
 
-left-column : (mask code v : ℕ) → T (in-mask mask code) → T (left-sound mask (term-of code v))
+left-column : (mask code v : ℕ) → T (in-mask mask code) → T (left-sound mask (coded-term code v))
 unfolding left-sound when-left valid-term term-cols every
 left-column mask code v t = rw (column-term code v (below-24 mask code t)) (and-both (column-in mask (col (code / 6) (code % 6))) true (column-masked mask code t) tt)
 
-right-column : (mask code v : ℕ) → T (in-mask mask code) → T (right-sound mask (term-of code v))
+right-column : (mask code v : ℕ) → T (in-mask mask code) → T (right-sound mask (coded-term code v))
 unfolding right-sound when-right valid-term term-cols every
 right-column mask code v t = rw (column-term code v (below-24 mask code t)) (and-both (column-in mask (col (code / 6) (code % 6))) true (column-masked mask code t) tt)
 
-right-number : (mask v : ℕ) → v < 4294967296 → T (right-sound mask (term-of 26 v))
-unfolding right-sound term-of when-right valid-term term-cols every
-right-number mask v h = and-both (is-value (number-of v)) true (number-value v h) tt
+right-number : (mask v : ℕ) → v < 4294967296 → T (right-sound mask (coded-term 26 v))
+unfolding right-sound coded-term when-right valid-term term-cols every
+right-number mask v h = and-both (is-value (unbiased v)) true (number-value v h) tt
 
-right-entry : (mask v : ℕ) → T (valid-name (name-of v)) → T (right-sound mask (term-of 27 v))
-unfolding right-sound term-of when-right valid-term term-cols every
+right-entry : (mask v : ℕ) → T (valid-name (name-of v)) → T (right-sound mask (coded-term 27 v))
+unfolding right-sound coded-term when-right valid-term term-cols every
 right-entry mask v h = and-both (valid-name (name-of v)) true h tt
 
 unfoldable test-sound : ℕ → Compare → Bool
 test-sound mask t = left-sound mask (t .left) && right-sound mask (t .right)
 
-compare-sound : (mask : ℕ) (n : Node) → T (terms-sound mask n) → T (test-sound mask (compare-of n))
-unfolding terms-sound test-sound compare-of
+compare-sound : (mask : ℕ) (n : Node) → T (terms-sound mask n) → T (test-sound mask (node-compare n))
+unfolding terms-sound test-sound node-compare
 compare-sound mask n t =
-    and-both (left-sound mask (term-of (n .left) (n .value))) (right-sound mask (term-of (n .right) (n .value)))
+    and-both (left-sound mask (coded-term (n .left) (n .value))) (right-sound mask (coded-term (n .right) (n .value)))
     (left-column mask (n .left) (n .value) (search parts))
     (or-cases (in-mask mask (n .right) || eqb (n .right) 26 && ltb (n .value) 4294967296) (eqb (n .right) 27 && valid-name (name-of (n .value))) (and-r (in-mask mask (n .left)) _ t)
     (λ b. or-cases (in-mask mask (n .right)) (eqb (n .right) 26 && ltb (n .value) 4294967296) b
@@ -89,11 +92,6 @@ compare-sound mask n t =
 -- every comparison of a condition
 unfoldable cond-sound : ℕ → Cond Compare → Bool
 cond-sound mask c = every (test-sound mask) (tests c)
-
-every-gathered : {A B : Type 0} (p : B → Bool) (f : A → List B) (xs : List A) → T (every (λ x. every p (f x)) xs) → T (every p (gather f xs))
-unfolding every gather
-every-gathered p f [] t = tt
-every-gathered p f (x ∷ xs) t = every-append p (f x) (gather f xs) (search parts) (every-gathered p f xs (search parts))
 
 -- what a grant asks of a comparison, and of a condition
 module _ (mask : ℕ) (a : Compare) (h : T (test-sound mask a)) where
@@ -149,7 +147,7 @@ head-test : (mask : ℕ) (n : Node) (cs : List (Cond Compare)) → T (comparing 
 unfolding comparing headed cond-sound tests every
 head-test mask n cs c t =
     let l = leb→le (n .head) 6 (search parts) in
-    rw (ne-eqb (n .head) 7 (λ e. omega arith), ne-eqb (n .head) 8 (λ e. omega arith), ne-eqb (n .head) 9 (λ e. omega arith)) (and-both (test-sound mask (compare-of n)) true (compare-sound mask n t) tt)
+    rw (ne-eqb (n .head) 7 (λ e. omega arith), ne-eqb (n .head) 8 (λ e. omega arith), ne-eqb (n .head) 9 (λ e. omega arith)) (and-both (test-sound mask (node-compare n)) true (compare-sound mask n t) tt)
 
 head-inner : (mask : ℕ) (n : Node) (cs : List (Cond Compare)) → 7 ≤ n .head → n .head ≤ 9 → 0 < length cs → T (every (cond-sound mask) cs) → T (cond-sound mask (headed n cs))
 unfolding headed cond-sound tests
@@ -188,40 +186,103 @@ link-below : (ws : List ℕ) (k : ℕ) → suc (node-at ws k .before) < k → li
 unfolding link
 link-below ws k h = omega arith
 
-module _ (mask : ℕ) (ws : List ℕ) (n : ℕ) (nodes : (k : ℕ) → 1 ≤ k → k ≤ n → T (node-sound mask ws k)) where
-  -- one node, given those before it
-  node-holds : (f k : ℕ) → 1 ≤ k → k ≤ n → 2 * k ≤ suc f → T (every (cond-sound mask) (list-in f ws (link ws k) (k - 1) [])) → T (cond-sound mask (headed (node-at ws k) (list-in f ws (link ws k) (k - 1) [])))
-  unfolding node-sound linked
-  node-holds f k one h l t = go (comparing (node-at ws k)) refl (nodes k one h)
-    where
-      b : ℕ
-      b = node-at ws k .before
+link-inner : (ws : List ℕ) (k : ℕ) → suc (node-at ws k .before) < k → link ws k ≡ node-at ws k .before
+unfolding link
+link-inner ws k h = omega arith
 
-      go : (x : Bool) → comparing (node-at ws k) ≡ x
-          → T (cond x (eqb (suc b) k) (leb 7 (node-at ws k .head) && leb (node-at ws k .head) 9 && ltb (suc b) k && reaches k ws b (k - 1) && (ltb (node-at ws k .head) 9 || eqb (link ws (k - 1)) b)) && (not x || terms-sound mask (node-at ws k)))
-          → T (cond-sound mask (headed (node-at ws k) (list-in f ws (link ws k) (k - 1) [])))
-      go true e s = head-test mask (node-at ws k) _ (rw e tt) (and-r (eqb (suc b) k) _ s)
-      go false e s = inner (and-l (leb 7 (node-at ws k .head) && leb (node-at ws k .head) 9 && ltb (suc b) k && reaches k ws b (k - 1) && (ltb (node-at ws k .head) 9 || eqb (link ws (k - 1)) b)) true s)
-        where
-          inner : T (leb 7 (node-at ws k .head) && leb (node-at ws k .head) 9 && ltb (suc b) k && reaches k ws b (k - 1) && (ltb (node-at ws k .head) 9 || eqb (link ws (k - 1)) b)) → T (cond-sound mask (headed (node-at ws k) (list-in f ws (link ws k) (k - 1) [])))
-          inner s =
-              let lo = leb→le 7 (node-at ws k .head) (search parts) in
-              let hi = leb→le (node-at ws k .head) 9 (search parts) in
-              let up = ltb→lt (suc b) k (search parts) in
-              head-inner mask (node-at ws k) _ lo hi (list-some f ws (link ws k) (k - 1) (link-below ws k up) (omega arith)) t
+-- ---- the walk back passes every place that links lead to
+
+-- what soundness says of a node that has conditions inside
+record Inner (ws : List ℕ) (k : ℕ) (n : Node) : Type 0 where
+  right : n .right ≡ 0
+  low : 7 ≤ n .head
+  high : n .head ≤ 9
+  up : suc (n .before) < k
+  down : T (reaches k ws (n .before) (k - 1))
+
+module _ (mask : ℕ) (ws : List ℕ) (k : ℕ) (n : Node) (s : T (node-sound mask ws k n)) where
+  sound-test : T (comparing n) → (n .before + node-words n ≡ k) × T (terms-sound mask n)
+  unfolding node-sound linked
+  sound-test c =
+      let e = T-true (comparing n) c in
+      let t : T (eqb (n .before + node-words n) k && terms-sound mask n) = rw e at s in
+      (eqb→eq (n .before + node-words n) k (search parts), search parts)
+
+  sound-inner : comparing n ≡ false → Inner ws k n
+  unfolding node-sound linked
+  sound-inner e =
+      let t : T ((eqb (n .right) 0 && leb 7 (n .head) && leb (n .head) 9 && ltb (suc (n .before)) k && reaches k ws (n .before) (k - 1) && (ltb (n .head) 9 || eqb (link ws (k - 1)) (n .before))) && true) = rw e at s in
+      record { right = eqb→eq (n .right) 0 (search parts depth 9); low = leb→le 7 (n .head) (search parts depth 9); high = leb→le (n .head) 9 (search parts depth 9); up = ltb→lt (suc (n .before)) k (search parts depth 9); down = search parts depth 9 }
+
+module _ (mask : ℕ) (ws : List ℕ) where
+  node-passed : (k : ℕ) → 0 < k → Passes mask ws k → T (node-sound mask ws k (node-at ws k))
+  node-passed k h p = and-l (node-sound mask ws k (node-at ws k)) (all-sound k mask ws (k - node-words (node-at ws k))) (rw (all-step mask ws k k h) at p)
+
+  before-passed : (k : ℕ) → 0 < k → Passes mask ws k → Passes mask ws (k - node-words (node-at ws k))
+  before-passed k h p = rw (all-before mask ws k h (T-true (node-sound mask ws k (node-at ws k)) (node-passed k h p))) at p
+
+  -- a test of a node, or a list inside it
+  by-node : {X : Type 0} (k : ℕ) → 0 < k → Passes mask ws k → (T (comparing (node-at ws k)) → T (terms-sound mask (node-at ws k)) → Passes mask ws (link ws k) → X)
+      → (Inner ws k (node-at ws k) → Passes mask ws (k - 1) → X) → X
+  unfolding link
+  by-node {X} k h p f g = go (comparing (node-at ws k)) refl
+    where
+      go : (x : Bool) → comparing (node-at ws k) ≡ x → X
+      go true e =
+          let t = sound-test mask ws k (node-at ws k) (node-passed k h p) (rw e tt) in
+          let m : k - node-words (node-at ws k) ≡ link ws k = let a = t .0 in let b = words-some (node-at ws k) in omega arith in
+          f (rw e tt) (t .1) (rw m at (before-passed k h p))
+      go false e =
+          let i = sound-inner mask ws k (node-at ws k) (node-passed k h p) e in
+          let r = i .right in
+          let m : k - node-words (node-at ws k) ≡ k - 1 = let w = words-plain (node-at ws k) (λ z. omega arith) (λ z. omega arith) in omega arith in
+          g i (rw m at (before-passed k h p))
+
+  -- links from a place whose walk is sound lead to such places, down to a stop that they reach
+  reach-passed : (f stop j : ℕ) → ((i : ℕ) → 0 < i → i ≤ j → Passes mask ws i → Passes mask ws (link ws i)) → T (reaches f ws stop j) → Passes mask ws j → Passes mask ws stop
+  unfolding reaches
+  reach-passed zero stop j k t p = absurd t
+  reach-passed (suc f) stop j k t p = go (decLt stop j) (λ l r. reach-passed f stop (link ws j) (λ i a b. k i a (omega (arith, link-falls ws j))) r (k j (omega arith) (omega arith) p))
+    where
+      go : Dec (stop < j) → (stop < j → T (reaches f ws stop (link ws j)) → Passes mask ws stop) → Passes mask ws stop
+      go (yes l) r = r l (rw (reaches-step ws f stop j l) at t)
+      go (no l) r =
+          let e : j ≡ stop = eqb→eq j stop (rw (reaches-stop ws f stop j (omega arith)) at t) in
+          rw e at p
+
+  -- a bound on the place, for the induction
+  links-passed : (n k : ℕ) → k ≤ n → 0 < k → Passes mask ws k → Passes mask ws (link ws k)
+  links-passed zero k l h p = absurd (omega arith)
+  links-passed (suc n) k l h p =
+      by-node k h p (λ c t q. q)
+      (λ i q.
+      let u = i .up in
+      let e : link ws k ≡ node-at ws k .before = link-inner ws k u in
+      rw e (reach-passed k (node-at ws k .before) (k - 1) (λ j a b. links-passed n j (omega arith) a) (i .down) q))
+
+  pub link-passed : (k : ℕ) → 0 < k → Passes mask ws k → Passes mask ws (link ws k)
+  link-passed k h p = links-passed k k (omega arith) h p
+
+  -- ---- every comparison of the conditions has sound terms
+
+  node-holds : (f k : ℕ) → 0 < k → 2 * k ≤ suc f → Passes mask ws k → (Passes mask ws (k - 1) → T (every (cond-sound mask) (list-in f ws (link ws k) (k - 1) [])))
+      → T (cond-sound mask (headed (node-at ws k) (list-in f ws (link ws k) (k - 1) [])))
+  node-holds f k h l p r =
+      by-node k h p (λ c t q. head-test mask (node-at ws k) _ c t)
+      (λ i q. let u = i .up in head-inner mask (node-at ws k) _ (i .low) (i .high) (list-some f ws (link ws k) (k - 1) (link-below ws k u) (omega arith)) (r q))
 
   mutual
     unfolding cond-in
 
-    cond-holds : (f k : ℕ) → 1 ≤ k → k ≤ n → 2 * k ≤ f → T (cond-sound mask (cond-in f ws k))
-    cond-holds zero k one h l = absurd (omega arith)
-    cond-holds (suc f) k one h l = node-holds f k one h l (list-holds f (link ws k) (k - 1) [] (omega arith) (omega arith) (none-sound mask))
+    cond-holds : (f k : ℕ) → 0 < k → 2 * k ≤ f → Passes mask ws k → T (cond-sound mask (cond-in f ws k))
+    cond-holds zero k h l p = absurd (omega arith)
+    cond-holds (suc f) k h l p = node-holds f k h l p (λ q. list-holds f (link ws k) (k - 1) [] (omega arith) q (none-sound mask))
 
-    list-holds : (f stop j : ℕ) (cs : List (Cond Compare)) → j ≤ n → 2 * j + 1 ≤ f → T (every (cond-sound mask) cs) → T (every (cond-sound mask) (list-in f ws stop j cs))
-    list-holds zero stop j cs h l t = absurd (omega arith)
-    list-holds (suc f) stop j cs h l t =
+    list-holds : (f stop j : ℕ) (cs : List (Cond Compare)) → 2 * j + 1 ≤ f → Passes mask ws j → T (every (cond-sound mask) cs) → T (every (cond-sound mask) (list-in f ws stop j cs))
+    list-holds zero stop j cs l p t = absurd (omega arith)
+    list-holds (suc f) stop j cs l p t =
         go (decLt stop j)
-        (λ a. list-holds f stop (link ws j) (cond-in f ws j ∷ cs) (omega (arith, link-falls ws j)) (omega (arith, link-falls ws j)) (both-sound mask (cond-in f ws j) cs (cond-holds f j (omega arith) h (omega arith)) t))
+        (λ a. list-holds f stop (link ws j) (cond-in f ws j ∷ cs) (omega (arith, link-falls ws j)) (link-passed j (omega arith) p) (both-sound mask (cond-in f ws j) cs (cond-holds f j (omega arith) (omega arith) p) t))
       where
         go : Dec (stop < j) → (stop < j → T (every (cond-sound mask) (list-in f ws stop (link ws j) (cond-in f ws j ∷ cs)))) → T (every (cond-sound mask) (list-in (suc f) ws stop j cs))
         go (yes a) i = rw (list-step ws f stop j cs a) (i a)
@@ -230,5 +291,4 @@ module _ (mask : ℕ) (ws : List ℕ) (n : ℕ) (nodes : (k : ℕ) → 1 ≤ k �
 pub sound-conditions : (mask : ℕ) (ws : List ℕ) (n : ℕ) → T (nodes-sound mask ws n) → T (every (λ c. grantable c && valid-cond c && every (column-in mask) (cond-cols c)) (conditions-of ws n))
 unfolding nodes-sound conditions-of
 sound-conditions mask ws n t =
-    every-weaken (cond-sound mask) _ (granted mask) (list-in (2 * n + 1) ws 0 n [])
-    (list-holds mask ws n (λ k one h. every-at (node-sound mask ws) 1 n (search parts) k one (omega arith)) (2 * n + 1) 0 n [] (omega arith) (omega arith) (none-sound mask))
+    every-weaken (cond-sound mask) _ (granted mask) (list-in (2 * n + 1) ws 0 n []) (list-holds mask ws (2 * n + 1) 0 n [] (omega arith) (search parts) (none-sound mask))

@@ -1,88 +1,114 @@
--- What storing a node does: the length stays, the node is there, the others are as they were.
-use mathlib.Core.Path.{_≡_, refl, _∙_}
-use mathlib.Core.List.{List, [], _∷_}
-use mathlib.Core.Bool.{Bool, true, false, cond}
+-- What storing a node does: the length stays, the node is there, the other words are as they were.
+use mathlib.Core.Path.{_≡_, refl, sym, ap, _∙_}
+use mathlib.Core.List.{List}
+use mathlib.Core.Bool.{Bool, true, false}
 use Prim.Native.Nat.{ℕ, _+_, _*_, _-_, _/_, _%_, _≤_, _<_}
 use native.Mathlib.Decide.{decLt}
 use native.Mathlib.Omega.{arith}
-use lib.Dec.{leb}
+use lib.Dec.{T, eqb, ltb→lt, eqb→eq}
 use lib.ListN.{length, getD, set, length-set}
 use lib.Seq.{getD-set-same, getD-set-other}
-use borrow.Author.Tests.{ne-eqb, le-leb, leb-true}
-use Rattle.syntax.specs.Grammar.{Cond, test, all, any, neg, Conds, last, more}
+use borrow.Author.Tests.{eq-eqb, ne-eqb, le-leb, lt-leb, eqb-true, eqb-false}
 use Rattle.nodes.specs.declared.Node.{Node}
-use Rattle.nodes.specs.Nodes.{node-of, node-at}
-use Rattle.nodes.specs.Storing.{first-word, put-node, store, store-all, store-list}
+use Rattle.nodes.specs.Nodes.{node-of, node-words, value-at, node-at}
+use Rattle.nodes.specs.Storing.{head-word, put-value, put-node, value-fits}
+use Rattle.nodes.proofs.Words.{words-number, words-entry, words-plain, value-number, value-entry, value-none}
+
+-- a node by what stands on its right: a number, a profile entry, or neither
+pub by-right : {X : Type 0} (n : Node) → (n .right ≡ 26 → node-words n ≡ 2 → X) → ((n .right ≡ 26 → ⊥) → n .right ≡ 27 → node-words n ≡ 3 → X)
+    → ((n .right ≡ 26 → ⊥) → (n .right ≡ 27 → ⊥) → node-words n ≡ 1 → X) → X
+by-right {X} n f g h = go (eqb (n .right) 26) refl (eqb (n .right) 27) refl
+  where
+    go : (x : Bool) → eqb (n .right) 26 ≡ x → (y : Bool) → eqb (n .right) 27 ≡ y → X
+    go true e y i = let a = eqb-true (n .right) 26 e in f a (sym (words-number n a))
+    go false e true i = let a = eqb-false (n .right) 26 e in let b = eqb-true (n .right) 27 i in g a b (sym (words-entry n a b))
+    go false e false i = let a = eqb-false (n .right) 26 e in let b = eqb-false (n .right) 27 i in h a b (sym (words-plain n a b))
+
+pub words-some : (n : Node) → 0 < node-words n
+words-some n = by-right n (λ a e. omega arith) (λ a b e. omega arith) (λ a b e. omega arith)
+
+pub words-few : (n : Node) → node-words n ≤ 3
+words-few n = by-right n (λ a e. omega arith) (λ a b e. omega arith) (λ a b e. omega arith)
 
 -- ---- lengths
 
--- three words at a place
-abbrev words-at : List ℕ → ℕ → ℕ → ℕ → ℕ → List ℕ
-words-at ws a x y z = set (set (set ws a x) (a + 1) y) (a + 2) z
+module _ (ws : List ℕ) (b : ℕ) (n : Node) where
+  pub length-value : length (put-value ws b n) ≡ length ws
+  length-value =
+      by-right n (λ a e. ap length (sym (value-number ws b n a)) ∙ length-set ws b _)
+      (λ a c e. ap length (sym (value-entry ws b n a c)) ∙ simp length-set)
+      (λ a c e. ap length (sym (value-none ws b n a c)))
 
-length-words : (ws : List ℕ) (a x y z : ℕ) → length (words-at ws a x y z) ≡ length ws
-length-words ws a x y z = simp length-set
+  pub put-room : b + node-words n ≤ length ws → put-node ws b n ≡ set (put-value ws b n) (b + node-words n - 1) (head-word n)
+  unfolding put-node
+  put-room h = rw (le-leb (b + node-words n) (length ws) h)
 
-pub length-put : (ws : List ℕ) (k : ℕ) (n : Node) → length (put-node ws k n) ≡ length ws
-unfolding put-node
-length-put ws k n = go (leb 1 k) (leb (k * 3) (length ws))
-  where
-    go : (a b : Bool) → length (cond a (cond b (words-at ws ((k - 1) * 3) (first-word n) (n .value % 4294967296) (n .value / 4294967296)) ws) ws) ≡ length ws
-    go true true = length-words ws ((k - 1) * 3) (first-word n) (n .value % 4294967296) (n .value / 4294967296)
-    go true false = refl
-    go false b = refl
+  put-full : length ws < b + node-words n → put-node ws b n ≡ ws
+  unfolding put-node
+  put-full h = rw (lt-leb (b + node-words n) (length ws) h)
 
-mutual
-  unfolding store
+  pub length-put : length (put-node ws b n) ≡ length ws
+  length-put = go (decLt (length ws) (b + node-words n))
+    where
+      go : Dec (length ws < b + node-words n) → length (put-node ws b n) ≡ length ws
+      go (yes h) = ap length (put-full h)
+      go (no h) = ap length (put-room (omega arith)) ∙ length-set (put-value ws b n) (b + node-words n - 1) (head-word n) ∙ length-value
+      -- ---- words that are not the node's
 
-  pub length-store : (c : Cond Node) (b : ℕ) (ws : List ℕ) → length (store c b ws) ≡ length ws
-  length-store (test n) b ws = length-put ws _ _
-  length-store (all cs) b ws = length-put _ _ _ ∙ length-all cs b ws
-  length-store (any cs) b ws = length-put _ _ _ ∙ length-all cs b ws
-  length-store (neg c) b ws = length-put _ _ _ ∙ length-store c b ws
+  module _ (i : ℕ) (out : b ≤ i → i < b + node-words n → ⊥) where
+    value-outside : getD (put-value ws b n) i 0 ≡ getD ws i 0
+    value-outside =
+        by-right n
+        (λ a e. ap (λ l. getD l i 0) (sym (value-number ws b n a)) ∙ getD-set-other ws b i _ 0 (λ z. out (omega arith) (omega arith)))
+        (λ a c e. ap (λ l. getD l i 0) (sym (value-entry ws b n a c)) ∙ getD-set-other (set ws b _) (b + 1) i _ 0 (λ z. out (omega arith) (omega arith)) ∙ getD-set-other ws b i _ 0 (λ z. out (omega arith) (omega arith)))
+        (λ a c e. ap (λ l. getD l i 0) (sym (value-none ws b n a c)))
 
-  pub length-all : (cs : Conds Node) (b : ℕ) (ws : List ℕ) → length (store-all cs b ws) ≡ length ws
-  length-all (last c) b ws = length-store c b ws
-  length-all (more c cs) b ws = length-all cs _ _ ∙ length-store c b ws
+    pub put-outside : getD (put-node ws b n) i 0 ≡ getD ws i 0
+    put-outside = go (decLt (length ws) (b + node-words n))
+      where
+        go : Dec (length ws < b + node-words n) → getD (put-node ws b n) i 0 ≡ getD ws i 0
+        go (yes h) = ap (λ l. getD l i 0) (put-full h)
+        go (no h) =
+            let s = words-some n in
+            ap (λ l. getD l i 0) (put-room (omega arith)) ∙ getD-set-other (put-value ws b n) (b + node-words n - 1) i (head-word n) 0 (λ z. out (omega arith) (omega arith)) ∙ value-outside
 
-pub length-store-list : (cs : List (Cond Node)) (b : ℕ) (ws : List ℕ) → length (store-list cs b ws) ≡ length ws
-unfolding store-list
-length-store-list [] b ws = refl
-length-store-list (c ∷ cs) b ws = length-store-list cs _ _ ∙ length-store c b ws
+  -- ---- words that are
 
--- ---- words read back
+  module _ (room : b + node-words n ≤ length ws) where
+    pub head-put : getD (put-node ws b n) (b + node-words n - 1) 0 ≡ head-word n
+    head-put =
+        let s = words-some n in
+        ap (λ l. getD l (b + node-words n - 1) 0) (put-room room) ∙ getD-set-same (put-value ws b n) (b + node-words n - 1) (head-word n) 0 (omega (arith, length-value))
 
-module _ (ws : List ℕ) (a x y z : ℕ) where
-  read-0 : a + 2 < length ws → getD (words-at ws a x y z) a 0 ≡ x
-  read-0 h = getD-set-other (set (set ws a x) (a + 1) y) (a + 2) a z 0 (λ e. omega arith) ∙ getD-set-other (set ws a x) (a + 1) a y 0 (λ e. omega arith) ∙ getD-set-same ws a x 0 (omega arith)
+    -- a word before the head
+    under-head : (i : ℕ) → i < b + node-words n - 1 → getD (put-node ws b n) i 0 ≡ getD (put-value ws b n) i 0
+    under-head i h = ap (λ l. getD l i 0) (put-room room) ∙ getD-set-other (put-value ws b n) (b + node-words n - 1) i (head-word n) 0 (λ z. omega arith)
 
-  read-1 : a + 2 < length ws → getD (words-at ws a x y z) (a + 1) 0 ≡ y
-  read-1 h =
-      let l = length-set ws a x in
-      getD-set-other (set (set ws a x) (a + 1) y) (a + 2) (a + 1) z 0 (λ e. omega arith) ∙ getD-set-same (set ws a x) (a + 1) y 0 (omega arith)
+    pub number-put : n .right ≡ 26 → getD (put-node ws b n) b 0 ≡ n .value % 4294967296
+    number-put a =
+        let e = words-number n a in
+        under-head b (omega arith) ∙ ap (λ l. getD l b 0) (sym (value-number ws b n a)) ∙ getD-set-same ws b (n .value % 4294967296) 0 (omega arith)
 
-  read-2 : a + 2 < length ws → getD (words-at ws a x y z) (a + 2) 0 ≡ z
-  read-2 h =
-      let l = length-set ws a x in
-      let m = length-set (set ws a x) (a + 1) y in
-      getD-set-same (set (set ws a x) (a + 1) y) (a + 2) z 0 (omega arith)
+    module _ (a : n .right ≡ 26 → ⊥) (c : n .right ≡ 27) where
+      pub low-put : getD (put-node ws b n) b 0 ≡ n .value % 4294967296
+      low-put =
+          let e = words-entry n a c in
+          under-head b (omega arith) ∙ ap (λ l. getD l b 0) (sym (value-entry ws b n a c)) ∙ getD-set-other (set ws b (n .value % 4294967296)) (b + 1) b _ 0 (λ z. omega arith)
+          ∙ getD-set-same ws b (n .value % 4294967296) 0 (omega arith)
 
-  read-other : (j : ℕ) → (j ≡ a → ⊥) → (j ≡ a + 1 → ⊥) → (j ≡ a + 2 → ⊥) → getD (words-at ws a x y z) j 0 ≡ getD ws j 0
-  read-other j p q r = getD-set-other (set (set ws a x) (a + 1) y) (a + 2) j z 0 r ∙ getD-set-other (set ws a x) (a + 1) j y 0 q ∙ getD-set-other ws a j x 0 p
+      pub high-put : getD (put-node ws b n) (b + 1) 0 ≡ n .value / 4294967296 % 4294967296
+      high-put =
+          let e = words-entry n a c in
+          under-head (b + 1) (omega arith) ∙ ap (λ l. getD l (b + 1) 0) (sym (value-entry ws b n a c))
+          ∙ getD-set-same (set ws b (n .value % 4294967296)) (b + 1) (n .value / 4294967296 % 4294967296) 0 (omega (arith, length-set ws b (n .value % 4294967296)))
 
 -- ---- the node that is stored
 
-abbrev node : ℕ → ℕ → ℕ → ℕ → ℕ → Node
-node h l r b v = record { head = h; left = l; right = r; before = b; value = v }
-
-module _ (h l r b v : ℕ) (hh : h < 256) (hl : l < 256) (hr : r < 256) (hb : b < 256) where
-  abbrev word : ℕ
-  word = h % 256 + l % 256 * 256 + r % 256 * 65536 + b % 256 * 16777216
-
+module _ (h l r b : ℕ) (hh : h < 256) (hl : l < 256) (hr : r < 256) (hb : b < 256) where
   abbrev sum : ℕ
   sum = h + l * 256 + r * 65536 + b * 16777216
 
-  word-is : word ≡ sum
+  word-is : h % 256 + l % 256 * 256 + r % 256 * 65536 + b % 256 * 16777216 ≡ sum
   word-is = omega arith
 
   byte-0 : sum % 256 ≡ h
@@ -97,56 +123,55 @@ module _ (h l r b v : ℕ) (hh : h < 256) (hl : l < 256) (hr : r < 256) (hb : b 
   byte-3 : sum / 16777216 ≡ b
   byte-3 = omega arith
 
-  halves : v % 4294967296 + v / 4294967296 * 4294967296 ≡ v
-  halves = omega arith
+-- a node whose codes are bytes and whose value its words can hold
+pub record Narrow (n : Node) : Type 0 where
+  pub head : n .head < 256
+  pub left : n .left < 256
+  pub right : n .right < 256
+  pub before : n .before < 256
+  pub value : T (value-fits n)
 
-  pub node-back : node-of (first-word (node h l r b v)) (v % 4294967296) (v / 4294967296) ≡ node h l r b v
-  unfolding node-of first-word
-  node-back = rw (word-is, byte-0, byte-1, byte-2, byte-3, halves)
+module _ (n : Node) (f : Narrow n) where
+  right-back : head-word n / 65536 % 256 ≡ n .right
+  unfolding head-word
+  right-back = rw (word-is (n .head) (n .left) (n .right) (n .before) (f .head) (f .left) (f .right) (f .before)) (byte-2 (n .head) (n .left) (n .right) (n .before) (f .head) (f .left) (f .right) (f .before))
 
--- node number k is what was put there
-pub node-put : (ws : List ℕ) (k : ℕ) (n : Node) → 1 ≤ k → k * 3 ≤ length ws → n .head < 256 → n .left < 256 → n .right < 256 → n .before < 256 → n .value < 18446744073709551616
-    → node-at (put-node ws k n) k ≡ n
-unfolding node-at put-node
-node-put ws k n one room hh hl hr hb hv =
-    let in-range : (k - 1) * 3 + 2 < length ws = omega arith in
-    rw (
-      ne-eqb k 0 (λ e. omega arith),
-      le-leb 1 k one,
-      le-leb (k * 3) (length ws) room,
-      read-0 ws ((k - 1) * 3) (first-word n) (n .value % 4294967296) (n .value / 4294967296) in-range,
-      read-1 ws ((k - 1) * 3) (first-word n) (n .value % 4294967296) (n .value / 4294967296) in-range,
-      read-2 ws ((k - 1) * 3) (first-word n) (n .value % 4294967296) (n .value / 4294967296) in-range,
-    ) (node-back (n .head) (n .left) (n .right) (n .before) (n .value) hh hl hr hb)
+  node-back : node-of (head-word n) (n .value) ≡ n
+  unfolding node-of head-word
+  node-back =
+      rw (
+        word-is (n .head) (n .left) (n .right) (n .before) (f .head) (f .left) (f .right) (f .before),
+        byte-0 (n .head) (n .left) (n .right) (n .before) (f .head) (f .left) (f .right) (f .before),
+        byte-1 (n .head) (n .left) (n .right) (n .before) (f .head) (f .left) (f .right) (f .before),
+        byte-2 (n .head) (n .left) (n .right) (n .before) (f .head) (f .left) (f .right) (f .before),
+        byte-3 (n .head) (n .left) (n .right) (n .before) (f .head) (f .left) (f .right) (f .before),
+      )
 
-none : (vs ws : List ℕ) → node-at vs 0 ≡ node-at ws 0
-unfolding node-at
-none vs ws = refl
+  module _ (ws : List ℕ) (b : ℕ) (room : b + node-words n ≤ length ws) where
+    abbrev end : ℕ
+    end = b + node-words n
 
--- and the others are as they were
-abbrev stored : List ℕ → ℕ → Node → List ℕ
-stored ws k n = words-at ws ((k - 1) * 3) (first-word n) (n .value % 4294967296) (n .value / 4294967296)
+    abbrev there : List ℕ
+    there = put-node ws b n
 
-word-kept : (ws : List ℕ) (k j : ℕ) (n : Node) → 1 ≤ k → 1 ≤ j → (j ≡ k → ⊥) → (d : ℕ) → d < 3 → getD (stored ws k n) ((j - 1) * 3 + d) 0 ≡ getD ws ((j - 1) * 3 + d) 0
-word-kept ws k j n one o ne d l =
-    read-other ws ((k - 1) * 3) (first-word n) (n .value % 4294967296) (n .value / 4294967296) ((j - 1) * 3 + d) (λ e. ne (omega arith)) (λ e. ne (omega arith)) (λ e. ne (omega arith))
+    value-put : value-at there end (n .right) ≡ n .value
+    unfolding value-at value-fits
+    value-put =
+        by-right n
+        (λ a e.
+        let v : n .value < 4294967296 = ltb→lt (n .value) 4294967296 (rw (eq-eqb (n .right) 26 a) at (f .value)) in
+        let k : end - 2 ≡ b = omega arith in
+        rw (eq-eqb (n .right) 26 a, k, number-put ws b n room a) (omega arith))
+        (λ a c e.
+        let v : n .value < 18446744073709551616 = ltb→lt (n .value) 18446744073709551616 (rw (ne-eqb (n .right) 26 a, eq-eqb (n .right) 27 c) at (f .value)) in
+        let k : end - 3 ≡ b = omega arith in
+        let j : end - 2 ≡ b + 1 = omega arith in
+        rw (ne-eqb (n .right) 26 a, eq-eqb (n .right) 27 c, k, j, low-put ws b n room a c, high-put ws b n room a c) (omega arith))
+        (λ a c e. let v : n .value ≡ 0 = eqb→eq (n .value) 0 (rw (ne-eqb (n .right) 26 a, ne-eqb (n .right) 27 c) at (f .value)) in rw (ne-eqb (n .right) 26 a, ne-eqb (n .right) 27 c) (sym v))
 
-node-kept : (ws : List ℕ) (k j : ℕ) (n : Node) → 1 ≤ k → 1 ≤ j → (j ≡ k → ⊥) → node-at (stored ws k n) j ≡ node-at ws j
-unfolding node-at
-node-kept ws k j n one o ne =
-    let z : (j - 1) * 3 + 0 ≡ (j - 1) * 3 = omega arith in
-    let w0 : getD (stored ws k n) ((j - 1) * 3) 0 ≡ getD ws ((j - 1) * 3) 0 = rw z at (word-kept ws k j n one o ne 0 (omega arith)) in
-    rw (ne-eqb j 0 (λ e. omega arith), w0, word-kept ws k j n one o ne 1 (omega arith), word-kept ws k j n one o ne 2 (omega arith))
-
-pub node-other : (ws : List ℕ) (k j : ℕ) (n : Node) → (j ≡ k → ⊥) → node-at (put-node ws k n) j ≡ node-at ws j
-unfolding put-node
-node-other ws k j n ne = go (leb 1 k) (leb (k * 3) (length ws)) refl
-  where
-    go : (a b : Bool) → leb 1 k ≡ a → node-at (cond a (cond b (stored ws k n) ws) ws) j ≡ node-at ws j
-    go true true e = kept (decLt 0 j)
-      where
-        kept : Dec (0 < j) → node-at (stored ws k n) j ≡ node-at ws j
-        kept (yes l) = node-kept ws k j n (leb-true 1 k e) l ne
-        kept (no l) = let z : j ≡ 0 = omega arith in rw z (none (stored ws k n) ws)
-    go true false e = refl
-    go false b e = refl
+    -- the node that ends where its words end is what was put there
+    pub node-put : node-at there end ≡ n
+    unfolding node-at
+    node-put =
+        let s = words-some n in
+        rw (ne-eqb end 0 (λ e. omega arith), head-put ws b n room, right-back, value-put) node-back

@@ -1,26 +1,22 @@
--- Whether nodes may be lent, test by test, in the order of the code.
+-- Whether words may be lent, test by test, in the order of the code.
 use mathlib.Core.Path.{_≡_, refl, sym, ap, _∙_}
 use mathlib.Core.List.{List}
 use mathlib.Core.Bool.{Bool, true, false, _&&_, _||_, not}
-use Prim.Native.Nat.{ℕ, zero, suc, _+_, _-_, _/_, _%_, _^_, _≤_, _<_}
-use native.Mathlib.Numerals.{add-one}
+use Prim.Native.Nat.{ℕ, zero, suc, _+_, _-_, _/_, _≤_, _<_}
 use native.Mathlib.Decide.{decLt}
 use native.Mathlib.Omega.{arith}
 use lib.Dec.{eqb, leb, ltb}
+use lib.ListN.{getD}
 use borrow.Author.Tests.{eq-eqb, ne-eqb, lt-ltb, le-ltb, le-leb, lt-leb, not-true, not-false}
-use Rattle.lists.specs.Lists.{every, count-from}
 use Rattle.calls.specs.Validity.{valid-name}
 use Rattle.text.specs.Words.{name-of}
-use Rattle.schema.proofs.Lookups.{rest, every-stop, every-on, every-end}
+use Rattle.masks.specs.Masks.{bit?}
 use Rattle.nodes.specs.declared.Node.{Node}
-use Rattle.nodes.specs.Nodes.{node-at, link, comparing, reaches, linked, in-mask, terms-sound, node-sound, nodes-sound}
-use Rattle.nodes.proofs.Reaching.{link-falls, reaches-step, reaches-stop}
+use Rattle.nodes.specs.Nodes.{node-of, node-at, node-words, link, comparing, reaches, linked, in-mask, terms-sound, node-sound, all-sound, nodes-sound}
+use Rattle.nodes.proofs.Puts.{words-some}
+use Rattle.nodes.proofs.Reaching.{link-falls, reaches-step, reaches-stop, reaches-fuel}
 
-and-true : (a : Bool) → a ≡ (a && true)
-and-true true = refl
-and-true false = refl
-
-or-false : (a : Bool) → a ≡ (a || false)
+pub or-false : (a : Bool) → (a || false) ≡ a
 or-false true = refl
 or-false false = refl
 
@@ -31,33 +27,28 @@ module _ (ws : List ℕ) (k : ℕ) where
   unfolding link
   link-none e = omega arith
 
-  pub link-high : {n : Node} → n ≡ node-at ws k → k - 1 < n .before → k - 1 ≡ link ws k
-  unfolding link
-  link-high {n} e h = let b = ap (λ m. m .before) e in omega arith
+  module _ (ne : k ≡ 0 → ⊥) {w : ℕ} (e : w ≡ getD ws (k - 1) 0) where
+    before-word : node-at ws k .before ≡ w / 16777216
+    unfolding node-at node-of
+    before-word = rw (ne-eqb k 0 ne, e)
 
-  pub link-low : {n : Node} → n ≡ node-at ws k → n .before ≤ k - 1 → n .before ≡ link ws k
-  unfolding link
-  link-low {n} e h = let b = ap (λ m. m .before) e in omega arith
+    pub link-high : k - 1 < w / 16777216 → k - 1 ≡ link ws k
+    unfolding link
+    link-high h = let b = before-word in omega arith
+
+    pub link-low : w / 16777216 ≤ k - 1 → w / 16777216 ≡ link ws k
+    unfolding link
+    link-low h = let b = before-word in omega arith
 
 pub ruleset link-ends = (link-none, link-high, link-low)
 
 -- ---- down to a stop
 
 module _ (ws : List ℕ) (stop : ℕ) where
-  -- steps that suffice are as good as others
-  reaches-any : (f g j : ℕ) → j < f → j < g → reaches f ws stop j ≡ reaches g ws stop j
-  reaches-any zero g j h k = absurd (omega arith)
-  reaches-any (suc f) zero j h k = absurd (omega arith)
-  reaches-any (suc f) (suc g) j h k = go (decLt stop j) (λ l. reaches-any f g (link ws j) (omega (arith, link-falls ws j)) (omega (arith, link-falls ws j)))
-    where
-      go : Dec (stop < j) → (stop < j → reaches f ws stop (link ws j) ≡ reaches g ws stop (link ws j)) → reaches (suc f) ws stop j ≡ reaches (suc g) ws stop j
-      go (yes l) i = reaches-step ws f stop j l ∙ i l ∙ sym (reaches-step ws g stop j l)
-      go (no l) i = reaches-stop ws f stop j (omega arith) ∙ sym (reaches-stop ws g stop j (omega arith))
-
   pub reaches-on : (j at : ℕ) {i : ℕ} → reaches (suc j) ws stop j ≡ reaches (suc at) ws stop at → stop < at → i ≡ link ws at → reaches (suc j) ws stop j ≡ reaches (suc i) ws stop i
   reaches-on j at {i} inv h e =
       let l = link-falls ws at in
-      inv ∙ reaches-step ws at stop at h ∙ rw e (reaches-any at (suc (link ws at)) (link ws at) (omega arith) (omega arith))
+      inv ∙ reaches-step ws at stop at h ∙ rw e (reaches-fuel ws at (suc (link ws at)) stop (link ws at) (omega arith) (omega arith))
 
   pub reaches-falls : (at : ℕ) {i : ℕ} → stop < at → i ≡ link ws at → i < at
   reaches-falls at h e = omega (arith, link-falls ws at)
@@ -73,51 +64,62 @@ pub compare-none : (n : Node) → n .head ≡ 0 → false ≡ comparing n
 unfolding comparing
 compare-none n e = rw (lt-leb 1 (n .head) (omega arith))
 
-pub compare-some : (n : Node) → (n .head ≡ 0 → ⊥) → leb (n .head) 6 ≡ comparing n
+pub compare-some : (n : Node) → (n .head ≡ 0 → ⊥) → ltb (n .head) 7 ≡ comparing n
 unfolding comparing
-compare-some n e = rw (le-leb 1 (n .head) (omega arith))
+compare-some n e = go (decLt (n .head) 7)
+  where
+    go : Dec (n .head < 7) → ltb (n .head) 7 ≡ (leb 1 (n .head) && leb (n .head) 6)
+    go (yes h) = rw (lt-ltb (n .head) 7 h, le-leb 1 (n .head) (omega arith), le-leb (n .head) 6 (omega arith))
+    go (no h) = rw (le-ltb (n .head) 7 (omega arith), le-leb 1 (n .head) (omega arith), lt-leb (n .head) 6 (omega arith))
 
 pub ruleset compare-ends = (compare-none, compare-some)
 
-not-comparing : (n : Node) → 7 ≤ n .head → comparing n ≡ false
+pub not-comparing : (n : Node) → 7 ≤ n .head → comparing n ≡ false
 unfolding comparing
 not-comparing n h = rw (le-leb 1 (n .head) (omega arith), lt-leb (n .head) 6 (omega arith))
 
-module _ (ws : List ℕ) (k : ℕ) (n : Node) (e : n ≡ node-at ws k) where
-  pub linked-test : {x : Bool} → x ≡ comparing n → x ≡ true → eqb (n .before + 1) k ≡ linked ws k
+module _ (ws : List ℕ) (k : ℕ) (n : Node) {x : Bool} (p : x ≡ comparing n) where
+  pub linked-test : x ≡ true → {m : ℕ} → m ≡ node-words n → eqb (n .before + m) k ≡ linked ws k n
   unfolding linked
-  linked-test p t = rw (← e, sym p ∙ t, add-one (n .before))
+  linked-test t e = rw (sym p ∙ t, e)
 
-  pub linked-low : {x : Bool} → x ≡ comparing n → x ≡ false → n .head < 7 → false ≡ linked ws k
-  unfolding linked
-  linked-low p f h = rw (← e, sym p ∙ f, lt-leb 7 (n .head) h)
-
-  pub linked-high : 9 < n .head → false ≡ linked ws k
-  unfolding linked
-  linked-high h = rw (← e, not-comparing n (omega arith), le-leb 7 (n .head) (omega arith), lt-leb (n .head) 9 h)
-
-  module _ (l : 7 ≤ n .head) (h : n .head ≤ 9) where
-    pub linked-tight : k ≤ n .before + 1 → false ≡ linked ws k
+  module _ (f : x ≡ false) where
+    pub linked-right : (n .right ≡ 0 → ⊥) → false ≡ linked ws k n
     unfolding linked
-    linked-tight g = rw (← e, not-comparing n l, le-leb 7 (n .head) l, le-leb (n .head) 9 h, le-ltb (suc (n .before)) k (omega arith))
+    linked-right r = rw (sym p ∙ f, ne-eqb (n .right) 0 r)
 
-    module _ (g : n .before + 1 < k) {r : Bool} (p : r ≡ reaches (suc (k - 1)) ws (n .before) (k - 1)) where
-      at-stop : reaches k ws (n .before) (k - 1) ≡ r
-      at-stop = let z : k ≡ suc (k - 1) = omega arith in ap (λ f. reaches f ws (n .before) (k - 1)) z ∙ sym p
-
-      pub linked-astray : not r ≡ true → false ≡ linked ws k
+    module _ (r : n .right ≡ 0) where
+      pub linked-low : n .head < 7 → false ≡ linked ws k n
       unfolding linked
-      linked-astray f = rw (← e, not-comparing n l, le-leb 7 (n .head) l, le-leb (n .head) 9 h, lt-ltb (suc (n .before)) k (omega arith), at-stop, not-true r f)
+      linked-low h = rw (sym p ∙ f, eq-eqb (n .right) 0 r, lt-leb 7 (n .head) h)
 
-      pub linked-list : not r ≡ false → n .head < 9 → true ≡ linked ws k
-      unfolding linked
-      linked-list f m = rw (← e, not-comparing n l, le-leb 7 (n .head) l, le-leb (n .head) 9 h, lt-ltb (suc (n .before)) k (omega arith), at-stop, not-false r f, lt-ltb (n .head) 9 m)
+      module _ (l : 7 ≤ n .head) where
+        pub linked-high : 9 < n .head → false ≡ linked ws k n
+        unfolding linked
+        linked-high h = rw (sym p ∙ f, eq-eqb (n .right) 0 r, le-leb 7 (n .head) l, lt-leb (n .head) 9 h)
 
-      pub linked-not : not r ≡ false → 9 ≤ n .head → {b : ℕ} → b ≡ link ws (k - 1) → eqb b (n .before) ≡ linked ws k
-      unfolding linked
-      linked-not f m {b} q = rw (← e, not-comparing n l, le-leb 7 (n .head) l, le-leb (n .head) 9 h, lt-ltb (suc (n .before)) k (omega arith), at-stop, not-false r f, le-ltb (n .head) 9 m, ← q)
+        module _ (h : n .head ≤ 9) where
+          pub linked-tight : k ≤ n .before + 1 → false ≡ linked ws k n
+          unfolding linked
+          linked-tight g = rw (sym p ∙ f, eq-eqb (n .right) 0 r, le-leb 7 (n .head) l, le-leb (n .head) 9 h, le-ltb (suc (n .before)) k (omega arith))
 
-pub ruleset linked-ends = (linked-test, linked-low, linked-high, linked-tight, linked-astray, linked-list, linked-not)
+          module _ (g : n .before + 1 < k) {s : Bool} (q : s ≡ reaches (suc (k - 1)) ws (n .before) (k - 1)) where
+            at-stop : reaches k ws (n .before) (k - 1) ≡ s
+            at-stop = let z : k ≡ suc (k - 1) = omega arith in ap (λ f. reaches f ws (n .before) (k - 1)) z ∙ sym q
+
+            pub linked-astray : not s ≡ true → false ≡ linked ws k n
+            unfolding linked
+            linked-astray a = rw (sym p ∙ f, eq-eqb (n .right) 0 r, le-leb 7 (n .head) l, le-leb (n .head) 9 h, lt-ltb (suc (n .before)) k (omega arith), at-stop, not-true s a)
+
+            pub linked-list : not s ≡ false → n .head < 9 → true ≡ linked ws k n
+            unfolding linked
+            linked-list a m = rw (sym p ∙ f, eq-eqb (n .right) 0 r, le-leb 7 (n .head) l, le-leb (n .head) 9 h, lt-ltb (suc (n .before)) k (omega arith), at-stop, not-false s a, lt-ltb (n .head) 9 m)
+
+            pub linked-not : not s ≡ false → 9 ≤ n .head → {b : ℕ} → b ≡ link ws (k - 1) → eqb b (n .before) ≡ linked ws k n
+            unfolding linked
+            linked-not a m {b} e = rw (sym p ∙ f, eq-eqb (n .right) 0 r, le-leb 7 (n .head) l, le-leb (n .head) 9 h, lt-ltb (suc (n .before)) k (omega arith), at-stop, not-false s a, le-ltb (n .head) 9 m, ← e)
+
+pub ruleset linked-ends = (linked-test, linked-right, linked-low, linked-high, linked-tight, linked-astray, linked-list, linked-not)
 
 -- ---- terms
 
@@ -125,9 +127,9 @@ pub mask-past : (mask code : ℕ) → 24 ≤ code → false ≡ in-mask mask cod
 unfolding in-mask
 mask-past mask code h = rw (le-ltb code 24 h)
 
-pub mask-bit : (mask code : ℕ) → code < 24 → eqb (mask / (2 ^ code) % 2) 1 ≡ in-mask mask code
+pub mask-bit : (mask code : ℕ) {x : Bool} → code < 24 → x ≡ bit? mask code → x ≡ in-mask mask code
 unfolding in-mask
-mask-bit mask code h = rw (lt-ltb code 24 h)
+mask-bit mask code h e = rw (lt-ltb code 24 h) e
 
 pub ruleset mask-ends = (mask-past, mask-bit)
 
@@ -144,7 +146,7 @@ module _ (mask : ℕ) (n : Node) {x : Bool} (p : x ≡ in-mask mask (n .left)) w
     module _ (g : y ≡ false) where
       pub terms-number : n .right ≡ 26 → ltb (n .value) 4294967296 ≡ terms-sound mask n
       unfolding terms-sound
-      terms-number e = rw (sym p ∙ not-false x t, sym q ∙ g, eq-eqb (n .right) 26 e, ne-eqb (n .right) 27 (λ i. omega arith)) (or-false (ltb (n .value) 4294967296))
+      terms-number e = rw (sym p ∙ not-false x t, sym q ∙ g, eq-eqb (n .right) 26 e, ne-eqb (n .right) 27 (λ i. omega arith)) (sym (or-false (ltb (n .value) 4294967296)))
 
       pub terms-entry : (n .right ≡ 26 → ⊥) → n .right ≡ 27 → {z : Bool} → z ≡ valid-name (name-of (n .value)) → z ≡ terms-sound mask n
       unfolding terms-sound
@@ -156,45 +158,90 @@ module _ (mask : ℕ) (n : Node) {x : Bool} (p : x ≡ in-mask mask (n .left)) w
 
 pub ruleset terms-ends = (terms-left, terms-column, terms-number, terms-entry, terms-none)
 
--- ---- a node, and the first n
+-- ---- a node, and those before it
 
-module _ (mask : ℕ) (ws : List ℕ) (k : ℕ) {x : Bool} (p : x ≡ linked ws k) where
-  pub node-unlinked : not x ≡ true → false ≡ node-sound mask ws k
+module _ (mask : ℕ) (ws : List ℕ) (k : ℕ) (n : Node) {x : Bool} (p : x ≡ linked ws k n) where
+  pub node-unlinked : not x ≡ true → false ≡ node-sound mask ws k n
   unfolding node-sound
   node-unlinked f = rw (sym p ∙ not-true x f)
 
-  module _ (t : not x ≡ false) {n : Node} (e : n ≡ node-at ws k) {y : Bool} (q : y ≡ comparing n) where
-    pub node-inner : not y ≡ true → true ≡ node-sound mask ws k
+  module _ (t : not x ≡ false) {y : Bool} (q : y ≡ comparing n) where
+    pub node-inner : not y ≡ true → true ≡ node-sound mask ws k n
     unfolding node-sound
-    node-inner f = rw (sym p ∙ not-false x t, ← e, sym q ∙ not-true y f)
+    node-inner f = rw (sym p ∙ not-false x t, sym q ∙ not-true y f)
 
-    pub node-test : not y ≡ false → {z : Bool} → z ≡ terms-sound mask n → z ≡ node-sound mask ws k
+    pub node-test : not y ≡ false → {z : Bool} → z ≡ terms-sound mask n → z ≡ node-sound mask ws k n
     unfolding node-sound
-    node-test f {z} v = rw (sym p ∙ not-false x t, ← e, sym q ∙ not-false y f, ← v)
+    node-test f {z} v = rw (sym p ∙ not-false x t, sym q ∙ not-false y f, ← v)
 
-pub ruleset node-ends = (node-unlinked, node-inner, node-test)
+pub ruleset sound-ends = (node-unlinked, node-inner, node-test)
 
-module _ (mask : ℕ) (ws : List ℕ) (n : ℕ) where
-  -- the first n and those from the i-th on
-  abbrev pub every-node : Bool
-  every-node = every (node-sound mask ws) (count-from 1 n)
+module _ (mask : ℕ) (ws : List ℕ) where
+  pub all-none : (f k : ℕ) → k ≡ 0 → all-sound f mask ws k ≡ true
+  unfolding all-sound
+  all-none zero k e = refl
+  all-none (suc f) k e = let z = eq-eqb k 0 e in rw (z, all-sound)
 
-  abbrev pub nodes-from : ℕ → Bool
-  nodes-from i = every (node-sound mask ws) (rest (i + 1) (n + 1))
+  pub all-step : (f k : ℕ) → 0 < k → all-sound (suc f) mask ws k ≡ (node-sound mask ws k (node-at ws k) && all-sound f mask ws (k - node-words (node-at ws k)))
+  unfolding all-sound
+  all-step f k h = let z = ne-eqb k 0 (λ e. omega arith) in rw (z, all-sound)
 
-  pub nodes-start : every-node ≡ nodes-from 0
-  nodes-start = let e : n + 1 - 1 ≡ n = omega arith in rw e
+  -- steps enough are enough
+  pub all-fuel : (f g k : ℕ) → k < f → k < g → all-sound f mask ws k ≡ all-sound g mask ws k
+  all-fuel zero g k h i = absurd (omega arith)
+  all-fuel (suc f) zero k h i = absurd (omega arith)
+  all-fuel (suc f) (suc g) k h i =
+      go (decLt 0 k) (λ l. all-fuel f g (k - node-words (node-at ws k)) (omega (arith, words-some (node-at ws k))) (omega (arith, words-some (node-at ws k))))
+    where
+      go : Dec (0 < k) → (0 < k → all-sound f mask ws (k - node-words (node-at ws k)) ≡ all-sound g mask ws (k - node-words (node-at ws k))) → all-sound (suc f) mask ws k ≡ all-sound (suc g) mask ws k
+      go (yes l) r = all-step f k l ∙ ap (λ b. node-sound mask ws k (node-at ws k) && b) (r l) ∙ sym (all-step g k l)
+      go (no l) r = all-none (suc f) k (omega arith) ∙ sym (all-none (suc g) k (omega arith))
 
-  module _ (i : ℕ) (inv : every-node ≡ nodes-from i) where
-    pub nodes-stop : {x : Bool} → i < n → x ≡ node-sound mask ws (i + 1) → not x ≡ true → false ≡ nodes-sound mask ws n
-    unfolding nodes-sound
-    nodes-stop {x} l p f = rw (sym (every-stop (node-sound mask ws) every-node (i + 1) (n + 1) inv (omega arith) (sym p ∙ not-true x f)))
+  -- the walk goes on before a node's words
+  pub all-before : (k : ℕ) → 0 < k → node-sound mask ws k (node-at ws k) ≡ true → all-sound (suc k) mask ws k ≡ all-sound (suc (k - node-words (node-at ws k))) mask ws (k - node-words (node-at ws k))
+  all-before k h e =
+      all-step k k h ∙ ap (λ b. b && all-sound k mask ws (k - node-words (node-at ws k))) e
+      ∙ all-fuel k (suc (k - node-words (node-at ws k))) (k - node-words (node-at ws k)) (omega (arith, words-some (node-at ws k))) (omega arith)
 
-    pub nodes-on : {x : Bool} → i < n → x ≡ node-sound mask ws (i + 1) → not x ≡ false → every-node ≡ nodes-from (i + 1)
-    nodes-on {x} l p f = every-on (node-sound mask ws) every-node (i + 1) (n + 1) inv (omega arith) (sym p ∙ not-false x f)
+  -- all that is left of the first n
+  abbrev pub left-sound : ℕ → Bool
+  left-sound k = all-sound (suc k) mask ws k
 
-    pub nodes-end : {r : Bool} → n ≤ i → r ≡ reaches (suc n) ws 0 n → r ≡ nodes-sound mask ws n
-    unfolding nodes-sound
-    nodes-end l e = rw (sym (every-end (node-sound mask ws) every-node (i + 1) (n + 1) inv (omega arith))) e
+  module _ (n k : ℕ) (inv : left-sound n ≡ left-sound k) where
+    pub all-end : k ≤ 0 → true ≡ left-sound n
+    all-end h = sym (inv ∙ all-none (suc k) k (omega arith))
 
-pub ruleset nodes-ends = (nodes-start, nodes-stop, nodes-on, nodes-end)
+    module _ (h : 0 < k) {m : Node} (e : m ≡ node-at ws k) {x : Bool} (p : x ≡ node-sound mask ws k m) where
+      pub all-stop : not x ≡ true → false ≡ left-sound n
+      all-stop f =
+          let z : node-sound mask ws k (node-at ws k) ≡ false = ap (node-sound mask ws k) (sym e) ∙ sym p ∙ not-true x f in
+          sym (inv ∙ all-step k k h ∙ ap (λ b. b && all-sound k mask ws (k - node-words (node-at ws k))) z)
+
+      module _ (f : not x ≡ false) {size : ℕ} (d : size ≡ node-words m) where
+        on : left-sound n ≡ left-sound (k - size)
+        on =
+            let z : node-sound mask ws k (node-at ws k) ≡ true = ap (node-sound mask ws k) (sym e) ∙ sym p ∙ not-false x f in
+            let y : node-words (node-at ws k) ≡ size = ap node-words (sym e) ∙ sym d in
+            inv ∙ all-before k h z ∙ ap (λ w. left-sound (k - w)) y
+
+        pub all-front : k < size → true ≡ left-sound n
+        all-front l = sym (on ∙ all-none (suc (k - size)) (k - size) (omega arith))
+
+        pub all-on : size ≤ k → left-sound n ≡ left-sound (k - size)
+        all-on l = on
+
+        pub all-falls : k - size < k
+        all-falls = omega (arith, words-some m)
+
+pub ruleset all-ends = (all-end, all-stop, all-front, all-falls, all-on)
+
+module _ (mask : ℕ) (ws : List ℕ) (n : ℕ) {x : Bool} (p : x ≡ all-sound (suc n) mask ws n) where
+  pub nodes-stop : not x ≡ true → false ≡ nodes-sound mask ws n
+  unfolding nodes-sound
+  nodes-stop f = rw (sym p ∙ not-true x f)
+
+  pub nodes-end : {r : Bool} → not x ≡ false → r ≡ reaches (suc n) ws 0 n → r ≡ nodes-sound mask ws n
+  unfolding nodes-sound
+  nodes-end f e = rw (sym p ∙ not-false x f) e
+
+pub ruleset nodes-ends = (nodes-stop, nodes-end)

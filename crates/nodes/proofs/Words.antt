@@ -6,59 +6,106 @@ use native.Mathlib.Omega.{arith}
 use lib.ListN.{length, getD, set, List·getD-eq-default}
 use borrow.Author.Tests.{eq-eqb, ne-eqb, le-leb, lt-leb}
 use Rattle.nodes.specs.declared.Node.{Node}
-use Rattle.nodes.specs.Nodes.{no-node, node-of, node-at}
-use Rattle.nodes.specs.Storing.{first-word, put-node}
+use Rattle.nodes.specs.Nodes.{no-node, node-of, node-words, value-at, node-at}
+use Rattle.nodes.specs.Storing.{head-word, put-value, put-node}
 
 -- ---- read
 
-pub node-parts : (w low high : ℕ) {v : ℕ} → v ≡ low + high * 4294967296
-    → record { head = w % 256; left = w / 256 % 256; right = w / 65536 % 256; before = w / 16777216; value = v } ≡ node-of w low high
+pub node-parts : (w v : ℕ) → _≡_ {A = Node} (record { head = w % 256; left = w / 256 % 256; right = w / 65536 % 256; before = w / 16777216; value = v }) (node-of w v)
 unfolding node-of
-node-parts w low high e = rw e
+node-parts w v = refl
 
 module _ (ws : List ℕ) where
-  pub word-past : (at d : ℕ) → length ws ≤ at → 0 ≡ getD ws (at + d) 0
-  word-past at d h = sym (List·getD-eq-default ws 0 {n = at + d} (omega arith))
+  pub word-none : length ws ≡ 0 → 0 ≡ getD ws 0 0
+  word-none e = sym (List·getD-eq-default ws 0 {n = 0} (omega arith))
 
-  pub word-short : (at d : ℕ) → length ws - at ≤ d → 0 ≡ getD ws (at + d) 0
-  word-short at d h = sym (List·getD-eq-default ws 0 {n = at + d} (omega arith))
+  pub word-front : (k d : ℕ) {r : ℕ} → k < d → r ≡ getD ws 0 0 → r ≡ getD ws (k - d) 0
+  word-front k d h e = let z : k - d ≡ 0 = omega arith in rw z e
 
-  pub node-none : (k : ℕ) {r : Node} → k ≡ 0 → r ≡ no-node → r ≡ node-at ws k
-  unfolding node-at
-  node-none k e h = rw (eq-eqb k 0 e) h
+  pub word-past : (k d : ℕ) → length ws ≤ k - d → 0 ≡ getD ws (k - d) 0
+  word-past k d h = sym (List·getD-eq-default ws 0 {n = k - d} h)
 
-  zeros : no-node ≡ node-of 0 0 0
-  unfolding no-node node-of
-  zeros = refl
+  pub node-none : (k : ℕ) {r : Node} → k ≡ 0 → r ≡ node-of 0 0 → r ≡ node-at ws k
+  unfolding node-at no-node node-of
+  node-none k e h = h ∙ rw e
 
-  pub node-far : (k : ℕ) {r : Node} → (k ≡ 0 → ⊥) → length ws / 3 < k - 1 → r ≡ no-node → r ≡ node-at ws k
-  unfolding node-at
-  node-far k ne l h =
-      let a : getD ws ((k - 1) * 3) 0 ≡ 0 = List·getD-eq-default ws 0 {n = (k - 1) * 3} (omega arith) in
-      let b : getD ws ((k - 1) * 3 + 1) 0 ≡ 0 = List·getD-eq-default ws 0 {n = (k - 1) * 3 + 1} (omega arith) in
-      let c : getD ws ((k - 1) * 3 + 2) 0 ≡ 0 = List·getD-eq-default ws 0 {n = (k - 1) * 3 + 2} (omega arith) in
-      rw (ne-eqb k 0 ne, a, b, c) (h ∙ zeros)
+  module _ (k : ℕ) (ne : k ≡ 0 → ⊥) {w : ℕ} (e : w ≡ getD ws (k - 1) 0) {r : Node} where
+    pub node-number : w / 65536 % 256 ≡ 26 → {v : ℕ} → v ≡ getD ws (k - 2) 0 → r ≡ node-of w v → r ≡ node-at ws k
+    unfolding node-at value-at
+    node-number c {v} f h = h ∙ sym (rw (ne-eqb k 0 ne, ← e, c, ← f))
 
-  pub node-here : (k : ℕ) {r : Node} {a b c : ℕ} → (k ≡ 0 → ⊥) → a ≡ getD ws ((k - 1) * 3 + 0) 0 → b ≡ getD ws ((k - 1) * 3 + 1) 0 → c ≡ getD ws ((k - 1) * 3 + 2) 0
-      → r ≡ node-of a b c → r ≡ node-at ws k
-  unfolding node-at
-  node-here k ne a b c h =
-      let z : (k - 1) * 3 + 0 ≡ (k - 1) * 3 = omega arith in
-      rw (ne-eqb k 0 ne) (h ∙ rw (a, b, c, z))
+    pub node-entry : (w / 65536 % 256 ≡ 26 → ⊥) → w / 65536 % 256 ≡ 27 → {a b v : ℕ} → a ≡ getD ws (k - 3) 0 → b ≡ getD ws (k - 2) 0 → v ≡ a + b * 4294967296
+        → r ≡ node-of w v → r ≡ node-at ws k
+    unfolding node-at value-at
+    node-entry n c {a} {b} {v} f g j h = h ∙ sym (rw (ne-eqb k 0 ne, ← e, c, ← f, ← g, ← j))
 
-  -- ---- stored
+    pub node-plain : (w / 65536 % 256 ≡ 26 → ⊥) → (w / 65536 % 256 ≡ 27 → ⊥) → r ≡ node-of w 0 → r ≡ node-at ws k
+    unfolding node-at value-at
+    node-plain n m h = h ∙ sym (rw (ne-eqb k 0 ne, ← e, ne-eqb (w / 65536 % 256) 26 n, ne-eqb (w / 65536 % 256) 27 m))
 
-  pub put-none : (k : ℕ) (n : Node) → k ≡ 0 → ws ≡ put-node ws k n
-  unfolding put-node
-  put-none k n e = rw (lt-leb 1 k (omega arith))
+pub ruleset word-ends = (word-none, word-front, word-past)
 
-  pub put-far : (k : ℕ) (n : Node) → (k ≡ 0 → ⊥) → length ws / 3 < k → ws ≡ put-node ws k n
-  unfolding put-node
-  put-far k n ne l = rw (le-leb 1 k (omega arith), lt-leb (k * 3) (length ws) (omega arith))
+pub ruleset node-ends = (node-parts, node-none, node-number, node-entry, node-plain)
 
-  pub put-here : (k : ℕ) (n : Node) {w : ℕ} → (k ≡ 0 → ⊥) → k ≤ length ws / 3 → w ≡ first-word n
-      → set (set (set ws ((k - 1) * 3) w) ((k - 1) * 3 + 1) (n .value % 4294967296)) ((k - 1) * 3 + 2) (n .value / 4294967296) ≡ put-node ws k n
-  unfolding put-node
-  put-here k n ne l e = rw (le-leb 1 k (omega arith), le-leb (k * 3) (length ws) (omega arith), e)
+-- ---- how many words
 
-pub ruleset word-ends = (node-parts, word-past, word-short, node-none, node-far, node-here, put-none, put-far, put-here)
+module _ (n : Node) where
+  pub words-number : n .right ≡ 26 → 2 ≡ node-words n
+  unfolding node-words
+  words-number e = rw (eq-eqb (n .right) 26 e)
+
+  pub words-entry : (n .right ≡ 26 → ⊥) → n .right ≡ 27 → 3 ≡ node-words n
+  unfolding node-words
+  words-entry ne e = rw (ne-eqb (n .right) 26 ne, eq-eqb (n .right) 27 e)
+
+  pub words-plain : (n .right ≡ 26 → ⊥) → (n .right ≡ 27 → ⊥) → 1 ≡ node-words n
+  unfolding node-words
+  words-plain ne nf = rw (ne-eqb (n .right) 26 ne, ne-eqb (n .right) 27 nf)
+
+pub ruleset words-ends = (words-number, words-entry, words-plain)
+
+-- ---- stored
+
+module _ (ws : List ℕ) (b : ℕ) (n : Node) where
+  pub value-number : n .right ≡ 26 → set ws b (n .value % 4294967296) ≡ put-value ws b n
+  unfolding put-value
+  value-number e = rw (eq-eqb (n .right) 26 e)
+
+  pub value-entry : (n .right ≡ 26 → ⊥) → n .right ≡ 27 → set (set ws b (n .value % 4294967296)) (b + 1) (n .value / 4294967296 % 4294967296) ≡ put-value ws b n
+  unfolding put-value
+  value-entry ne e = rw (ne-eqb (n .right) 26 ne, eq-eqb (n .right) 27 e)
+
+  pub value-none : (n .right ≡ 26 → ⊥) → (n .right ≡ 27 → ⊥) → ws ≡ put-value ws b n
+  unfolding put-value
+  value-none ne nf = rw (ne-eqb (n .right) 26 ne, ne-eqb (n .right) 27 nf)
+
+  module _ {size : ℕ} (e : size ≡ node-words n) where
+    pub put-short : length ws < size → ws ≡ put-node ws b n
+    unfolding put-node
+    put-short l = rw (lt-leb (b + node-words n) (length ws) (omega arith))
+
+    pub put-tight : length ws - size < b → ws ≡ put-node ws b n
+    unfolding put-node
+    put-tight l = rw (lt-leb (b + node-words n) (length ws) (omega arith))
+
+    pub put-here : size ≤ length ws → b ≤ length ws - size → {us : List ℕ} → us ≡ put-value ws b n → {w : ℕ} → w ≡ head-word n → set us (b + size - 1) w ≡ put-node ws b n
+    unfolding put-node
+    put-here l h f g = rw (f, g, e, le-leb (b + node-words n) (length ws) (omega arith))
+
+-- a node's words have room
+module _ (n : Node) (b : ℕ) {l : ℕ} (room : b + node-words n ≤ l) where
+  pub room-number : n .right ≡ 26 → b < l
+  room-number e = let w = words-number n e in omega arith
+
+  module _ (ne : n .right ≡ 26 → ⊥) (e : n .right ≡ 27) where
+    pub room-low : b < l
+    room-low = let w = words-entry n ne e in omega arith
+
+    pub room-high : b + 1 < l
+    room-high = let w = words-entry n ne e in omega arith
+
+pub ruleset value-rooms = (room-number, room-low, room-high)
+
+pub ruleset value-ends = (value-number, value-entry, value-none)
+
+pub ruleset put-ends = (put-short, put-tight, put-here)

@@ -1,12 +1,13 @@
-// Conditions as nodes in lent words, three words a node: neither a recursion nor a table of grants carries them by value.
+// Conditions as nodes in words, one to three words a node: neither a recursion nor a table of grants carries them by value.
 ghost use mathlib.Core.Path.{_≡_};
-ghost use Prim.Native.Nat.{suc, _+_, _*_};
-ghost use lib.ListN.{getD};
-ghost use Rattle.nodes.specs.Nodes.{no-node, node-of, node-at, link, comparing, reaches, linked, in-mask, terms-sound, node-sound, nodes-sound};
-ghost use Rattle.nodes.specs.Storing.{first-word, put-node};
+ghost use Prim.Native.Nat.{suc, _+_, _*_, _-_, _≤_};
+ghost use lib.ListN.{length, getD};
+ghost use Rattle.nodes.specs.Nodes.{no-node, node-of, node-at, node-words, link, comparing, reaches, linked, in-mask, terms-sound, node-sound, all-sound, nodes-sound};
+ghost use Rattle.nodes.specs.Storing.{head-word, put-value, put-node};
+use terms::Term;
 
 // A comparison (heads 1 to 6: `=` `/=` `<` `<=` `>` `>=`) with the codes of its terms, or a condition of conditions (7 `and`, 8 `or`, 9 `not`).
-// `before` is the number of the last node before those of this condition. `value` is a number or the name of a profile entry.
+// `before` is how many words stand before those of this condition. `value` is a number or the name of a profile entry.
 pub struct Node {
     pub head: u32,
     pub left: u32,
@@ -16,31 +17,35 @@ pub struct Node {
 }
 
 impl Node {
-    // Words a node takes.
-    pub const WORDS: usize = 3;
-    // Nodes that the conditions of one line can have: 512 bytes, with at most 8 brackets open at once, have no room for more.
-    pub const NODES: usize = 85;
-    // The highest number of a node.
-    pub const LAST: u32 = Node::NODES as u32;
-    // Words lent for the conditions of one line.
-    pub const PLACE: usize = Node::NODES * Node::WORDS;
-    // The code of a number.
-    pub const NUMBER: u32 = 26;
-    // The code of a profile entry.
-    pub const ENTRY: u32 = 27;
+    // The heads of conditions of conditions.
+    pub const AND: u32 = 7;
+
+    pub const OR: u32 = 8;
+
+    pub const NOT: u32 = 9;
 }
 
-// A word some places after another, or 0 past the last.
-fn word(words: &[u32], at: usize, d: usize) -> u32
-    ensures { λ r. ⌜ r ≡ getD (now (words .entry)) (at + d) 0 ⌝ }
+// The word some places before another, or 0 where there is none.
+fn word(words: &[u32], k: usize, d: usize) -> u32
+    ensures { λ r. ⌜ r ≡ getD (now (words .entry)) (k - d) 0 ⌝ }
 {
-    if words.len() <= at {
+    if k < d {
+        return first(words);
+    }
+    if words.len() <= k - d {
         return 0;
     }
-    if words.len() - at <= d {
+    words[k - d]
+}
+
+// The first word, or 0 where there is none.
+fn first(words: &[u32]) -> u32
+    ensures { λ r. ⌜ r ≡ getD (now (words .entry)) 0 0 ⌝ }
+{
+    if words.len() == 0 {
         return 0;
     }
-    words[at + d]
+    words[0]
 }
 
 // A value of its two halves.
@@ -50,84 +55,103 @@ fn joined(low: u32, high: u32) -> u64
     low as u64 + high as u64 * 4294967296
 }
 
-// A node of its three words.
-fn unpacked(w: u32, low: u32, high: u32) -> Node
-    ensures { λ r. ⌜ r ≡ node-of w low high ⌝ }
+// A node of its head's word and its value.
+fn unpacked(w: u32, value: u64) -> Node
+    ensures { λ r. ⌜ r ≡ node-of w value ⌝ }
 {
     Node {
         head: w % 256,
         left: w / 256 % 256,
         right: w / 65536 % 256,
         before: w / 16777216,
-        value: joined(low, high),
+        value: value,
     }
 }
 
-fn empty() -> Node
-    ensures { λ r. ⌜ r ≡ no-node ⌝ }
-{
-    Node {
-        head: 0,
-        left: 0,
-        right: 0,
-        before: 0,
-        value: 0,
-    }
-}
-
-// Node number k; one of zeros where there is none.
+// Returns the node whose words end at a place, whatever they hold; a node of zeros at place 0.
 pub fn node_at(words: &[u32], k: usize) -> Node
     ensures { λ r. ⌜ r ≡ node-at (now (words .entry)) k ⌝ }
 {
     if k == 0 {
-        return empty();
+        return unpacked(0, 0);
     }
-    if words.len() / Node::WORDS < k - 1 {
-        return empty();
+    let w = word(words, k, 1);
+    let right = w / 65536 % 256;
+    if right == Term::NUMBER {
+        return unpacked(w, word(words, k, 2) as u64);
     }
-    let at = (k - 1) * Node::WORDS;
-    unpacked(word(words, at, 0), word(words, at, 1), word(words, at, 2))
+    if right == Term::ENTRY {
+        return unpacked(w, joined(word(words, k, 3), word(words, k, 2)));
+    }
+    unpacked(w, 0)
 }
 
-// The first word of a node: four bytes, the head lowest.
+// Returns how many words a node takes, 1 to 3.
+pub fn node_words(n: Node) -> usize
+    ensures { λ r. ⌜ r ≡ node-words n ⌝ }
+{
+    if n.right == Term::NUMBER {
+        return 2;
+    }
+    if n.right == Term::ENTRY {
+        return 3;
+    }
+    1
+}
+
+// The head's word of a node: four bytes, the head lowest.
 fn packed(n: Node) -> u32
-    ensures { λ r. ⌜ r ≡ first-word n ⌝ }
+    ensures { λ r. ⌜ r ≡ head-word n ⌝ }
 {
     n.head % 256 + n.left % 256 * 256 + n.right % 256 * 65536 + n.before % 256 * 16777216
 }
 
-// Node number k in its place; where there is no such place, nothing is changed.
-pub fn put_node(words: &mut [u32], k: usize, n: Node)
-    ensures { λ _. ⌜ now (words .exit) ≡ put-node (now (words .entry)) k n ⌝ }
+// The words of a node's value after the first b words.
+fn put_value(words: &mut [u32], b: usize, n: Node)
+    requires { ⌜ b + node-words n ≤ length (now words) ⌝ }
+    ensures { λ _. ⌜ now (words .exit) ≡ put-value (now (words .entry)) b n ⌝ }
 {
-    if k == 0 {
+    if n.right == Term::NUMBER {
+        words[b] = (n.value % 4294967296) as u32;
         return;
     }
-    if words.len() / Node::WORDS < k {
+    if n.right != Term::ENTRY {
         return;
     }
-    let at = (k - 1) * Node::WORDS;
-    words[at] = packed(n);
-    words[at + 1] = (n.value % 4294967296) as u32;
-    words[at + 2] = (n.value / 4294967296) as u32;
+    words[b] = (n.value % 4294967296) as u32;
+    words[b + 1] = (n.value / 4294967296 % 4294967296) as u32;
 }
 
-// The last node before those of the condition that ends at node k; links fall, whatever is lent.
-fn link_of(words: &[u32], k: usize) -> usize
+// Leaves the node's words after the first b, and all others as they were; all as they were where there is no room for it.
+pub fn put_node(words: &mut [u32], b: usize, n: Node)
+    ensures { λ _. ⌜ now (words .exit) ≡ put-node (now (words .entry)) b n ⌝ }
+{
+    let size = node_words(n);
+    if words.len() < size {
+        return;
+    }
+    if words.len() - size < b {
+        return;
+    }
+    put_value(words, b, n);
+    words[b + size - 1] = packed(n);
+}
+
+// Returns how many words stand before those of the condition that ends at a place: fewer than the place, whatever is lent.
+pub fn link_of(words: &[u32], k: usize) -> usize
     ensures { λ r. ⌜ r ≡ link (now (words .entry)) k ⌝ }
 {
     if k == 0 {
         return 0;
     }
-    let n = node_at(words, k);
-    let b = n.before as usize;
+    let b = (word(words, k, 1) / 16777216) as usize;
     if k - 1 < b {
         return k - 1;
     }
     b
 }
 
-// The list of conditions that ends at node j goes down to a stop.
+// The list of conditions that ends at a place goes down to a stop.
 fn reaches_stop(words: &[u32], stop: usize, j: usize) -> bool
     ensures { λ r. ⌜ r ≡ reaches (suc j) (now (words .entry)) stop j ⌝ }
 {
@@ -145,22 +169,24 @@ fn compares(n: Node) -> bool
     if n.head == 0 {
         return false;
     }
-    n.head <= 6
+    n.head < Node::AND
 }
 
 // A node's link fits its head: a comparison has nothing inside, `and` and `or` have one condition or more, `not` has one.
-fn links_well(words: &[u32], k: usize) -> bool
-    ensures { λ r. ⌜ r ≡ linked (now (words .entry)) k ⌝ }
+fn links_well(words: &[u32], k: usize, n: Node) -> bool
+    ensures { λ r. ⌜ r ≡ linked (now (words .entry)) k n ⌝ }
 {
-    let n = node_at(words, k);
     let b = n.before as usize;
     if compares(n) {
-        return b + 1 == k;
+        return b + node_words(n) == k;
     }
-    if n.head < 7 {
+    if n.right != 0 {
         return false;
     }
-    if 9 < n.head {
+    if n.head < Node::AND {
+        return false;
+    }
+    if Node::NOT < n.head {
         return false;
     }
     if k <= b + 1 {
@@ -169,7 +195,7 @@ fn links_well(words: &[u32], k: usize) -> bool
     if !reaches_stop(words, b, k - 1) {
         return false;
     }
-    if n.head < 9 {
+    if n.head < Node::NOT {
         return true;
     }
     link_of(words, k - 1) == b
@@ -179,10 +205,10 @@ fn links_well(words: &[u32], k: usize) -> bool
 fn masked(mask: u32, code: u32) -> bool
     ensures { λ r. ⌜ r ≡ in-mask mask code ⌝ }
 {
-    if 24 <= code {
+    if Term::TIME <= code {
         return false;
     }
-    (mask >> code) % 2 == 1
+    masks::shows(mask, code)
 }
 
 // The terms of a grant's comparison: a column of the mask, and such a column, a number or a profile entry.
@@ -195,38 +221,52 @@ fn terms_stand(n: Node, mask: u32) -> bool
     if masked(mask, n.right) {
         return true;
     }
-    if n.right == Node::NUMBER {
+    if n.right == Term::NUMBER {
         return n.value < 4294967296;
     }
-    if n.right == Node::ENTRY {
+    if n.right == Term::ENTRY {
         return schema::valid_name(n.value);
     }
     false
 }
 
-fn node_sound(words: &[u32], k: usize, mask: u32) -> bool
-    ensures { λ r. ⌜ r ≡ node-sound mask (now (words .entry)) k ⌝ }
+fn node_sound(words: &[u32], k: usize, n: Node, mask: u32) -> bool
+    ensures { λ r. ⌜ r ≡ node-sound mask (now (words .entry)) k n ⌝ }
 {
-    if !links_well(words, k) {
+    if !links_well(words, k, n) {
         return false;
     }
-    let n = node_at(words, k);
     if !compares(n) {
         return true;
     }
     terms_stand(n, mask)
 }
 
-// Whether the first n nodes may be lent: they are those of a list of conditions over the columns of a mask.
+// Every node is sound, from the one that ends at a place back to the first.
+fn all_sound(words: &[u32], n: usize, mask: u32) -> bool
+    ensures { λ r. ⌜ r ≡ all-sound (suc n) mask (now (words .entry)) n ⌝ }
+{
+    let mut k = n;
+    while 0 < k {
+        let node = node_at(words, k);
+        if !node_sound(words, k, node, mask) {
+            return false;
+        }
+        let size = node_words(node);
+        if k < size {
+            return true;
+        }
+        k = k - size;
+    }
+    true
+}
+
+// Returns whether the first n words may be lent (refusal 12): they are those of a list of conditions over the columns of a mask.
 pub fn nodes_sound(words: &[u32], n: usize, mask: u32) -> bool
     ensures { λ r. ⌜ r ≡ nodes-sound mask (now (words .entry)) n ⌝ }
 {
-    let mut i: usize = 0;
-    while i < n {
-        if !node_sound(words, i + 1, mask) {
-            return false;
-        }
-        i += 1;
+    if !all_sound(words, n, mask) {
+        return false;
     }
     reaches_stop(words, 0, n)
 }

@@ -1,175 +1,318 @@
--- One stream more: what the schema then stands for.
-use mathlib.Core.Path.{_≡_, refl, sym, ap, ap₂, _∙_}
-use mathlib.Core.List.{List, [], _∷_, _++_, map, map-append, map-map}
-use mathlib.Core.Bool.{Bool, true, false, _&&_, true≢false}
-use Prim.Native.Nat.{ℕ, zero, suc, _+_, _*_, _<_, _≤_, min}
-use native.Mathlib.Decide.{decLt}
+-- One stream more: the schema that the names then stand for, and that they may be lent again.
+use mathlib.Core.Path.{_≡_, sym, ap, ap₂, _∙_, subst}
+use mathlib.Core.List.{List, [], _∷_, _++_, map, map-append}
+use mathlib.Core.Bool.{not}
+use Prim.Native.Nat.{ℕ, zero, suc, _+_, _<_, _≤_}
+use native.Mathlib.Decide.{decLt, ℕ-discrete}
 use native.Mathlib.Omega.{arith}
-use lib.Dec.{leb, ltb}
-use lib.ListN.{getD, take, set, length}
-use lib.Seq.{paste, paste-zero, paste-suc, length-paste, getD-set-same, getD-set-other, take-suc}
-use borrow.Author.Tests.{le-leb, lt-leb, lt-ltb, le-ltb}
-use Rattle.lists.specs.Lists.{every, count-from}
-use Rattle.lists.proofs.Counting.{count-more}
-use Rattle.model.specs.Queries as M
-use Rattle.text.specs.Words.{name-of}
-use Rattle.schema.specs.declared.Schema.{Schema}
-use Rattle.schema.specs.Schemas.{streams-in, width-of, column-name, stream-in, schema-of, counts-sound, room, with-stream-of, put-columns, Added}
+use lib.Dec.{T, T-not, leb→le}
+use lib.ListN.{length, getD, set, length-set, List·getD-map, List·getD-eq-default}
+use lib.Seq.{paste, length-paste, getD-set-same, getD-set-other}
+use borrow.Author.Tests.{lt-ltb, le-leb}
+use Rattle.lists.specs.Lists.{every, some?, empty?, distinct, count-from, same-list}
+use Rattle.lists.proofs.Laws.{parts, same-list-refl}
+use Rattle.lists.proofs.Pasting.{paste-in, paste-out}
+use Rattle.lists.proofs.Counting.{count-more, every-at, every-places, map-alike, map-places, map-length}
+use Rattle.syntax.specs.Grammar.{Bytes, Stream, name?}
+use Rattle.syntax.specs.Limits.{short}
+use Rattle.calls.specs.Validity.{valid-name, free-name, valid-stream}
+use Rattle.calls.specs.Tables.{declared}
+use Rattle.text.specs.Words.{code-of, code-from, name-of}
+use Rattle.text.proofs.Codes.{code-above, code-below, name-back}
+use Rattle.items.specs.Items.{first-of}
+use Rattle.schema.specs.Schemas.{code-end, column-place, streams-in, width-in, column-in, stream-in, schema-of, code-free, named-from, schema-sound, with-codes}
+use Rattle.schema.proofs.Counted.{some-of-map, none-at}
+use Rattle.schema.proofs.Places.{filled-above, filled-is, filled-same}
+use Rattle.schema.proofs.Tests.{width-none}
+use Rattle.schema.proofs.Lookups.{stream-names-are}
+use Rattle.schema.proofs.Soundness.{free-made, word, named-free, named-apart, named-made, words-named, width-is, width-most, Sound, sound-facts, facts-sound}
 
--- ---- a part of a list replaced
+-- ---- the places of one stream more
 
-module _ (d : List ℕ) (at : ℕ) (s : List ℕ) where
-  pub paste-out : (n i : ℕ) → at + n ≤ length d → n ≤ length s → ((j : ℕ) → j < n → i ≡ at + j → ⊥) → getD (paste d at s n) i 0 ≡ getD d i 0
-  paste-out zero i h k ne = ap (λ (l : List ℕ). getD l i 0) (sym (paste-zero d at s))
-  paste-out (suc n) i h k ne =
-      ap (λ (l : List ℕ). getD l i 0) (sym (paste-suc d at s n 0 (omega arith) (omega arith)))
-      ∙ getD-set-other (paste d at s n) (at + n) i (getD s n 0) 0 (ne n (omega arith))
-      ∙ paste-out n i (omega arith) (omega arith) (λ j l e. ne j (omega arith) e)
+module _ (ns : List ℕ) (c : ℕ) (cs : List ℕ) (few : streams-in ns < 4) (long : 28 ≤ length ns) (six : length cs ≡ 6) where
+  abbrev more : List ℕ
+  more = with-codes ns c cs
 
-  pub paste-in : (n j : ℕ) → at + n ≤ length d → n ≤ length s → j < n → getD (paste d at s n) (at + j) 0 ≡ getD s j 0
-  paste-in zero j h k l = absurd (omega arith)
-  paste-in (suc n) j h k l =
-      let m = length-paste d at s n (omega arith) (omega arith) in
-      ap (λ (x : List ℕ). getD x (at + j) 0) (sym (paste-suc d at s n 0 (omega arith) (omega arith)))
-      ∙ go (decLt j n) (omega arith) (λ i. paste-in n j (omega arith) (omega arith) i)
+  more-is : with-codes ns c cs ≡ paste (set ns (streams-in ns) c) (column-place (streams-in ns)) cs 6
+  unfolding with-codes
+  more-is = rw (lt-ltb (streams-in ns) 4 few, le-leb 28 (length ns) long)
+
+  pub more-length : length (with-codes ns c cs) ≡ length ns
+  more-length =
+      let e = length-set ns (streams-in ns) c in
+      ap length more-is ∙ length-paste (set ns (streams-in ns) c) (column-place (streams-in ns)) cs 6 (omega arith) (omega arith) ∙ e
+
+  pub more-name : getD (with-codes ns c cs) (streams-in ns) 0 ≡ c
+  more-name =
+      let e = length-set ns (streams-in ns) c in
+      ap (λ l. getD l (streams-in ns) 0) more-is
+      ∙ paste-out (set ns (streams-in ns) c) cs (column-place (streams-in ns)) 6 0 (omega arith) (omega arith) (streams-in ns) (λ j h k. omega arith)
+      ∙ getD-set-same ns (streams-in ns) c 0 (omega arith)
+
+  pub more-column : (j : ℕ) → j < 6 → getD (with-codes ns c cs) (column-place (streams-in ns) + j) 0 ≡ getD cs j 0
+  more-column j h =
+      let e = length-set ns (streams-in ns) c in
+      ap (λ l. getD l (column-place (streams-in ns) + j) 0) more-is ∙ paste-in (set ns (streams-in ns) c) cs (column-place (streams-in ns)) 6 0 (omega arith) (omega arith) j h
+
+  -- all other places keep their numbers
+  pub more-other : (i : ℕ) → (i ≡ streams-in ns → ⊥) → ((j : ℕ) → j < 6 → i ≡ column-place (streams-in ns) + j → ⊥) → getD (with-codes ns c cs) i 0 ≡ getD ns i 0
+  more-other i f g =
+      let e = length-set ns (streams-in ns) c in
+      ap (λ l. getD l i 0) more-is
+      ∙ paste-out (set ns (streams-in ns) c) cs (column-place (streams-in ns)) 6 0 (omega arith) (omega arith) i g
+      ∙ getD-set-other ns (streams-in ns) i c 0 f
+
+  name-kept : (s : ℕ) → s < 4 → (s ≡ streams-in ns → ⊥) → getD (with-codes ns c cs) s 0 ≡ getD ns s 0
+  name-kept s h f = more-other s f (λ j k e. omega arith)
+
+  column-kept : (s j : ℕ) → (s ≡ streams-in ns → ⊥) → j < 6 → getD (with-codes ns c cs) (column-place s + j) 0 ≡ getD ns (column-place s + j) 0
+  column-kept s j f h = more-other (column-place s + j) (λ e. omega arith) (λ i k e. f (omega arith))
+
+  pub width-kept : (s : ℕ) → (s ≡ streams-in ns → ⊥) → width-in (with-codes ns c cs) s ≡ width-in ns s
+  width-kept s f = go (decLt s 4)
     where
-      go : Dec (j < n) → at + n < length (paste d at s n) → (j < n → getD (paste d at s n) (at + j) 0 ≡ getD s j 0) → getD (set (paste d at s n) (at + n) (getD s n 0)) (at + j) 0 ≡ getD s j 0
-      go (yes i) m f = getD-set-other (paste d at s n) (at + n) (at + j) (getD s n 0) 0 (λ p. omega arith) ∙ f i
-      go (no i) m f = let e : j ≡ n = omega arith in rw e (getD-set-same (paste d at s n) (at + n) (getD s n 0) 0 m)
+      go : Dec (s < 4) → width-in (with-codes ns c cs) s ≡ width-in ns s
+      go (yes h) = width-is more s h ∙ filled-same ns more (column-place s) 6 (λ j k. column-kept s j f k) ∙ sym (width-is ns s h)
+      go (no h) = sym (width-none more s (omega arith)) ∙ width-none ns s (omega arith)
 
--- ---- lists that count
+  pub older-kept : (s : ℕ) → s < streams-in ns → stream-in (with-codes ns c cs) s ≡ stream-in ns s
+  unfolding stream-in column-in
+  older-kept s h =
+      let f : s ≡ streams-in ns → ⊥ = λ e. omega arith in
+      let m = width-most ns s in
+      ap₂ (λ x ys. record { name = x; columns = ys }) (ap name-of (name-kept s (omega arith) f))
+      (ap (λ w. map (column-in more s) (count-from 0 w)) (width-kept s f)
+      ∙ map-alike (column-in more s) (column-in ns s) 0 (width-in ns s) (λ j k l. ap name-of (column-kept s j f (omega arith))))
 
-pub map-count : {B : Type 0} (f g : ℕ → B) (a k : ℕ) → ((i : ℕ) → i < a + k → f i ≡ g i) → map f (count-from a k) ≡ map g (count-from a k)
+-- ---- names and their numbers
+
+free-parts : (w : Bytes) → T (free-name w) → T (name? w) × T (short w)
+unfolding free-name valid-name
+free-parts w t = (search parts, search parts)
+
+-- a name that a stream or a column may have: its number is not 0 and has eight bytes at the most, and is its number alone
+module _ (w : Bytes) (t : T (free-name w)) where
+  free-back : name-of (code-of w) ≡ w
+  free-back = name-back w (free-parts w t .0) (free-parts w t .1)
+
+  free-above : 0 < code-of w
+  free-above = code-above w (free-parts w t .0)
+
+  free-under : code-of w < code-end
+  free-under = code-below w (free-parts w t .0) (free-parts w t .1)
+
+  pub free-code : T (code-free (code-of w))
+  free-code = free-made (code-of w) free-under (rw free-back t)
+
+getD-counted : {A : Type 0} (d : A) (f : ℕ → A) (a n j : ℕ) → j < n → getD (map f (count-from a n)) j d ≡ f (a + j)
 unfolding count-from
-map-count f g a zero e = refl
-map-count f g a (suc k) e = ap₂ _∷_ (e a (omega arith)) (map-count f g (suc a) k (λ i h. e i (omega arith)))
-
-pub every-count : (p q : ℕ → Bool) (a k : ℕ) → ((i : ℕ) → i < a + k → p i ≡ q i) → every p (count-from a k) ≡ every q (count-from a k)
-unfolding count-from every
-every-count p q a zero e = refl
-every-count p q a (suc k) e = ap₂ _&&_ (e a (omega arith)) (every-count p q (suc a) k (λ i h. e i (omega arith)))
-
-every-append : (p : ℕ → Bool) (xs : List ℕ) (x : ℕ) → p x ≡ true → every p (xs ++ (x ∷ [])) ≡ every p xs
-unfolding every
-every-append p [] x e = rw e
-every-append p (y ∷ xs) x e = ap (λ t. p y && t) (every-append p xs x e)
-
-pub take-count : (l : List ℕ) (n : ℕ) → n ≤ length l → map (λ c. getD l c 0) (count-from 0 n) ≡ take n l
-unfolding count-from
-take-count l zero h = refl
-take-count l (suc n) h =
-    let e : 0 + n ≡ n = omega arith in
-    ap (map (λ c. getD l c 0)) (count-more 0 n)
-    ∙ map-append (λ c. getD l c 0) (count-from 0 n) ((0 + n) ∷ [])
-    ∙ ap₂ _++_ (take-count l n (omega arith)) (ap (λ x. getD l x 0 ∷ []) e)
-    ∙ sym (take-suc l n 0 (omega arith))
+getD-counted d f a zero j h = absurd (omega arith)
+getD-counted d f a (suc n) zero h = let e : a ≡ a + 0 = omega arith in ap f e
+getD-counted d f a (suc n) (suc j) h = let e : suc a + j ≡ a + suc j = omega arith in getD-counted d f (suc a) n j (omega arith) ∙ ap f e
 
 -- ---- one stream more
 
-module _ (q : Schema) (n w : ℕ) (cs : List ℕ) (few : q .count < 4) (some : 0 < w) (narrow : w ≤ 6)
-    (ln : length (q .names) ≡ 4) (lw : length (q .widths) ≡ 4) (lc : length (q .columns) ≡ 24) (l6 : length cs ≡ 6) where
-  abbrev more : Schema
-  more = record { count = q .count + 1; names = set (q .names) (q .count) n; widths = set (q .widths) (q .count) w; columns = put-columns (q .columns) (q .count) cs }
+module _ (ns : List ℕ) (s : Stream) (sound : T (schema-sound ns)) (few : streams-in ns < 4) (valid : T (valid-stream s)) where
+  abbrev codes : List ℕ
+  codes = first-of 6 0 (map code-of (s .columns))
 
-  put-is : put-columns (q .columns) (q .count) cs ≡ paste (q .columns) (q .count * 6) cs 6
-  unfolding put-columns
-  put-is = rw (lt-ltb (q .count) 4 few)
+  abbrev after : List ℕ
+  after = with-codes ns (code-of (s .name)) (first-of 6 0 (map code-of (s .columns)))
 
-  column-new : (c : ℕ) → c < 6 → column-name more (q .count) c ≡ name-of (getD cs c 0)
-  unfolding column-name
-  column-new c h = rw put-is (ap name-of (paste-in (q .columns) (q .count * 6) cs 6 c (omega arith) (omega arith) h))
+  facts : Sound ns
+  facts = sound-facts ns sound
 
-  column-old : (s c : ℕ) → s < q .count → c < 6 → column-name more s c ≡ column-name q s c
-  unfolding column-name
-  column-old s c l h = rw put-is (ap name-of (paste-out (q .columns) (q .count * 6) cs 6 (s * 6 + c) (omega arith) (omega arith) (λ j i e. omega arith)))
+  six : length codes ≡ 6
+  unfolding first-of
+  six = map-length (λ i. getD (map code-of (s .columns)) i 0) 0 6
 
-  width-new : width-of more (q .count) ≡ w
-  unfolding width-of
-  width-new = let e = getD-set-same (q .widths) (q .count) w 0 (omega arith) in rw e (omega arith)
+  name-free : T (free-name (s .name))
+  unfolding valid-stream
+  name-free = search parts
 
-  width-old : (s : ℕ) → s < q .count → width-of more s ≡ width-of q s
-  unfolding width-of
-  width-old s h = ap (λ x. min x 6) (getD-set-other (q .widths) (q .count) s w 0 (λ e. omega arith))
+  columns-free : T (every free-name (s .columns))
+  unfolding valid-stream
+  columns-free = search parts
 
-  six : (s : ℕ) → width-of q s ≤ 6
-  unfolding width-of
-  six s = omega arith
+  column-free : (j : ℕ) → j < length (s .columns) → T (free-name (getD (s .columns) j []))
+  column-free j h = every-at (λ i. free-name (getD (s .columns) i [])) 0 (length (s .columns)) (rw (every-places free-name [] (s .columns)) at columns-free) j (omega arith) (omega arith)
 
-  stream-new : stream-in more (q .count) ≡ record { name = name-of n; columns = map name-of (take w cs) }
-  unfolding stream-in
+  narrow : length (s .columns) ≤ 6
+  unfolding valid-stream
+  narrow = leb→le (length (s .columns)) 6 (search parts)
+
+  some-column : 0 < length (s .columns)
+  unfolding valid-stream empty?
+  some-column = go (s .columns) (search parts)
+    where
+      go : (xs : List Bytes) → T (not (empty? xs)) → 0 < length xs
+      go [] t = absurd t
+      go (x ∷ xs) t = omega arith
+
+  columns-once : T (distinct same-list (s .columns))
+  unfolding valid-stream
+  columns-once = search parts
+
+  -- the number at a place of the new stream's columns
+  code-at : (j : ℕ) → j < 6 → getD after (column-place (streams-in ns) + j) 0 ≡ code-of (getD (s .columns) j [])
+  unfolding first-of code-of code-from
+  code-at j h =
+      let e : 0 + j ≡ j = omega arith in
+      more-column ns (code-of (s .name)) codes few (facts .long) six j h
+      ∙ getD-counted 0 (λ i. getD (map code-of (s .columns)) i 0) 0 6 j h ∙ ap (λ i. getD (map code-of (s .columns)) i 0) e
+      ∙ List·getD-map code-of (s .columns) j []
+
+  code-past : (j : ℕ) → j < 6 → length (s .columns) ≤ j → getD after (column-place (streams-in ns) + j) 0 ≡ 0
+  unfolding code-of code-from
+  code-past j h k = code-at j h ∙ ap code-of (List·getD-eq-default (s .columns) [] k)
+
+  word-at : (j : ℕ) → j < length (s .columns) → word after (column-place (streams-in ns)) j ≡ getD (s .columns) j []
+  word-at j h = let m = narrow in ap name-of (code-at j (omega arith)) ∙ free-back (getD (s .columns) j []) (column-free j h)
+
+  name-at : getD after (streams-in ns) 0 ≡ code-of (s .name)
+  name-at = more-name ns (code-of (s .name)) codes few (facts .long) six
+
+  older-name : (i : ℕ) → i < 4 → (i ≡ streams-in ns → ⊥) → getD after i 0 ≡ getD ns i 0
+  older-name = name-kept ns (code-of (s .name)) codes few (facts .long) six
+
+  older-column : (r j : ℕ) → (r ≡ streams-in ns → ⊥) → j < 6 → getD after (column-place r + j) 0 ≡ getD ns (column-place r + j) 0
+  older-column = column-kept ns (code-of (s .name)) codes few (facts .long) six
+
+  pub older-width : (r : ℕ) → (r ≡ streams-in ns → ⊥) → width-in (with-codes ns (code-of (s .name)) (first-of 6 0 (map code-of (s .columns)))) r ≡ width-in ns r
+  older-width = width-kept ns (code-of (s .name)) codes few (facts .long) six
+
+  pub older-stream : (r : ℕ) → r < streams-in ns → stream-in (with-codes ns (code-of (s .name)) (first-of 6 0 (map code-of (s .columns)))) r ≡ stream-in ns r
+  older-stream = older-kept ns (code-of (s .name)) codes few (facts .long) six
+
+  pub one-more : streams-in (with-codes ns (code-of (s .name)) (first-of 6 0 (map code-of (s .columns)))) ≡ suc (streams-in ns)
+  unfolding streams-in
+  one-more = filled-is after 0 4 (suc (streams-in ns)) few above stops
+    where
+      above : (i : ℕ) → i < suc (streams-in ns) → 0 < getD after (0 + i) 0
+      above i h = go (decLt i (streams-in ns))
+        where
+          go : Dec (i < streams-in ns) → 0 < getD after (0 + i) 0
+          go (yes l) =
+              let z : 0 + i ≡ i = omega arith in
+              let e = older-name i (omega arith) (λ p. omega arith) in
+              let f : 0 < getD ns i 0 = rw z at (filled-above ns 0 4 i l) in
+              rw z (omega arith)
+          go (no l) =
+              let z : 0 + i ≡ streams-in ns = omega arith in
+              let e = name-at in
+              let f = free-above (s .name) name-free in
+              rw z (omega arith)
+
+      stops : suc (streams-in ns) < 4 → getD after (0 + suc (streams-in ns)) 0 ≡ 0
+      stops h =
+          let z : 0 + suc (streams-in ns) ≡ suc (streams-in ns) = omega arith in
+          rw z (older-name (suc (streams-in ns)) h (λ p. omega arith) ∙ facts .after (suc (streams-in ns)) (omega arith) h)
+
+  pub width-new : width-in (with-codes ns (code-of (s .name)) (first-of 6 0 (map code-of (s .columns)))) (streams-in ns) ≡ length (s .columns)
+  width-new =
+      width-is after (streams-in ns) few
+      ∙ filled-is after (column-place (streams-in ns)) 6 (length (s .columns)) narrow
+      (λ j h. let m = narrow in let e = code-at j (omega arith) in let f = free-above (getD (s .columns) j []) (column-free j h) in omega arith)
+      (λ h. code-past (length (s .columns)) h (omega arith))
+
+  stream-new : stream-in after (streams-in ns) ≡ s
+  unfolding stream-in column-in
   stream-new =
-      let a = ap name-of (getD-set-same (q .names) (q .count) n 0 (omega arith)) in
-      let b : map (column-name more (q .count)) (count-from 0 w) ≡ map (λ c. name-of (getD cs c 0)) (count-from 0 w) = map-count (column-name more (q .count)) (λ c. name-of (getD cs c 0)) 0 w (λ i h. column-new i (omega arith)) in
-      ap₂ (λ x ys. record { name = x; columns = ys }) a (ap (λ k. map (column-name more (q .count)) (count-from 0 k)) width-new ∙ b ∙ sym (map-map name-of (λ c. getD cs c 0) (count-from 0 w)) ∙ ap (map name-of) (take-count cs w (omega arith)))
+      ap₂ (λ x ys. record { name = x; columns = ys }) (ap name-of name-at ∙ free-back (s .name) name-free)
+      (ap (λ w. map (column-in after (streams-in ns)) (count-from 0 w)) width-new
+      ∙ map-alike (column-in after (streams-in ns)) (λ j. getD (s .columns) j []) 0 (length (s .columns)) (λ j h k. word-at j (omega arith))
+      ∙ map-places [] (s .columns))
 
-  stream-old : (s : ℕ) → s < q .count → stream-in more s ≡ stream-in q s
-  unfolding stream-in
-  stream-old s h =
-      let a = ap name-of (getD-set-other (q .names) (q .count) s n 0 (λ e. omega arith)) in
-      let k = six s in
-      let b : map (column-name more s) (count-from 0 (width-of q s)) ≡ map (column-name q s) (count-from 0 (width-of q s)) = map-count (column-name more s) (column-name q s) 0 (width-of q s) (λ i l. column-old s i h (omega arith)) in
-      ap₂ (λ x ys. record { name = x; columns = ys }) a (ap (λ j. map (column-name more s) (count-from 0 j)) (width-old s h) ∙ b)
+  pub schema-more : schema-of (with-codes ns (code-of (s .name)) (first-of 6 0 (map code-of (s .columns)))) ≡ schema-of ns ++ (s ∷ [])
+  unfolding schema-of
+  schema-more =
+      let z : 0 + streams-in ns ≡ streams-in ns = omega arith in
+      ap (λ n. map (stream-in after) (count-from 0 n)) one-more
+      ∙ ap (map (stream-in after)) (count-more 0 (streams-in ns))
+      ∙ map-append (stream-in after) (count-from 0 (streams-in ns)) ((0 + streams-in ns) ∷ [])
+      ∙ ap₂ (λ xs x. xs ++ (x ∷ []))
+      (map-alike (stream-in after) (stream-in ns) 0 (streams-in ns) (λ i h k. older-kept ns (code-of (s .name)) codes few (facts .long) six i (omega arith)))
+      (ap (stream-in after) z ∙ stream-new)
 
-  streams-new : streams-in more ≡ suc (q .count)
-  unfolding streams-in
-  streams-new = omega arith
+  -- ---- which may be lent again
 
-  streams-old : streams-in q ≡ q .count
-  unfolding streams-in
-  streams-old = omega arith
+  module _ (new : T (not (declared (schema-of ns) (s .name)))) where
+    name-apart : (i : ℕ) → i < streams-in ns → getD ns i 0 ≡ code-of (s .name) → ⊥
+    unfolding declared
+    name-apart i h e =
+        let t : T (not (some? (same-list (s .name)) (map (λ r. name-of (getD ns r 0)) (count-from 0 (streams-in ns))))) = rw (stream-names-are ns) at new in
+        let u = rw (some-of-map (same-list (s .name)) (λ r. name-of (getD ns r 0)) (count-from 0 (streams-in ns))) at t in
+        T-not (same-list (s .name) (name-of (getD ns i 0))) (none-at (λ r. same-list (s .name) (name-of (getD ns r 0))) 0 (streams-in ns) u i (omega arith) (omega arith))
+        (rw (ap name-of e ∙ free-back (s .name) name-free) (same-list-refl (s .name)))
 
-  has-room : room q w ≡ true
-  unfolding room
-  has-room = rw (lt-ltb (q .count) 4 few, le-leb 1 w some, le-leb w 6 narrow)
+    names-after : T (named-from after 0 (suc (streams-in ns)))
+    names-after = named-made after 0 (suc (streams-in ns)) free apart
+      where
+        new-code : (i : ℕ) → i < suc (streams-in ns) → (i < streams-in ns → ⊥) → getD after (0 + i) 0 ≡ code-of (s .name)
+        new-code i h l = let z : 0 + i ≡ streams-in ns = omega arith in rw z name-at
 
-  declares-more : schema-of more ≡ with-stream-of q n w cs
-  unfolding schema-of with-stream-of
-  declares-more =
-      let z : 0 + q .count ≡ q .count = omega arith in
-      let s : count-from 0 (streams-in more) ≡ count-from 0 (q .count) ++ (q .count ∷ []) = ap (count-from 0) streams-new ∙ count-more 0 (q .count) ∙ ap (λ x. count-from 0 (q .count) ++ (x ∷ [])) z in
-      rw (has-room, streams-old)
-      (ap (map (stream-in more)) s
-      ∙ map-append (stream-in more) (count-from 0 (q .count)) (q .count ∷ [])
-      ∙ ap₂ (λ xs x. xs ++ (x ∷ [])) (map-count (stream-in more) (stream-in q) 0 (q .count) (λ i h. stream-old i (omega arith))) stream-new)
+        old-code : (i : ℕ) → i < streams-in ns → getD after (0 + i) 0 ≡ getD ns (0 + i) 0
+        old-code i l = let z : 0 + i ≡ i = omega arith in rw z (older-name i (omega arith) (λ p. omega arith))
 
-  counts-more : counts-sound more ≡ counts-sound q
-  unfolding counts-sound
-  counts-more =
-      let z : 0 + q .count ≡ q .count = omega arith in
-      let s : count-from 0 (streams-in more) ≡ count-from 0 (q .count) ++ (q .count ∷ []) = ap (count-from 0) streams-new ∙ count-more 0 (q .count) ∙ ap (λ x. count-from 0 (q .count) ++ (x ∷ [])) z in
-      let p : leb (getD (set (q .widths) (q .count) w) (q .count) 0) 6 ≡ true = rw (getD-set-same (q .widths) (q .count) w 0 (omega arith)) (le-leb w 6 narrow) in
-      ap₂ _&&_ (le-leb (q .count + 1) 4 (omega arith) ∙ sym (le-leb (q .count) 4 (omega arith)))
-      (ap (every (λ s. leb (getD (set (q .widths) (q .count) w) s 0) 6)) s
-      ∙ every-append (λ s. leb (getD (set (q .widths) (q .count) w) s 0) 6) (count-from 0 (q .count)) (q .count) p
-      ∙ every-count (λ s. leb (getD (set (q .widths) (q .count) w) s 0) 6) (λ s. leb (getD (q .widths) s 0) 6) 0 (q .count) (λ i h. ap (λ x. leb x 6) (getD-set-other (q .widths) (q .count) i w 0 (λ e. omega arith)))
-      ∙ ap (λ k. every (λ s. leb (getD (q .widths) s 0) 6) (count-from 0 k)) (sym streams-old))
+        free : (i : ℕ) → i < suc (streams-in ns) → T (code-free (getD after (0 + i) 0))
+        free i h = go (decLt i (streams-in ns))
+          where
+            go : Dec (i < streams-in ns) → T (code-free (getD after (0 + i) 0))
+            go (yes l) = rw (old-code i l) (named-free ns 0 (streams-in ns) (facts .names) i l)
+            go (no l) = rw (new-code i h l) (free-code (s .name) name-free)
 
-  pub added : Added q n w cs more
-  added = record { declares = declares-more; kept = λ e. absurd (true≢false (sym has-room ∙ e)); counts = counts-more }
+        apart : (i j : ℕ) → i < j → j < suc (streams-in ns) → getD after (0 + i) 0 ≡ getD after (0 + j) 0 → ⊥
+        apart i j h k e = go (decLt j (streams-in ns))
+          where
+            l : i < streams-in ns
+            l = omega arith
 
--- ---- no room
+            go : Dec (j < streams-in ns) → ⊥
+            go (yes m) = named-apart ns 0 (streams-in ns) (facts .names) i j h m (sym (old-code i l) ∙ e ∙ old-code j m)
+            go (no m) = let z : i ≡ 0 + i = omega arith in name-apart i l (ap (λ x. getD ns x 0) z ∙ sym (old-code i l) ∙ e ∙ new-code j k m)
 
-pub not-added : (q : Schema) (n w : ℕ) (cs : List ℕ) → room q w ≡ false → Added q n w cs q
-unfolding with-stream-of
-not-added q n w cs e = record { declares = rw e; kept = λ _. refl; counts = refl }
+    columns-old : (r : ℕ) → r < streams-in ns → T (named-from after (column-place r) (width-in ns r))
+    columns-old r h =
+        let m = width-most ns r in
+        let f : r ≡ streams-in ns → ⊥ = λ p. omega arith in
+        named-made after (column-place r) (width-in ns r)
+        (λ j k. rw (older-column r j f (omega arith)) (named-free ns (column-place r) (width-in ns r) (facts .columns r h) j k))
+        (λ i j k l e.
+        named-apart ns (column-place r) (width-in ns r) (facts .columns r h) i j k l (sym (older-column r i f (omega arith)) ∙ e ∙ older-column r j f (omega arith)))
 
-pub room-many : (q : Schema) (w : ℕ) → 4 ≤ q .count → room q w ≡ false
-unfolding room
-room-many q w h = rw (le-ltb (q .count) 4 h)
+    columns-new : T (named-from after (column-place (streams-in ns)) (length (s .columns)))
+    columns-new =
+        let m = narrow in
+        let e : map (word after (column-place (streams-in ns))) (count-from 0 (length (s .columns))) ≡ s .columns =
+        map-alike (word after (column-place (streams-in ns))) (λ j. getD (s .columns) j []) 0 (length (s .columns)) (λ j h k. word-at j (omega arith)) ∙ map-places [] (s .columns) in
+        words-named after (column-place (streams-in ns)) (length (s .columns))
+        (λ j h. rw (code-at j (omega arith)) (free-under (getD (s .columns) j []) (column-free j h)))
+        (subst (λ ws. T (every free-name ws)) (sym e) columns-free) (subst (λ ws. T (distinct same-list ws)) (sym e) columns-once)
 
-pub room-none : (q : Schema) (w : ℕ) → w ≡ 0 → room q w ≡ false
-unfolding room
-room-none q w h = rw h (go (ltb (q .count) 4))
-  where
-    go : (a : Bool) → (a && leb 1 0 && leb 0 6) ≡ false
-    go true = refl
-    go false = refl
+    after-facts : Sound after
+    after-facts =
+        let n = one-more in
+        record {
+          long = let e = more-length ns (code-of (s .name)) codes few (facts .long) six in let l = facts .long in omega arith;
+          names = rw one-more names-after;
+          after = λ r h k. older-name r k (λ p. omega arith) ∙ facts .after r (omega arith) k;
+          columns = λ r h. columns-at r (decLt r (streams-in ns)) (omega arith);
+          some = λ r h. some-at r (decLt r (streams-in ns)) (omega arith);
+          none = λ r h. older-width r (λ p. omega arith) ∙ facts .none r (omega arith);
+          columns-after = λ r j h k l. past-at r j (ℕ-discrete r (streams-in ns)) h k l;
+        }
+      where
+        columns-at : (r : ℕ) → Dec (r < streams-in ns) → r ≤ streams-in ns → T (named-from after (column-place r) (width-in after r))
+        columns-at r (yes l) h = rw (older-width r (λ p. omega arith)) (columns-old r l)
+        columns-at r (no l) h = let e : r ≡ streams-in ns = omega arith in rw (e, width-new) columns-new
 
-pub room-wide : (q : Schema) (w : ℕ) → 6 < w → room q w ≡ false
-unfolding room
-room-wide q w h = rw (lt-leb w 6 h) (go (ltb (q .count) 4) (leb 1 w))
-  where
-    go : (a b : Bool) → (a && b && false) ≡ false
-    go true true = refl
-    go true false = refl
-    go false b = refl
+        some-at : (r : ℕ) → Dec (r < streams-in ns) → r ≤ streams-in ns → 0 < width-in after r
+        some-at r (yes l) h = let e = older-width r (λ p. omega arith) in let f = facts .some r l in omega arith
+        some-at r (no l) h = let e : r ≡ streams-in ns = omega arith in let w = width-new in let f = some-column in rw e (omega arith)
+
+        past-at : (r j : ℕ) → Dec (r ≡ streams-in ns) → r < 4 → width-in after r ≤ j → j < 6 → getD after (column-place r + j) 0 ≡ 0
+        past-at r j (yes e) h k l = let w = width-new in let m : width-in after (streams-in ns) ≤ j = rw e at k in rw e (code-past j l (omega arith))
+        past-at r j (no f) h k l = let w = older-width r f in older-column r j f l ∙ facts .columns-after r j h (omega arith) l
+
+    pub sound-more : T (schema-sound (with-codes ns (code-of (s .name)) (first-of 6 0 (map code-of (s .columns)))))
+    sound-more = facts-sound after after-facts

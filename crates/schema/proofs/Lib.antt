@@ -1,5 +1,10 @@
-pub mod Codes
+pub mod Counted
+pub mod FreeNames
+pub mod Places
+pub mod Tests
 pub mod Lookups
-pub mod Tables
 pub mod Soundness
+pub mod Valid
+pub mod Numbers
+pub mod Puts
 pub mod Adding

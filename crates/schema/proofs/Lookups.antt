@@ -1,149 +1,129 @@
--- Loops over the places of a table: a lookup by name, a test of every place, and a test that each name is the first of its kind.
-use mathlib.Core.Path.{_≡_, refl, sym, ap, ap₂, _∙_, subst}
-use mathlib.Core.List.{List, [], _∷_, map}
-use mathlib.Core.Bool.{Bool, true, false, _&&_, _||_, not, cond}
+-- The schema that lent names stand for: how many streams and columns it has, and which stream has a name.
+use mathlib.Core.Path.{_≡_, refl, sym, ap, _∙_}
+use mathlib.Core.List.{List, [], _∷_, map, map-map}
+use mathlib.Core.Bool.{Bool, true, false, _||_, cond}
 use Prim.Native.Nat.{ℕ, zero, suc, _+_, _-_, _<_, _≤_}
-use native.Mathlib.Numerals.{add-one}
 use native.Mathlib.Omega.{arith}
-use lib.Dec.{eqb}
-use borrow.Author.Tests.{eq-eqb, ne-eqb, eqb-true, eqb-false}
-use Rattle.lists.specs.Lists.{every, some?, distinct, count-from, same-list, position}
+use lib.Dec.{ltb}
+use lib.ListN.{length, getD, length-map}
+use borrow.Author.Tests.{ne-eqb, lt-ltb, le-ltb, ltb-true, ltb-false}
+use Rattle.lists.specs.Lists.{some?, count-from, nth, same-list, position}
 use Rattle.lists.proofs.Laws.{same-list-refl, T-true}
-use Rattle.syntax.specs.Grammar.{Bytes}
+use Rattle.lists.proofs.Counting.{count-left, count-done, map-length, nth-map}
+use Rattle.syntax.specs.Grammar.{Bytes, Stream}
+use Rattle.model.specs.Queries.{no-stream, col, columns-of}
+use Rattle.calls.specs.Names.{stream-names, columns-named, stream-number}
+use Rattle.calls.specs.Tables.{declared}
 use Rattle.text.specs.Words.{name-of}
-use Rattle.schema.proofs.Codes.{name-one}
+use Rattle.schema.specs.Schemas.{code-end, streams-in, width-in, column-in, stream-in, schema-of}
+use Rattle.schema.proofs.FreeNames.{name-one}
 
--- the places from i to n
-abbrev pub rest : ℕ → ℕ → List ℕ
-rest i n = count-from i (n - i)
+-- ---- the first of a name
 
-rest-more : (i n : ℕ) → i < n → rest i n ≡ i ∷ rest (i + 1) n
-unfolding count-from
-rest-more i n h =
-    let e : n - i ≡ suc (n - (i + 1)) = omega arith in
-    rw (e, add-one i)
+-- the names that stand from place i on, up to n
+abbrev pub names : List ℕ → ℕ → ℕ → List Bytes
+names ns i n = map (λ j. name-of (getD ns j 0)) (count-from i (n - i))
 
-rest-none : (i n : ℕ) → n ≤ i → rest i n ≡ []
-unfolding count-from
-rest-none i n h = let e : n - i ≡ 0 = omega arith in rw e
+pub stream-names-are : (ns : List ℕ) → stream-names (schema-of ns) ≡ map (λ s. name-of (getD ns s 0)) (count-from 0 (streams-in ns))
+unfolding stream-names schema-of stream-in
+stream-names-are ns = map-map (λ s. s .name) (stream-in ns) (count-from 0 (streams-in ns))
 
--- ---- a lookup among numbers
+pub seek-start : (ns : List ℕ) (code : ℕ) {n : ℕ} → n ≡ streams-in ns → stream-number (schema-of ns) (name-of code) ≡ 0 + position (name-of code) (names ns 0 n)
+unfolding stream-number
+seek-start ns code {n} e =
+    let z : streams-in ns ≡ n - 0 = omega arith in
+    let p = ap (position (name-of code)) (stream-names-are ns ∙ ap (λ m. map (λ s. name-of (getD ns s 0)) (count-from 0 m)) z) in
+    omega arith
 
-module _ (f : ℕ → ℕ) where
-  -- the names that stand at the places from i to n
-  abbrev pub names : ℕ → ℕ → List Bytes
-  names i n = map (λ j. name-of (f j)) (rest i n)
+module _ (ns : List ℕ) (code i n p : ℕ) (inv : p ≡ i + position (name-of code) (names ns i n)) where
+  pub seek-found : {x : ℕ} → i < n → x ≡ getD ns i 0 → x ≡ code → i ≡ p
+  unfolding position
+  seek-found h e f =
+      let s : same-list (name-of code) (name-of (getD ns i 0)) ≡ true = rw (sym e ∙ f) (T-true (same-list (name-of code) (name-of code)) (same-list-refl (name-of code))) in
+      let z : position (name-of code) (names ns i n) ≡ 0 = rw (count-left i n h, s) in
+      omega arith
 
-  module _ (code i n p : ℕ) (inv : p ≡ i + position (name-of code) (names i n)) where
-    pub seek-found : i < n → f i ≡ code → i ≡ p
-    unfolding position
-    seek-found h e =
-        let s : same-list (name-of code) (name-of (f i)) ≡ true = rw e (T-true (same-list (name-of code) (name-of code)) (same-list-refl (name-of code))) in
-        let z : position (name-of code) (names i n) ≡ 0 = rw (rest-more i n h, s) in
-        omega arith
+  pub seek-on : {x : ℕ} → i < n → x ≡ getD ns i 0 → code < code-end → x < code-end → (x ≡ code → ⊥) → p ≡ i + 1 + position (name-of code) (names ns (i + 1) n)
+  unfolding position
+  seek-on {x} h e l m d =
+      let k : getD ns i 0 < code-end = omega arith in
+      let s : same-list (name-of code) (name-of (getD ns i 0)) ≡ false = name-one code (getD ns i 0) l k ∙ ne-eqb code (getD ns i 0) (λ q. d (e ∙ sym q)) in
+      let z : position (name-of code) (names ns i n) ≡ suc (position (name-of code) (names ns (i + 1) n)) = rw (count-left i n h, s) in
+      omega arith
 
-    pub seek-on : i < n → code < 18446744073709551616 → f i < 18446744073709551616 → (f i ≡ code → ⊥) → p ≡ i + 1 + position (name-of code) (names (i + 1) n)
-    unfolding position
-    seek-on h l m d =
-        let s : same-list (name-of code) (name-of (f i)) ≡ false = name-one code (f i) l m ∙ ne-eqb code (f i) (λ e. d (sym e)) in
-        let z : position (name-of code) (names i n) ≡ suc (position (name-of code) (names (i + 1) n)) = rw (rest-more i n h, s) in
-        omega arith
+  pub seek-end : i ≤ n → n ≤ i → n ≡ p
+  unfolding position
+  seek-end h k =
+      let z : position (name-of code) (names ns i n) ≡ 0 = rw (count-done i n k) in
+      omega arith
 
-    pub seek-end : i ≤ n → n ≤ i → n ≡ p
-    unfolding position
-    seek-end h k =
-        let z : position (name-of code) (names i n) ≡ 0 = rw (rest-none i n k) in
-        omega arith
+pub ruleset seek-ends = (seek-start, seek-found, seek-on, seek-end)
 
--- ---- a test of every place
+-- ---- how many there are, and what they are called
 
-module _ (P : ℕ → Bool) (t : Bool) (i n : ℕ) (inv : t ≡ every P (rest i n)) where
-  pub every-stop : i < n → P i ≡ false → false ≡ t
-  unfolding every
-  every-stop h e = rw (inv, rest-more i n h, e)
+pub length-schema : (ns : List ℕ) → length (schema-of ns) ≡ streams-in ns
+unfolding schema-of
+length-schema ns = map-length (stream-in ns) 0 (streams-in ns)
 
-  pub every-on : i < n → P i ≡ true → t ≡ every P (rest (i + 1) n)
-  unfolding every
-  every-on h e = inv ∙ rw (rest-more i n h, e)
+nth-past : {A : Type 0} (d : A) (xs : List A) (n : ℕ) → length xs ≤ n → nth d xs n ≡ d
+unfolding nth
+nth-past d [] n h = refl
+nth-past d (x ∷ xs) zero h = absurd (omega arith)
+nth-past d (x ∷ xs) (suc n) h = nth-past d xs n (omega arith)
 
-  pub every-end : n ≤ i → true ≡ t
-  unfolding every
-  every-end h = rw (inv, rest-none i n h)
+zero-add : (n : ℕ) → 0 + n ≡ n
+zero-add n = omega arith
 
-pub every-of-map : {A B : Type 0} (p : B → Bool) (f : A → B) (xs : List A) → every p (map f xs) ≡ every (λ x. p (f x)) xs
-unfolding every
-every-of-map p f [] = refl
-every-of-map p f (x ∷ xs) = ap (λ t. p (f x) && t) (every-of-map p f xs)
+module _ (ns : List ℕ) where
+  pub stream-word : (s : ℕ) → s < streams-in ns → nth [] (stream-names (schema-of ns)) s ≡ name-of (getD ns s 0)
+  stream-word s h = rw (stream-names-are ns) (nth-map [] (λ i. name-of (getD ns i 0)) 0 (streams-in ns) s h ∙ ap (λ i. name-of (getD ns i 0)) (zero-add s))
 
--- ---- no name twice
+  module _ (s : ℕ) (h : s < streams-in ns) where
+    pub stream-is : nth no-stream (schema-of ns) s ≡ stream-in ns s
+    unfolding schema-of
+    stream-is = nth-map no-stream (stream-in ns) 0 (streams-in ns) s h ∙ ap (stream-in ns) (zero-add s)
 
-pub every-both : {A : Type 0} (p q : A → Bool) (xs : List A) → (every p xs && every q xs) ≡ every (λ x. p x && q x) xs
-unfolding every
-every-both p q [] = refl
-every-both p q (x ∷ xs) = and-swap (p x) (every p xs) (q x) (every q xs) ∙ ap (λ t. (p x && q x) && t) (every-both p q xs)
+    pub columns-are : columns-named (schema-of ns) s ≡ map (column-in ns s) (count-from 0 (width-in ns s))
+    unfolding columns-named stream-in
+    columns-are = ap (λ t. t .columns) stream-is
+
+    pub length-columns : length (columns-named (schema-of ns) s) ≡ width-in ns s
+    length-columns = ap length columns-are ∙ map-length (column-in ns s) 0 (width-in ns s)
+
+    pub stream-columns : columns-of (schema-of ns) s ≡ map (col s) (count-from 0 (width-in ns s))
+    unfolding columns-of columns-named
+    stream-columns = ap (λ n. map (col s) (count-from 0 n)) length-columns
+
+    pub column-word : (c : ℕ) → c < width-in ns s → nth [] (columns-named (schema-of ns) s) c ≡ column-in ns s c
+    column-word c k = rw columns-are (nth-map [] (column-in ns s) 0 (width-in ns s) c k ∙ ap (column-in ns s) (zero-add c))
+
+  pub columns-past : (s : ℕ) → streams-in ns ≤ s → columns-named (schema-of ns) s ≡ []
+  unfolding columns-named no-stream
+  columns-past s h = ap (λ t. t .columns) (nth-past no-stream (schema-of ns) s (let e = length-schema ns in omega arith))
+
+-- ---- a name is declared where it is found among the streams
+
+suc-ltb : (a b : ℕ) → ltb (suc a) (suc b) ≡ ltb a b
+suc-ltb a b = go (ltb a b) refl
   where
-    and-swap : (a b c d : Bool) → ((a && b) && (c && d)) ≡ ((a && c) && (b && d))
-    and-swap true b true d = refl
-    and-swap true true false d = refl
-    and-swap true false false d = refl
-    and-swap false b c d = refl
+    go : (t : Bool) → ltb a b ≡ t → ltb (suc a) (suc b) ≡ t
+    go true e = let h = ltb-true a b e in lt-ltb (suc a) (suc b) (omega arith)
+    go false e = let h = ltb-false a b e in le-ltb (suc a) (suc b) (omega arith)
 
-none-every : {A B : Type 0} (p : B → Bool) (f : A → B) (xs : List A) → not (some? p (map f xs)) ≡ every (λ x. not (p (f x))) xs
-unfolding every some?
-none-every p f [] = refl
-none-every p f (x ∷ xs) = go (p (f x)) (none-every p f xs)
+pub found-below : (n : Bytes) (ns : List Bytes) → some? (same-list n) ns ≡ ltb (position n ns) (length ns)
+unfolding position some?
+found-below n [] = sym (le-ltb 0 0 (omega arith))
+found-below n (m ∷ ms) = go (same-list n m) (found-below n ms)
   where
-    go : (b : Bool) → not (some? p (map f xs)) ≡ every (λ x. not (p (f x))) xs → not (b || some? p (map f xs)) ≡ (not b && every (λ x. not (p (f x))) xs)
-    go true e = refl
-    go false e = e
+    go : (t : Bool) → some? (same-list n) ms ≡ ltb (position n ms) (length ms) → (t || some? (same-list n) ms) ≡ ltb (cond t 0 (suc (position n ms))) (suc (length ms))
+    go true e = sym (lt-ltb 0 (suc (length ms)) (omega arith))
+    go false e = e ∙ sym (suc-ltb (position n ms) (length ms))
 
-every-same : (p q : ℕ → Bool) (b k : ℕ) → ((i : ℕ) → b ≤ i → p i ≡ q i) → every p (count-from b k) ≡ every q (count-from b k)
-unfolding every count-from
-every-same p q b zero f = refl
-every-same p q b (suc k) f = ap₂ _&&_ (f b (omega arith)) (every-same p q (suc b) k (λ i h. f i (omega arith)))
+pub declared-below : (ns : List ℕ) (w : Bytes) → declared (schema-of ns) w ≡ ltb (stream-number (schema-of ns) w) (streams-in ns)
+unfolding declared stream-number stream-names
+declared-below ns w =
+    found-below w (stream-names (schema-of ns))
+    ∙ ap (ltb (position w (stream-names (schema-of ns)))) (length-map (schema-of ns) (λ (s : Stream). s .name) ∙ length-schema ns)
 
-same-sym : (xs ys : Bytes) → same-list xs ys ≡ same-list ys xs
-unfolding same-list
-same-sym [] [] = refl
-same-sym [] (y ∷ ys) = refl
-same-sym (x ∷ xs) [] = refl
-same-sym (x ∷ xs) (y ∷ ys) = ap₂ _&&_ (eqb-sym x y) (same-sym xs ys)
-  where
-    eqb-sym : (m n : ℕ) → eqb m n ≡ eqb n m
-    eqb-sym m n = go (eqb m n) refl
-      where
-        go : (b : Bool) → eqb m n ≡ b → b ≡ eqb n m
-        go true e = sym (eq-eqb n m (sym (eqb-true m n e)))
-        go false e = sym (ne-eqb n m (λ p. eqb-false m n e (sym p)))
-
--- no list stands twice where each is the first of its kind
-module _ (g : ℕ → Bytes) where
-  abbrev own : ℕ → ℕ → ℕ → Bool
-  own a k i = eqb (a + position (g i) (map g (count-from a k))) i
-
-  own-first : (a k : ℕ) → own a (suc k) a ≡ true
-  unfolding position count-from
-  own-first a k = rw (T-true (same-list (g a) (g a)) (same-list-refl (g a))) (eq-eqb (a + 0) a (omega arith))
-
-  own-later : (a k i : ℕ) → suc a ≤ i → (not (same-list (g a) (g i)) && own (suc a) k i) ≡ own a (suc k) i
-  unfolding position count-from
-  own-later a k i h = go (same-list (g i) (g a)) (same-sym (g a) (g i))
-    where
-      go : (b : Bool) → same-list (g a) (g i) ≡ b → (not (same-list (g a) (g i)) && eqb (suc a + position (g i) (map g (count-from (suc a) k))) i) ≡ eqb (a + cond b 0 (suc (position (g i) (map g (count-from (suc a) k))))) i
-      go true e = rw e (sym (ne-eqb (a + 0) i (λ p. omega arith)))
-      go false e = rw e (ap (λ m. eqb m i) (let z : suc a + position (g i) (map g (count-from (suc a) k)) ≡ a + suc (position (g i) (map g (count-from (suc a) k))) = omega arith in z))
-
-  once-from : (a k : ℕ) → distinct same-list (map g (count-from a k)) ≡ every (own a k) (count-from a k)
-  unfolding distinct count-from every
-  once-from a zero = refl
-  once-from a (suc k) =
-      ap₂ _&&_ (none-every (same-list (g a)) g (count-from (suc a) k)) (once-from (suc a) k)
-      ∙ every-both (λ i. not (same-list (g a) (g i))) (own (suc a) k) (count-from (suc a) k)
-      ∙ every-same _ _ (suc a) k (own-later a k)
-      ∙ ap (λ t. t && every (own a (suc k)) (count-from (suc a) k)) (sym (own-first a k))
-
-  once : (n : ℕ) → distinct same-list (map g (rest 0 n)) ≡ every (λ i. eqb (position (g i) (map g (rest 0 n))) i) (rest 0 n)
-  once n = once-from 0 (n - 0) ∙ every-same _ _ 0 (n - 0) (λ i h. ap (λ m. eqb m i) (let z : 0 + position (g i) (map g (rest 0 n)) ≡ position (g i) (map g (rest 0 n)) = omega arith in z))
-
-  pub once-of : (n : ℕ) (ls : List Bytes) → ls ≡ map g (rest 0 n) → distinct same-list ls ≡ every (λ i. eqb (position (g i) ls) i) (rest 0 n)
-  once-of n ls e = subst (λ (xs : List Bytes). distinct same-list xs ≡ every (λ i. eqb (position (g i) xs) i) (rest 0 n)) (sym e) (once n)
+pub column-below : (ns : List ℕ) (s : ℕ) (w : Bytes) → s < streams-in ns → some? (same-list w) (columns-named (schema-of ns) s) ≡ ltb (position w (columns-named (schema-of ns) s)) (width-in ns s)
+column-below ns s w h = found-below w (columns-named (schema-of ns) s) ∙ ap (ltb (position w (columns-named (schema-of ns) s))) (length-columns ns s h)

@@ -1,43 +1,51 @@
-// The declared streams: at most four, each with one to six columns. Names are numbers.
+// The declared streams as lent numbers: the names of four streams, then those of six columns for each; 0 where there is none.
 ghost use mathlib.Core.Path.{_≡_};
-ghost use mathlib.Core.List.{[]};
-ghost use Prim.Native.Nat.{_+_, _*_};
+ghost use Prim.Native.Nat.{_+_, _≤_, _<_};
 ghost use lib.ListN.{getD};
-ghost use Rattle.lists.specs.Lists.{position, every, distinct, same-list};
-ghost use Rattle.syntax.specs.Grammar.{letter, alnum, name?};
-ghost use Rattle.calls.specs.Names.{stream-number, stream-names, columns-named};
-ghost use Rattle.calls.specs.Validity.{free-name, valid-name};
+ghost use Rattle.syntax.specs.Grammar.{name?};
+ghost use Rattle.syntax.specs.Limits.{max-streams, max-columns};
+ghost use Rattle.calls.specs.Names.{stream-number};
+ghost use Rattle.calls.specs.Validity.{valid-name};
 ghost use Rattle.text.specs.Words.{name-of};
-ghost use Rattle.schema.specs.Schemas.{streams-in, width-of, columns-in, schema-of, schema-sound, stream-sound, streams-sound, Added, put-columns};
+ghost use Rattle.schema.specs.Schemas.{schema-size, filled, streams-in, width-in, schema-of, code-free, zeros, stands, named-from, stream-sound, streams-sound, schema-sound, with-codes};
+use items::Names;
+use text::Word;
 
-// The names that no stream and no column has: self, time and figure.
-const SELF: u64 = 1936026726;
-
-const TIME: u64 = 1953066341;
-
-const FIGURE: u64 = 112602893349477;
-
-// A lower-case letter.
-fn is_letter(b: u64) -> bool
-    ensures { λ r. ⌜ r ≡ letter b ⌝ }
-{
-    if b < 97 {
-        return false;
-    }
-    b <= 122
+// A stream: its name, how many columns it has, and their names.
+pub struct Stream {
+    pub name: u64,
+    pub count: u32,
+    pub columns: [u64; Names::MOST],
 }
 
-// A lower-case letter or a digit.
-fn is_alnum(b: u64) -> bool
-    ensures { λ r. ⌜ r ≡ alnum b ⌝ }
-{
-    if is_letter(b) {
-        return true;
+impl Stream {
+    // How many streams a record may have.
+    pub const MOST: usize = 4;
+    // How many columns a stream may have.
+    pub const COLUMNS: usize = Names::MOST;
+    // How many numbers are lent for the names of all of them.
+    pub const NAMES: usize = Stream::MOST + Stream::MOST * Stream::COLUMNS;
+
+    // Returns Stream::MOST, which is the bound of the definitions.
+    pub fn most() -> usize
+        ensures { λ r. ⌜ r ≡ max-streams ⌝ }
+    {
+        Stream::MOST
     }
-    if b < 48 {
-        return false;
+
+    // Returns Stream::COLUMNS, which is the bound of the definitions.
+    pub fn columns() -> usize
+        ensures { λ r. ⌜ r ≡ max-columns ⌝ }
+    {
+        Stream::COLUMNS
     }
-    b <= 57
+
+    // Returns Stream::NAMES, which follows from the two.
+    pub fn names() -> usize
+        ensures { λ r. ⌜ r ≡ schema-size ⌝ }
+    {
+        Stream::NAMES
+    }
 }
 
 // Lower-case letters and digits, a letter first: from the last byte, which is the lowest, to the first.
@@ -46,294 +54,207 @@ fn is_name(code: u64) -> bool
 {
     let mut n = code;
     while 256 <= n {
-        if !is_alnum(n % 256) {
+        if !text::is_alnum(n % 256) {
             return false;
         }
         n = n / 256;
     }
-    is_letter(n)
+    text::is_letter(n)
 }
 
-// Whether a role or a profile entry may have the name.
+// Returns whether a role or a profile entry may have the name of a number.
 pub fn valid_name(code: u64) -> bool
     ensures { λ r. ⌜ r ≡ valid-name (name-of code) ⌝ }
 {
     is_name(code)
 }
 
-// Whether a stream or a column may have the name.
+// Returns whether a stream or a column may have the name of a number.
 pub fn free_name(code: u64) -> bool
-    ensures { λ r. ⌜ r ≡ free-name (name-of code) ⌝ }
+    ensures { λ r. ⌜ r ≡ code-free code ⌝ }
 {
-    if code == SELF {
+    if code == Word::SELF {
         return false;
     }
-    if code == TIME {
+    if code == Word::TIME {
         return false;
     }
-    if code == FIGURE {
+    if code == Word::FIGURE {
         return false;
     }
     is_name(code)
 }
 
-// The columns' places with those of a stream filled; as they are for no stream.
-fn put_columns(all: [u64; 24], s: usize, columns: [u64; 6]) -> [u64; 24]
-    ensures { λ r. ⌜ r ≡ put-columns all s columns ⌝ }
+// Returns the number at a place, 0 past the end.
+pub fn name_in(names: &[u64], i: usize) -> u64
+    ensures { λ r. ⌜ r ≡ getD (now (names .entry)) i 0 ⌝ }
 {
-    let mut r = all;
-    if Schema::STREAMS <= s {
-        return r;
+    if i < names.len() { names[i] } else { 0 }
+}
+
+// How many of n numbers from a place on are not 0, up to the first that is.
+fn filled(names: &[u64], at: usize, n: usize) -> usize
+    requires { ⌜ at + n ≤ schema-size ⌝ }
+    ensures { λ r. ⌜ r ≡ filled (now (names .entry)) at n ⌝ }
+{
+    let mut i: usize = 0;
+    while i < n {
+        if name_in(names, at + i) == 0 {
+            return i;
+        }
+        i += 1;
     }
+    n
+}
+
+// Returns how many streams are declared.
+pub fn streams(names: &[u64]) -> usize
+    ensures { λ r. ⌜ r ≡ streams-in (now (names .entry)) ⌝ }
+{
+    filled(names, 0, Stream::MOST)
+}
+
+// Returns how many columns a stream has, 0 where there is no such stream.
+pub fn width(names: &[u64], s: usize) -> usize
+    ensures { λ r. ⌜ r ≡ width-in (now (names .entry)) s ⌝ }
+{
+    if Stream::MOST <= s {
+        return 0;
+    }
+    filled(names, Stream::MOST + s * Stream::COLUMNS, Stream::COLUMNS)
+}
+
+// Returns the number of the first stream of a name; how many streams there are means that there is none.
+pub fn stream_number(names: &[u64], code: u64) -> usize
+    ensures { λ r. ⌜ r ≡ stream-number (schema-of (now (names .entry))) (name-of code) ⌝ }
+{
+    let n = streams(names);
+    let mut s: usize = 0;
+    while s < n {
+        if name_in(names, s) == code {
+            return s;
+        }
+        s += 1;
+    }
+    n
+}
+
+// Whether n numbers from a place on are all 0.
+fn zeros(names: &[u64], at: usize, n: usize) -> bool
+    requires { ⌜ at + n ≤ schema-size ⌝ }
+    ensures { λ r. ⌜ r ≡ zeros (now (names .entry)) at n ⌝ }
+{
+    let mut i: usize = 0;
+    while i < n {
+        if name_in(names, at + i) != 0 {
+            return false;
+        }
+        i += 1;
+    }
+    true
+}
+
+// Whether a number stands among some from a place on.
+fn stands(names: &[u64], at: usize, n: usize, code: u64) -> bool
+    requires { ⌜ at + n ≤ schema-size ⌝ }
+    ensures { λ r. ⌜ r ≡ stands (now (names .entry)) at n code ⌝ }
+{
+    let mut i: usize = 0;
+    while i < n {
+        if name_in(names, at + i) == code {
+            return true;
+        }
+        i += 1;
+    }
+    false
+}
+
+// Whether n numbers from a place on are names that streams and columns may have, and none stands twice.
+fn named(names: &[u64], at: usize, n: usize) -> bool
+    requires { ⌜ at + n ≤ schema-size ⌝ }
+    ensures { λ r. ⌜ r ≡ named-from (now (names .entry)) at n ⌝ }
+{
+    let mut i: usize = 0;
+    while i < n {
+        let code = name_in(names, at + i);
+        if !free_name(code) {
+            return false;
+        }
+        if stands(names, at, i, code) {
+            return false;
+        }
+        i += 1;
+    }
+    true
+}
+
+// Whether a stream's columns are as they may be: one or more of a declared stream, none of another, and no number after the last.
+fn stream_sound(names: &[u64], s: usize, n: usize) -> bool
+    requires { ⌜ s < max-streams ⌝ }
+    ensures { λ r. ⌜ r ≡ stream-sound (now (names .entry)) s n ⌝ }
+{
+    let at = Stream::MOST + s * Stream::COLUMNS;
+    let w = filled(names, at, Stream::COLUMNS);
+    if !zeros(names, at + w, Stream::COLUMNS - w) {
+        return false;
+    }
+    if n <= s {
+        return w == 0;
+    }
+    if w == 0 {
+        return false;
+    }
+    named(names, at, w)
+}
+
+// Every stream's columns are as they may be.
+fn streams_sound(names: &[u64], n: usize) -> bool
+    ensures { λ r. ⌜ r ≡ streams-sound (now (names .entry)) n ⌝ }
+{
+    let mut s: usize = 0;
+    while s < Stream::MOST {
+        if !stream_sound(names, s, n) {
+            return false;
+        }
+        s += 1;
+    }
+    true
+}
+
+// Returns whether the names may be lent (refusal 12).
+pub fn sound(names: &[u64]) -> bool
+    ensures { λ r. ⌜ r ≡ schema-sound (now (names .entry)) ⌝ }
+{
+    if names.len() < Stream::NAMES {
+        return false;
+    }
+    let n = streams(names);
+    if !zeros(names, n, Stream::MOST - n) {
+        return false;
+    }
+    if !named(names, 0, n) {
+        return false;
+    }
+    streams_sound(names, n)
+}
+
+// Leaves the names with those of one stream more in the places of the next, and all others as they were; all as they were where there is no such place.
+pub fn put_stream(names: &mut [u64], stream: Stream)
+    ensures { λ _. ⌜ now (names .exit) ≡ with-codes (now (names .entry)) (stream .name) (stream .columns) ⌝ }
+{
+    let s = streams(names);
+    if Stream::MOST <= s {
+        return;
+    }
+    if names.len() < Stream::NAMES {
+        return;
+    }
+    names[s] = stream.name;
+    let codes = stream.columns;
+    let at = Stream::MOST + s * Stream::COLUMNS;
     let mut c: usize = 0;
-    while c < Schema::COLUMNS {
-        r[s * Schema::COLUMNS + c] = columns[c];
+    while c < Stream::COLUMNS {
+        names[at + c] = codes[c];
         c += 1;
-    }
-    r
-}
-
-pub struct Schema {
-    // How many streams are declared.
-    pub count: u32,
-    // Their names.
-    pub names: [u64; 4],
-    // How many columns each has.
-    pub widths: [u32; 4],
-    // The columns' names, six places a stream.
-    pub columns: [u64; 24],
-}
-
-impl Schema {
-    pub const STREAMS: usize = 4;
-
-    pub const COLUMNS: usize = 6;
-
-    // No stream.
-    pub fn new() -> Schema
-        ensures { λ r. ⌜ schema-of r ≡ [] ⌝ }
-    {
-        Schema {
-            count: 0,
-            names: [0; 4],
-            widths: [0; 4],
-            columns: [0; 24],
-        }
-    }
-
-    // How many streams there are.
-    pub fn streams(self) -> usize
-        ensures { λ r. ⌜ r ≡ streams-in self ⌝ }
-    {
-        let n = self.count;
-        if n < 4 {
-            return n as usize;
-        }
-        4
-    }
-
-    // How many columns a stream has.
-    pub fn width(self, s: usize) -> usize
-        ensures { λ r. ⌜ r ≡ width-of self s ⌝ }
-    {
-        if Schema::STREAMS <= s {
-            return 0;
-        }
-        let n = self.widths[s];
-        if n < 6 {
-            return n as usize;
-        }
-        6
-    }
-
-    // A stream's name, or 0 past the last place.
-    pub fn name(self, s: usize) -> u64
-        ensures { λ r. ⌜ r ≡ getD (self .names) s 0 ⌝ }
-    {
-        if Schema::STREAMS <= s {
-            return 0;
-        }
-        self.names[s]
-    }
-
-    // The name of a stream's column, or 0 past the last place.
-    pub fn column_code(self, s: usize, c: usize) -> u64
-        ensures { λ r. ⌜ r ≡ getD (self .columns) (s * 6 + c) 0 ⌝ }
-    {
-        if Schema::STREAMS <= s {
-            return 0;
-        }
-        if 24 <= c {
-            return 0;
-        }
-        let at = s * Schema::COLUMNS + c;
-        if 24 <= at {
-            return 0;
-        }
-        self.columns[at]
-    }
-
-    // The first stream of a name, or how many streams there are.
-    pub fn stream(self, code: u64) -> usize
-        ensures { λ r. ⌜ r ≡ stream-number (schema-of self) (name-of code) ⌝ }
-    {
-        let n = self.streams();
-        let mut s: usize = 0;
-        while s < n {
-            if self.name(s) == code {
-                return s;
-            }
-            s += 1;
-        }
-        n
-    }
-
-    // The first column of a name at a stream's places, be the stream declared or not; or how many columns it has.
-    fn place(self, s: usize, code: u64) -> usize
-        ensures { λ r. ⌜ r ≡ position (name-of code) (columns-in self s) ⌝ }
-    {
-        let n = self.width(s);
-        let mut i: usize = 0;
-        while i < n {
-            if self.column_code(s, i) == code {
-                return i;
-            }
-            i += 1;
-        }
-        n
-    }
-
-    // The first column of a name in a stream, or how many columns it has: 0 for no stream.
-    pub fn column(self, s: usize, code: u64) -> usize
-        ensures { λ r. ⌜ r ≡ position (name-of code) (columns-named (schema-of self) s) ⌝ }
-    {
-        if self.streams() <= s {
-            return 0;
-        }
-        self.place(s, code)
-    }
-
-    // Every column of a stream has a name that it may have.
-    fn columns_free(self, s: usize) -> bool
-        ensures { λ r. ⌜ r ≡ every free-name (columns-in self s) ⌝ }
-    {
-        let n = self.width(s);
-        let mut i: usize = 0;
-        while i < n {
-            if !free_name(self.column_code(s, i)) {
-                return false;
-            }
-            i += 1;
-        }
-        true
-    }
-
-    // No two columns of a stream have one name: each is the first of its name.
-    fn columns_once(self, s: usize) -> bool
-        ensures { λ r. ⌜ r ≡ distinct same-list (columns-in self s) ⌝ }
-    {
-        let n = self.width(s);
-        let mut i: usize = 0;
-        while i < n {
-            if self.place(s, self.column_code(s, i)) != i {
-                return false;
-            }
-            i += 1;
-        }
-        true
-    }
-
-    // No two streams have one name: each is the first of its name.
-    fn names_once(self) -> bool
-        ensures { λ r. ⌜ r ≡ distinct same-list (stream-names (schema-of self)) ⌝ }
-    {
-        let n = self.streams();
-        let mut i: usize = 0;
-        while i < n {
-            if self.stream(self.name(i)) != i {
-                return false;
-            }
-            i += 1;
-        }
-        true
-    }
-
-    // A stream has one to six columns, and its name and theirs are as they may be.
-    fn stream_sound(self, s: usize) -> bool
-        ensures { λ r. ⌜ r ≡ stream-sound self s ⌝ }
-    {
-        if Schema::STREAMS <= s {
-            return false;
-        }
-        let n = self.widths[s];
-        if n == 0 {
-            return false;
-        }
-        if 6 < n {
-            return false;
-        }
-        if !free_name(self.name(s)) {
-            return false;
-        }
-        if !self.columns_free(s) {
-            return false;
-        }
-        self.columns_once(s)
-    }
-
-    // Every stream is sound by itself.
-    fn streams_sound(self) -> bool
-        ensures { λ r. ⌜ r ≡ streams-sound self ⌝ }
-    {
-        let n = self.streams();
-        let mut i: usize = 0;
-        while i < n {
-            if !self.stream_sound(i) {
-                return false;
-            }
-            i += 1;
-        }
-        true
-    }
-
-    // The schema with one stream more; as it is where it is full, or where the columns are none or more than six.
-    pub fn with_stream(self, name: u64, width: u32, columns: [u64; 6]) -> Schema
-        ensures { λ r. ⌜ Added self name width columns r ⌝ }
-    {
-        let n = self.count;
-        if 4 <= n {
-            return self;
-        }
-        if width == 0 {
-            return self;
-        }
-        if 6 < width {
-            return self;
-        }
-        let at = n as usize;
-        let mut names = self.names;
-        names[at] = name;
-        let mut widths = self.widths;
-        widths[at] = width;
-        let all = self.columns;
-        Schema {
-            count: n + 1,
-            names: names,
-            widths: widths,
-            columns: put_columns(all, at, columns),
-        }
-    }
-
-    // Whether the schema may be lent.
-    pub fn sound(self) -> bool
-        ensures { λ r. ⌜ r ≡ schema-sound self ⌝ }
-    {
-        if 4 < self.count {
-            return false;
-        }
-        if !self.streams_sound() {
-            return false;
-        }
-        self.names_once()
     }
 }

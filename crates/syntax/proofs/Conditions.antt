@@ -8,7 +8,7 @@ use lib.Dec.{T, eqb}
 use Rattle.lists.specs.Lists.{every, same-list}
 use Rattle.lists.proofs.Laws.{and-l, and-r, and-both, parts, cond-cases}
 use Rattle.syntax.specs.Grammar.{Bytes, Op, eq, ne, lt, le, gt, ge, Test, Cond, test, all, any, neg, Conds, last, more, ref?, operand?, test?, cond?, conds?, op-word, put-ref, put-operand, put-open, put-cond, put-conds}
-use Rattle.syntax.specs.Readers.{Read, Reader, bind, ensure, _>>=_, _>>_, give, byte, among, plain, Head, compare, and, or, not-of, head-word, heads, read-test, read-body, read-more, read-cond, read-conds}
+use Rattle.syntax.specs.Readers.{Read, Reader, bind, ensure, _>>=_, _>>_, give, byte, among, plain, Head, compare, and, or, not-of, head-word, heads, read-test, read-headed, read-more, read-cond, read-conds}
 use Rattle.syntax.proofs.Steps.{Printed, Takes, Reads, Follows, space, close, from, done, byte-step, item-step, give-step, bind-put, byte-put, item-put, Known, head-put, head-read}
 use Rattle.syntax.proofs.Terms.{ref-put, ref-read, operand-put, operand-read}
 
@@ -56,7 +56,7 @@ more-put many c (last d) rest e = rw e
 more-put many c (more d cs) rest e = rw e
 
 mutual
-  unfolding put-cond cond? read-cond read-body read-more head-word bind byte ensure give
+  unfolding put-cond cond? read-cond read-headed read-more head-word bind byte ensure give
 
   pub cond-put : (c : Cond Test) (k : ℕ) {rest : Bytes} → T (cond? c) → size c ≤ k → read-cond k (put-cond c rest) ≡ some (record { what = c; left = rest })
   cond-put (test t) zero g l = absurd (omega arith)
@@ -88,8 +88,8 @@ test-read o =
     byte-step 32 _ (item-step _ ref-read (λ a g. byte-step 32 _ (item-step _ operand-read (λ b h. byte-step 41 _ (give-step _ (and-both (ref? a) (operand? b) g h) (λ l. refl))))))
 
 module _ (one : Reader (Cond Test)) (many : Reader (Conds Test)) (one-read : Reads cond? put-cond one) (many-read : Reads conds? put-conds many) where
-  pub body-read : (h : Head) → Takes cond? put-cond (put-open (head-word h)) (read-body one many h)
-  unfolding read-body cond? put-cond head-word
+  pub body-read : (h : Head) → Takes cond? put-cond (put-open (head-word h)) (read-headed one many h)
+  unfolding read-headed cond? put-cond head-word
   body-read (compare o) = test-read o
   body-read and = item-step _ many-read (λ cs g. byte-step 41 _ (give-step _ g (λ l. refl)))
   body-read or = item-step _ many-read (λ cs g. byte-step 41 _ (give-step _ g (λ l. refl)))
@@ -110,7 +110,7 @@ mutual
 
   pub cond-read : (k : ℕ) → Reads cond? put-cond (λ r. read-cond k r)
   cond-read zero = record { taken = λ bs r e. absurd (Option·none-ne-some r e) }
-  cond-read (suc k) = item-step (read-body (λ r. read-cond k r) (λ r. read-conds k r)) (head-read head-word heads) (λ h t. body-read (λ r. read-cond k r) (λ r. read-conds k r) (cond-read k) (conds-read k) h)
+  cond-read (suc k) = item-step (read-headed (λ r. read-cond k r) (λ r. read-conds k r)) (head-read head-word heads) (λ h t. body-read (λ r. read-cond k r) (λ r. read-conds k r) (cond-read k) (conds-read k) h)
 
   pub conds-read : (k : ℕ) → Reads conds? put-conds (λ r. read-conds k r)
   conds-read zero = record { taken = λ bs r e. absurd (Option·none-ne-some r e) }

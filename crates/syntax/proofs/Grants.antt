@@ -6,16 +6,16 @@ use mathlib.Core.Option.{Option, none, some}
 use Prim.Native.Nat.{ℕ, _≤_, _<_}
 use native.Mathlib.Omega.{arith}
 use lib.IntN.{ℤ}
-use lib.Dec.{T, eqb, leb, eqb→eq, eqb-refl, leb→le, not-T}
+use lib.Dec.{T, eqb, leb, eqb→eq, leb→le, not-T}
 use lib.ListN.{length}
 use Rattle.lists.specs.Lists.{every, empty?, same-list}
-use Rattle.lists.proofs.Laws.{and-l, and-both, parts, T-true, T-false, cond-cases, All, all-both}
+use Rattle.lists.proofs.Laws.{and-l, and-both, parts, T-true, T-false, cond-cases, All, all-both, same-list-refl, every-all}
 use Rattle.syntax.specs.Grammar.{Bytes, bytes, min, max, count, avg, sum, Right, read, figures, Ref, Test, Cond, Show, everything, listed, Span, GrantLine, letter, name?, ref?, cond?, some-all, show?, grant?, fn-word, right-word, put-int, put-name, put-ref, put-open, put-items, put-cond, put-show, put-part, put-when, put-limit, put-window, put-grant}
-use Rattle.syntax.specs.Readers.{Read, Reader, bind, ensure, _>>_, give, byte, run, past, among, plain, itself, read-word, read-name, read-ref, read-some, closes, read-cond, rights, begins, read-part, read-optional, read-star, star-next, read-show, read-limit, read-window, read-when, read-grant}
-use Rattle.syntax.proofs.Steps.{Printed, Takes, Reads, Follows, space, close, from, done, byte-step, item-step, give-step, nest-step, given-step, reads-as, byte-put, item-put, Known, word-put, word-read, lone-word, open-put, open-read}
+use Rattle.syntax.specs.Readers.{Read, Reader, bind, ensure, _>>_, give, byte, run, past, among, plain, itself, read-word, read-name, read-ref, read-some, closes, read-cond, rights, word-opens, part-opens, read-part, read-optional, read-star, star-next, read-show, read-limit, read-window, read-when, read-grant}
+use Rattle.syntax.proofs.Steps.{Printed, Reads, Follows, space, close, from, done, byte-step, item-step, give-step, nest-step, given-step, reads-as, byte-put, item-put, run-put, stops-plain, Known, word-put, word-read, lone-word, open-put, open-read}
 use Rattle.syntax.proofs.Lexical.{name-put, name-read, number-put, number-read}
 use Rattle.syntax.proofs.Terms.{Starts, ref-put, ref-read, ref-first}
-use Rattle.syntax.proofs.Items.{every-all, some-every, some-filled, items-follow, some-put, some-read}
+use Rattle.syntax.proofs.Items.{some-every, some-filled, items-follow, some-put, some-read}
 use Rattle.syntax.proofs.Conditions.{size, cond-put, cond-read}
 
 -- ---- parts in brackets
@@ -34,16 +34,12 @@ pub part-follow : (w : Bytes) (put : Bytes → Bytes) (rest : Bytes) → Follows
 unfolding put-part
 part-follow w put rest = space
 
--- what shows that a part is present
-abbrev pub opening : Bytes → Bytes
-opening w = 32 ∷ (40 ∷ (w ++ (32 ∷ [])))
-
 module _ {A : Type 0} (w : Bytes) (absent : A) (part : Reader A) where
-  pub optional-present : (bs : Bytes) {y : Option (Read A)} → begins (opening w) bs ≡ true → part bs ≡ y → read-optional w absent part bs ≡ y
+  pub optional-present : (bs : Bytes) {y : Option (Read A)} → part-opens w bs ≡ true → part bs ≡ y → read-optional w absent part bs ≡ y
   unfolding read-optional
   optional-present bs b e = rw b e
 
-  pub optional-absent : (bs : Bytes) → begins (opening w) bs ≡ false → read-optional w absent part bs ≡ some (record { what = absent; left = bs })
+  pub optional-absent : (bs : Bytes) → part-opens w bs ≡ false → read-optional w absent part bs ≡ some (record { what = absent; left = bs })
   unfolding read-optional give
   optional-absent bs b = rw b
 
@@ -51,25 +47,20 @@ pub optional-read : {A : Type 0} {good : A → Bool} {put : A → Bytes → Byte
     → Reads good put part → Reads good put (read-optional w absent part)
 unfolding read-optional give
 optional-read {good} {put} {part} w absent g h s =
-    record { taken = λ bs r e. cond-cases (begins (opening w) bs) (part bs) (some _) e (λ t d. s .taken bs r d) (λ t d. done (λ x. Printed good put bs x) d (g, h bs)) }
+    record { taken = λ bs r e. cond-cases (part-opens w bs) (part bs) (some _) e (λ t d. s .taken bs r d) (λ t d. done (λ x. Printed good put bs x) d (g, h bs)) }
 
-begins-self : (w rest : Bytes) → begins (w ++ (32 ∷ [])) (w ++ (32 ∷ rest)) ≡ true
-unfolding begins
-begins-self [] rest = refl
-begins-self (b ∷ w) rest = rw (T-true (eqb b b) (eqb-refl b)) (begins-self w rest)
-
--- a part whose text goes on with a space
-part-begins : (w : Bytes) (put : Bytes → Bytes) (rest : Bytes) → begins (opening w) (put-part w (λ r. 32 ∷ put r) rest) ≡ true
-unfolding begins put-part put-open
-part-begins w put rest = begins-self w (put (41 ∷ rest))
+-- a part that is present shows by its word
+pub part-begins : (w : Bytes) (put : Bytes → Bytes) (rest : Bytes) → T (every plain w) → Follows (put (41 ∷ rest)) → part-opens w (put-part w put rest) ≡ true
+unfolding part-opens word-opens put-part put-open
+part-begins w put rest p f = rw (run-put plain w (put (41 ∷ rest)) p (stops-plain f)) (T-true (same-list w w) (same-list-refl w))
 
 -- ---- limits and the window
 
-pub limit-put : (w : Bytes) (n : Option ℤ) {rest : Bytes} → T (every plain w) → begins (opening w) rest ≡ false → read-limit w (put-limit w n rest) ≡ some (record { what = n; left = rest })
+pub limit-put : (w : Bytes) (n : Option ℤ) {rest : Bytes} → T (every plain w) → part-opens w rest ≡ false → read-limit w (put-limit w n rest) ≡ some (record { what = n; left = rest })
 unfolding read-limit put-limit give
 limit-put w none {rest} p b = optional-absent w _ _ rest b
 limit-put w (some n) {rest} p b =
-    optional-present w _ _ _ (part-begins w (put-int n) rest) (part-put w _ (λ r. 32 ∷ put-int n r) p space (item-put _ _ (number-put n close) refl))
+    optional-present w _ _ _ (part-begins w (λ r. 32 ∷ put-int n r) rest p space) (part-put w _ (λ r. 32 ∷ put-int n r) p space (item-put _ _ (number-put n close) refl))
 
 pub limit-read : (w : Bytes) → Reads (λ n. true) (put-limit w) (read-limit w)
 unfolding read-limit read-part put-limit put-part
@@ -77,11 +68,11 @@ limit-read w =
     optional-read w none tt (λ l. refl)
     (byte-step 32 _ (item-step _ (open-read w) (λ o u. nest-step _ _ _ (item-step _ number-read (λ n g. given-step _ _ (byte-step 41 _ (give-step _ tt (λ l. refl))))))))
 
-pub window-put : (s : Option Span) {rest : Bytes} → begins (opening (bytes "window")) rest ≡ false → read-window (put-window s rest) ≡ some (record { what = s; left = rest })
+pub window-put : (s : Option Span) {rest : Bytes} → part-opens (bytes "window") rest ≡ false → read-window (put-window s rest) ≡ some (record { what = s; left = rest })
 unfolding read-window put-window give every plain
 window-put none {rest} b = optional-absent (bytes "window") _ _ rest b
 window-put (some s) {rest} b =
-    optional-present (bytes "window") _ _ _ (part-begins (bytes "window") (λ r. put-int (s .size) (32 ∷ put-int (s .offset) r)) rest)
+    optional-present (bytes "window") _ _ _ (part-begins (bytes "window") (λ r. 32 ∷ put-int (s .size) (32 ∷ put-int (s .offset) r)) rest tt space)
     (part-put (bytes "window") _ (λ r. 32 ∷ put-int (s .size) (32 ∷ put-int (s .offset) r)) tt space (item-put _ _ (number-put (s .size) space) (item-put _ _ (number-put (s .offset) close) refl)))
 
 pub window-read : Reads (λ s. true) put-window read-window
@@ -105,12 +96,12 @@ conds-closed-put k cs t s l =
     some-put (λ c. T (cond? c) × (size c ≤ k)) put-cond closes (λ r. read-cond k r) (λ c rest h f. cond-put c k (h .0) (h .1)) (λ c rest h. refl) k cs
     (all-both (every-all cond? cs (some-every cond? cs t)) s) (some-filled cond? cs t) close refl l
 
-pub when-put : (k : ℕ) (cs : List (Cond Test)) {rest : Bytes} → T (every cond? cs) → Sized k cs → length cs < k → begins (opening (bytes "when")) rest ≡ false
+pub when-put : (k : ℕ) (cs : List (Cond Test)) {rest : Bytes} → T (every cond? cs) → Sized k cs → length cs < k → part-opens (bytes "when") rest ≡ false
     → read-when k (put-when cs rest) ≡ some (record { what = cs; left = rest })
 unfolding read-when put-when put-items every plain some-all empty?
 when-put k [] {rest} t s l b = optional-absent (bytes "when") _ _ rest b
 when-put k (c ∷ cs) {rest} t s l b =
-    optional-present (bytes "when") _ _ _ (part-begins (bytes "when") (λ r. put-cond c (put-items put-cond cs r)) rest)
+    optional-present (bytes "when") _ _ _ (part-begins (bytes "when") (put-items put-cond (c ∷ cs)) rest tt space)
     (part-put (bytes "when") _ (put-items put-cond (c ∷ cs)) tt space (conds-closed-put k (c ∷ cs) t s l))
 
 when-as : (cs : List (Cond Test)) → T (some-all cond? cs) → T (every cond? cs) × ((l : Bytes) → put-part (bytes "when") (put-items put-cond cs) l ≡ put-when cs l)
@@ -202,24 +193,24 @@ module _ (g : GrantLine) (rest : Bytes) where
   abbrev pub grant-body : Bytes
   grant-body = 32 ∷ put-name (g .role) (32 ∷ (right-word (g .right) ++ from-of))
 
-  pub grant-opens : put-grant g rest ≡ put-open (bytes "grant") grant-body
+  pub grant-whole : put-grant g (41 ∷ rest) ≡ grant-body
   unfolding put-grant
-  grant-opens = refl
+  grant-whole = refl
 
 -- a part that is absent is not taken for the next one
-pub no-to : (s : Option Span) (rest : Bytes) → begins (opening (bytes "to")) (put-window s (41 ∷ rest)) ≡ false
-unfolding begins put-window put-part put-open
+pub no-to : (s : Option Span) (rest : Bytes) → part-opens (bytes "to") (put-window s (41 ∷ rest)) ≡ false
+unfolding part-opens word-opens run plain same-list put-window put-part put-open
 no-to none rest = refl
 no-to (some s) rest = refl
 
-pub no-from : (t : Option ℤ) (s : Option Span) (rest : Bytes) → begins (opening (bytes "from")) (put-limit (bytes "to") t (put-window s (41 ∷ rest))) ≡ false
-unfolding begins put-limit put-window put-part put-open
+pub no-from : (t : Option ℤ) (s : Option Span) (rest : Bytes) → part-opens (bytes "from") (put-limit (bytes "to") t (put-window s (41 ∷ rest))) ≡ false
+unfolding part-opens word-opens run plain same-list put-limit put-window put-part put-open
 no-from (some n) s rest = refl
 no-from none (some s) rest = refl
 no-from none none rest = refl
 
-pub no-when : (f t : Option ℤ) (s : Option Span) (rest : Bytes) → begins (opening (bytes "when")) (put-limit (bytes "from") f (put-limit (bytes "to") t (put-window s (41 ∷ rest)))) ≡ false
-unfolding begins put-limit put-window put-part put-open
+pub no-when : (f t : Option ℤ) (s : Option Span) (rest : Bytes) → part-opens (bytes "when") (put-limit (bytes "from") f (put-limit (bytes "to") t (put-window s (41 ∷ rest)))) ≡ false
+unfolding part-opens word-opens run plain same-list put-limit put-window put-part put-open
 no-when (some n) t s rest = refl
 no-when none (some n) s rest = refl
 no-when none none (some s) rest = refl
@@ -237,8 +228,8 @@ unfolding put-show
 show-follow everything rest f = space
 show-follow (listed rs) rest f = items-follow put-ref rs f
 
-pub grant-put : (k : ℕ) (g : GrantLine) {rest : Bytes} → T (grant? g) → Grant-fits k g → read-grant k (grant-body g rest) ≡ some (record { what = g; left = rest })
-unfolding read-grant grant? give every plain begins
+pub grant-put : (k : ℕ) (g : GrantLine) {rest : Bytes} → T (grant? g) → Grant-fits k g → read-grant k (grant-body g rest) ≡ some (record { what = g; left = 41 ∷ rest })
+unfolding read-grant grant? give every plain part-opens
 grant-put k g {rest} t f =
     let t-role : T (name? (g .role)) = search parts in
     let t-of : T (some-all name? (g .of)) = search parts in
@@ -250,14 +241,13 @@ grant-put k g {rest} t f =
     (item-put _ _ (when-put k (g .when) t-when (f .brackets) (f .tests) (no-when (g .from) (g .to) (g .window) rest))
     (item-put _ _ (limit-put (bytes "from") (g .from) tt (no-from (g .to) (g .window) rest))
     (item-put _ _ (limit-put (bytes "to") (g .to) tt (no-to (g .window) rest))
-    (item-put _ _ (window-put (g .window) refl)
-    (byte-put 41 _ refl))))))))))
+    (item-put _ _ (window-put (g .window) refl) refl)))))))))
 
 grant-good : (g : GrantLine) → T (name? (g .role)) → T (some-all name? (g .of)) → T (show? (g .show)) → T (every cond? (g .when)) → T (grant? g)
 unfolding grant?
 grant-good g a b c d = search and-both
 
-pub grant-read : (k : ℕ) → Takes grant? put-grant (put-open (bytes "grant")) (read-grant k)
+pub grant-read : (k : ℕ) → Reads grant? put-grant (read-grant k)
 unfolding read-grant put-grant
 grant-read k =
     byte-step 32 _ (item-step _ name-read (λ role t-role. byte-step 32 _ (item-step _ (word-read right-word rights) (λ right t-right.
@@ -267,4 +257,4 @@ grant-read k =
     item-step _ (limit-read (bytes "from")) (λ from t-from.
     item-step _ (limit-read (bytes "to")) (λ to t-to.
     item-step _ window-read (λ window t-window.
-    byte-step 41 _ (give-step _ (grant-good (record { role = role; right = right; of = of; show = show; when = when; from = from; to = to; window = window }) t-role t-of t-show t-when) (λ l. refl))))))))))))
+    give-step _ (grant-good (record { role = role; right = right; of = of; show = show; when = when; from = from; to = to; window = window }) t-role t-of t-show t-when) (λ l. refl)))))))))))

@@ -8,17 +8,12 @@ use native.Mathlib.Omega.{arith}
 use lib.Dec.{T}
 use lib.ListN.{length}
 use Rattle.lists.specs.Lists.{every, empty?}
-use Rattle.lists.proofs.Laws.{and-l, and-r, and-both, parts, T-true, cond-cases, All, all-nil, all-cons}
+use Rattle.lists.proofs.Laws.{and-both, parts, T-true, cond-cases, All, all-cons}
 use Rattle.syntax.specs.Grammar.{Bytes, some-all, put-items}
 use Rattle.syntax.specs.Readers.{Read, Reader, bind, ensure, byte, read-items, read-some}
 use Rattle.syntax.proofs.Steps.{Printed, Reads, Follows, space, from, ensured, done, byte-read}
 
 module _ {A : Type 0} where
-  pub every-all : (p : A → Bool) (xs : List A) → T (every p xs) → All (λ x. T (p x)) xs
-  unfolding every
-  every-all p [] t = all-nil
-  every-all p (x ∷ xs) t = all-cons (and-l (p x) (every p xs) t) (every-all p xs (and-r (p x) (every p xs) t))
-
   pub some-every : (p : A → Bool) (xs : List A) → T (some-all p xs) → T (every p xs)
   unfolding some-all
   some-every p xs t = search parts

@@ -1,11 +1,15 @@
--- A text is at least as long as the numbers that bound its readers.
+-- A text is at least as long as the numbers that bound its readers, and the shortest texts.
+use mathlib.Core.Path.{_≡_, ap}
 use mathlib.Core.List.{List, [], _∷_, _++_}
 use Prim.Native.Nat.{ℕ, suc, _+_, _≤_, _<_}
 use native.Mathlib.Omega.{arith}
 use lib.IntN.{ℤ, pos, negsuc}
-use lib.ListN.{length}
-use Rattle.lists.proofs.Laws.{all-nil, all-cons}
-use Rattle.syntax.specs.Grammar.{Bytes, bytes, Ref, dotted, time, figure, Operand, ref, number, Test, Cond, test, all, any, neg, Conds, last, more, Form, rows, pick, keep, join, aggregate, Show, everything, listed, GrantLine, Entry, eq, op-word, fn-word, right-word, digits-from, put-nat, put-int, put-name, put-ref, put-operand, put-open, put-items, put-cond, put-conds, put-equality, put-form, put-show, put-part, put-when, put-entry}
+use lib.Dec.{T}
+use lib.ListN.{length, length-append}
+use Rattle.lists.proofs.Laws.{parts, all-nil, all-cons}
+use Rattle.syntax.specs.Grammar.{Bytes, bytes, Op, Ref, dotted, time, figure, Operand, ref, number, Test, Cond, test, all, any, neg, Conds, last, more, Form, rows, pick, keep, join, aggregate, Show, everything, listed, GrantLine, Entry, eq, ne, lt, le, gt, ge, name?, ref?, operand?, test?, op-word, fn-word, right-word, digits-from, put-nat, put-int, put-name, put-ref, put-operand, put-open, put-items, put-cond, put-conds, put-equality, put-form, put-show, put-part, put-when, put-entry}
+use Rattle.syntax.specs.Readers.{numeral}
+use Rattle.syntax.proofs.Lexical.{numeral-nat}
 use Rattle.syntax.proofs.Conditions.{size, sizes}
 use Rattle.syntax.proofs.Queries.{form-size}
 use Rattle.syntax.proofs.Grants.{Sized, shown, Grant-fits, from-from, from-when, from-show, from-of, grant-body}
@@ -66,7 +70,7 @@ mutual
   conds-room (last c) rest = let k = cond-room c rest in omega arith
   conds-room (more c cs) rest = let k = cond-room c (put-conds cs rest) in let h = conds-room cs rest in omega arith
 
-cond-under : (c : Cond Test) (rest : Bytes) → length rest ≤ length (put-cond c rest)
+pub cond-under : (c : Cond Test) (rest : Bytes) → length rest ≤ length (put-cond c rest)
 cond-under c rest = let h = cond-room c rest in omega arith
 
 sized : (n : ℕ) (cs : List (Cond Test)) (rest : Bytes) → length (put-items put-cond cs rest) ≤ n → Sized n cs
@@ -145,3 +149,73 @@ entry-room e rest =
     let h = open-room (bytes "self") (32 ∷ put-name (e .name) (32 ∷ put-int (e .value) (41 ∷ rest))) in
     let k = name-room (e .name) (32 ∷ put-int (e .value) (41 ∷ rest)) in
     let l = int-room (e .value) (41 ∷ rest) in omega arith
+
+-- ---- the shortest texts
+
+pub name-filled : (w : Bytes) → T (name? w) → 1 ≤ length w
+unfolding name?
+name-filled [] t = absurd t
+name-filled (b ∷ w) t = omega arith
+
+pub name-some : (w rest : Bytes) → T (name? w) → 1 + length rest ≤ length (put-name w rest)
+unfolding put-name
+name-some w rest t = let h = name-filled w t in let e = length-append w rest in omega arith
+
+nat-some : (n : ℕ) (rest : Bytes) → 1 + length rest ≤ length (put-nat n rest)
+unfolding put-nat numeral
+nat-some n rest = go (digits-from (suc n) n []) (numeral-nat n)
+  where
+    go : (ds : Bytes) → T (numeral ds) → 1 + length rest ≤ length (ds ++ rest)
+    go [] t = absurd t
+    go (d ∷ ds) t = let h = append-room ds rest in omega arith
+
+pub int-some : (z : ℤ) (rest : Bytes) → 1 + length rest ≤ length (put-int z rest)
+unfolding put-int
+int-some (pos n) rest = nat-some n rest
+int-some (negsuc n) rest = let h = nat-some (suc n) rest in omega arith
+
+pub dotted-some : (n m rest : Bytes) → T (name? n) → T (name? m) → 3 + length rest ≤ length (put-ref (dotted n m) rest)
+unfolding put-ref put-name
+dotted-some n m rest t u = let h = name-some n (46 ∷ put-name m rest) t in let k = name-some m rest u in omega arith
+
+pub self-some : (m rest : Bytes) → T (name? m) → 6 + length rest ≤ length (put-ref (dotted (bytes "self") m) rest)
+unfolding put-ref put-name
+self-some m rest u = let k = name-some m rest u in omega arith
+
+pub ref-some : (r : Ref) (rest : Bytes) → T (ref? r) → 3 + length rest ≤ length (put-ref r rest)
+unfolding put-ref ref?
+ref-some (dotted n m) rest t = dotted-some n m rest (search parts) (search parts)
+ref-some time rest t = omega arith
+ref-some figure rest t = omega arith
+
+pub number-some : (z : ℤ) (rest : Bytes) → 1 + length rest ≤ length (put-operand (number z) rest)
+unfolding put-operand
+number-some z rest = int-some z rest
+
+pub operand-some : (o : Operand) (rest : Bytes) → T (operand? o) → 1 + length rest ≤ length (put-operand o rest)
+unfolding put-operand operand?
+operand-some (ref r) rest t = let h = ref-some r rest t in omega arith
+operand-some (number z) rest t = int-some z rest
+
+pub op-some : (o : Op) → 1 ≤ length (op-word o)
+unfolding op-word
+op-some eq = omega arith
+op-some ne = omega arith
+op-some lt = omega arith
+op-some le = omega arith
+op-some gt = omega arith
+op-some ge = omega arith
+
+pub open-length : (w rest : Bytes) → length (put-open w rest) ≡ suc (length w + length rest)
+unfolding put-open
+open-length w rest = ap suc (length-append w rest)
+
+-- a comparison is nine bytes or more
+pub test-long : (t : Test) (rest : Bytes) → T (test? t) → 9 + length rest ≤ length (put-cond (test t) rest)
+unfolding put-cond test?
+test-long t rest h =
+    let e = open-length (op-word (t .op)) (32 ∷ put-ref (t .left) (32 ∷ put-operand (t .right) (41 ∷ rest))) in
+    let w = op-some (t .op) in
+    let l = ref-some (t .left) (32 ∷ put-operand (t .right) (41 ∷ rest)) (search parts) in
+    let r = operand-some (t .right) (41 ∷ rest) (search parts) in
+    omega arith

@@ -8,3 +8,6 @@ pub mod Queries
 pub mod Grants
 pub mod Lengths
 pub mod Lines
+pub mod Depths
+pub mod Exact
+pub mod Leaving

@@ -9,12 +9,12 @@ use lib.IntN.{ℤ}
 use lib.Dec.{T}
 use lib.ListN.{length}
 use Rattle.lists.specs.Lists.{every, empty?, same-list}
-use Rattle.lists.proofs.Laws.{and-both, parts, all-any}
-use Rattle.syntax.specs.Grammar.{Bytes, bytes, Form, Entry, Line, stream, grant, clock, row, clear, caller, ask, line, name?, some-all, form?, entry?, line?, put-int, put-name, put-open, put-items, put-form, put-part, put-grant, put-entry, put-line, line-text, query-text}
-use Rattle.syntax.specs.Readers.{Reader, bind, ensure, give, among, plain, read-name, read-int, read-items, read-some, closes, read-form, read-entry, Verb, v-stream, v-grant, v-clock, v-row, v-clear, v-caller, v-ask, v-line, verb-word, verbs, read-verb, read-line, parse, parse-line, parse-query}
-use Rattle.syntax.proofs.Steps.{Takes, Reads, space, close, from, ensured, byte-step, item-step, within-step, give-step, byte-put, item-put, Known, head-put, head-read, open-put, open-read}
+use Rattle.lists.proofs.Laws.{and-both, parts, all-any, every-all}
+use Rattle.syntax.specs.Grammar.{Bytes, bytes, Form, Entry, Verb, stream, grant, clock, row, clear, caller, ask, line, Body, Line, name?, some-all, form?, entry?, body?, verb-word, put-int, put-name, put-items, put-form, put-part, put-grant, put-entry, put-body, put-line, line-text, query-text}
+use Rattle.syntax.specs.Readers.{Reader, bind, ensure, give, among, plain, read-name, read-int, read-items, read-some, closes, read-form, read-entry, verbs, read-body, read-as, parse, parse-as, verb-of, parse-line, parse-query}
+use Rattle.syntax.proofs.Steps.{Reads, Follows, space, close, from, ensured, done, byte-step, item-step, give-step, bind-put, byte-put, item-put, Known, head-put, open-put, open-read}
 use Rattle.syntax.proofs.Lexical.{name-put, name-read, int-put, int-read, number-put, number-read}
-use Rattle.syntax.proofs.Items.{every-all, items-follow, items-put, items-read, some-put, some-read}
+use Rattle.syntax.proofs.Items.{items-follow, items-put, items-read, some-put, some-read}
 use Rattle.syntax.proofs.Queries.{form-size, form-put, form-read}
 use Rattle.syntax.proofs.Grants.{part-put, part-read, part-follow, names-closed-put, Grant-fits, grant-body, grant-put, grant-read}
 use Rattle.syntax.proofs.Lengths.{name-room, int-room, open-room, part-room, items-room, form-room, grant-room, entry-room}
@@ -50,74 +50,91 @@ values-put k vs t l = some-put (λ z. Unit {0}) put-int closes read-int (λ z re
 
 pub verb-known : (v : Verb) → Known verb-word verbs v
 unfolding among verb-word verbs same-list every plain
-verb-known v-stream = (refl, tt)
-verb-known v-grant = (refl, tt)
-verb-known v-clock = (refl, tt)
-verb-known v-row = (refl, tt)
-verb-known v-clear = (refl, tt)
-verb-known v-caller = (refl, tt)
-verb-known v-ask = (refl, tt)
-verb-known v-line = (refl, tt)
+verb-known stream = (refl, tt)
+verb-known grant = (refl, tt)
+verb-known clock = (refl, tt)
+verb-known row = (refl, tt)
+verb-known clear = (refl, tt)
+verb-known caller = (refl, tt)
+verb-known ask = (refl, tt)
+verb-known line = (refl, tt)
 
--- a number bounds a line's lists, conditions and queries
-abbrev pub Fits : ℕ → Line → Type 0
-Fits k (stream s cs) = length cs < k
-Fits k (grant g) = Grant-fits k g
-Fits k (clock n) = Unit {0}
-Fits k (row s vs) = length vs < k
-Fits k clear = Unit {0}
-Fits k (caller rs es) = (length rs < k) × (length es < k)
-Fits k (ask q) = form-size q ≤ k
-Fits k (line r q) = form-size q ≤ k
+pub body-follow : (v : Verb) (b : Body v) (rest : Bytes) → Follows (put-body v b (41 ∷ rest))
+unfolding put-body put-grant put-items
+body-follow stream b rest = space
+body-follow grant g rest = space
+body-follow clock n rest = space
+body-follow row b rest = space
+body-follow clear u rest = close
+body-follow caller w rest = part-follow (bytes "roles") (put-items put-name (w .roles)) (put-items put-entry (w .profile) (41 ∷ rest))
+body-follow ask q rest = space
+body-follow line l rest = space
 
-pub line-put : (k : ℕ) (l : Line) {rest : Bytes} → T (line? l) → Fits k l → read-line k (put-line l rest) ≡ some (record { what = l; left = rest })
-unfolding read-line read-verb put-line put-grant put-items line? verb-word give every plain
-line-put k (stream s cs) {rest} t f =
-    let ts : T (name? s) = search parts in
-    let tc : T (some-all name? cs) = search parts in
-    item-put _ _ (head-put verb-word verbs v-stream (verb-known v-stream) space)
-    (byte-put 32 _ (item-put _ _ (name-put s ts (items-follow put-name cs close)) (item-put _ _ (names-closed-put k cs tc f) (byte-put 41 _ refl))))
-line-put k (grant g) t f = item-put _ _ (head-put verb-word verbs v-grant (verb-known v-grant) space) (item-put _ _ (grant-put k g t f) refl)
-line-put k (clock n) t f = item-put _ _ (head-put verb-word verbs v-clock (verb-known v-clock) space) (item-put _ _ (number-put n close) (byte-put 41 _ refl))
-line-put k (row s vs) {rest} t f =
-    let ts : T (name? s) = search parts in
-    let tv : T (not (empty? vs)) = search parts in
-    item-put _ _ (head-put verb-word verbs v-row (verb-known v-row) space)
-    (byte-put 32 _ (item-put _ _ (name-put s ts (items-follow put-int vs close)) (item-put _ _ (values-put k vs tv f) (byte-put 41 _ refl))))
-line-put k clear t f = item-put _ _ (head-put verb-word verbs v-clear (verb-known v-clear) close) (byte-put 41 _ refl)
-line-put k (caller rs es) {rest} t f =
-    let tr : T (every name? rs) = search parts in
-    let te : T (every entry? es) = search parts in
-    item-put _ _ (head-put verb-word verbs v-caller (verb-known v-caller) (part-follow (bytes "roles") (put-items put-name rs) (put-items put-entry es (41 ∷ rest))))
-    (item-put _ _ (part-put (bytes "roles") _ (put-items put-name rs) tt (items-follow put-name rs close) (roles-put k rs tr (f .0))) (item-put _ _ (entries-put k es te (f .1)) (byte-put 41 _ refl)))
-line-put k (ask q) t f = item-put _ _ (head-put verb-word verbs v-ask (verb-known v-ask) space) (byte-put 32 _ (item-put _ _ (form-put q k t f) (byte-put 41 _ refl)))
-line-put k (line r q) t f =
-    item-put _ _ (head-put verb-word verbs v-line (verb-known v-line) space) (item-put _ _ (number-put r space) (byte-put 32 _ (item-put _ _ (form-put q k t f) (byte-put 41 _ refl))))
+-- a number that bounds the text bounds its lists, conditions and queries
+pub body-put : (k : ℕ) (v : Verb) (b : Body v) {rest : Bytes} → T (body? v b) → length (put-body v b (41 ∷ rest)) ≤ k
+    → read-body v k (put-body v b (41 ∷ rest)) ≡ some (record { what = b; left = 41 ∷ rest })
+unfolding read-body put-body put-grant put-items body? give every plain
+body-put k stream b {rest} t h =
+    let ts : T (name? (b .name)) = search parts in
+    let tc : T (some-all name? (b .columns)) = search parts in
+    let c = name-room (b .name) (put-items put-name (b .columns) (41 ∷ rest)) in
+    let d = items-room put-name name-room (b .columns) (41 ∷ rest) in
+    byte-put 32 _ (item-put _ _ (name-put (b .name) ts (items-follow put-name (b .columns) close)) (item-put _ _ (names-closed-put k (b .columns) tc (omega arith)) refl))
+body-put k grant g {rest} t h = grant-put k g t (grant-room g rest k h)
+body-put k clock n t h = number-put n close
+body-put k row b {rest} t h =
+    let ts : T (name? (b .name)) = search parts in
+    let tv : T (not (empty? (b .values))) = search parts in
+    let c = name-room (b .name) (put-items put-int (b .values) (41 ∷ rest)) in
+    let d = items-room put-int int-room (b .values) (41 ∷ rest) in
+    byte-put 32 _ (item-put _ _ (name-put (b .name) ts (items-follow put-int (b .values) close)) (item-put _ _ (values-put k (b .values) tv (omega arith)) refl))
+body-put k clear u t h = refl
+body-put k caller w {rest} t h =
+    let tr : T (every name? (w .roles)) = search parts in
+    let te : T (every entry? (w .profile)) = search parts in
+    let b = part-room (bytes "roles") (put-items put-name (w .roles)) (put-items put-entry (w .profile) (41 ∷ rest)) in
+    let c = items-room put-name name-room (w .roles) (41 ∷ put-items put-entry (w .profile) (41 ∷ rest)) in
+    let d = items-room put-entry entry-room (w .profile) (41 ∷ rest) in
+    item-put _ _ (part-put (bytes "roles") _ (put-items put-name (w .roles)) tt (items-follow put-name (w .roles) close) (roles-put k (w .roles) tr (omega arith)))
+    (item-put _ _ (entries-put k (w .profile) te (omega arith)) refl)
+body-put k ask q {rest} t h = byte-put 32 _ (item-put _ _ (form-put q k t (let b = form-room q (41 ∷ rest) in omega arith)) refl)
+body-put k line l {rest} t h =
+    let b = int-room (l .route) (32 ∷ put-form (l .query) (41 ∷ rest)) in
+    let c = form-room (l .query) (41 ∷ rest) in
+    item-put _ _ (number-put (l .route) space) (byte-put 32 _ (item-put _ _ (form-put (l .query) k t (omega arith)) refl))
+
+pub verb-plain : (v : Verb) → T (every plain (verb-word v))
+verb-plain v = verb-known v .1
+
+pub as-put : (k : ℕ) (v : Verb) (b : Body v) {rest : Bytes} → T (body? v b) → length (put-line v b rest) ≤ k → read-as v k (put-line v b rest) ≡ some (record { what = b; left = rest })
+unfolding read-as put-line give
+as-put k v b {rest} t h =
+    let a = open-room (verb-word v) (put-body v b (41 ∷ rest)) in
+    item-put _ _ (open-put (verb-word v) (verb-plain v) (body-follow v b rest)) (item-put _ _ (body-put k v b t (omega arith)) (byte-put 41 _ refl))
 
 -- ---- what is read was printed
 
-row-good : (s : Bytes) (vs : List ℤ) → T (name? s) → T (some-all (λ z. true) vs) → T (line? (row s vs))
-unfolding line? some-all
+row-good : (s : Bytes) (vs : List ℤ) → T (name? s) → T (some-all (λ z. true) vs) → T (body? row (record { name = s; values = vs }))
+unfolding body? some-all
 row-good s vs t u = and-both (name? s) (not (empty? vs)) t (search parts)
 
-pub verb-read : (k : ℕ) (v : Verb) → Takes line? put-line (put-open (verb-word v)) (read-verb k v)
-unfolding read-verb line? put-line put-items verb-word
-verb-read k v-stream =
-    byte-step 32 _ (item-step _ name-read (λ s t. item-step _ (some-read closes name-read k) (λ cs u. byte-step 41 _ (give-step _ (and-both (name? s) (some-all name? cs) t u) (λ l. refl)))))
-verb-read k v-grant = within-step _ (grant-read k) (λ g t. give-step _ t (λ l. refl))
-verb-read k v-clock = item-step _ number-read (λ n t. byte-step 41 _ (give-step _ tt (λ l. refl)))
-verb-read k v-row =
-    byte-step 32 _ (item-step _ name-read (λ s t. item-step _ (some-read closes int-read k) (λ vs u. byte-step 41 _ (give-step _ (row-good s vs t u) (λ l. refl)))))
-verb-read k v-clear = byte-step 41 _ (give-step _ tt (λ l. refl))
-verb-read k v-caller =
+pub body-read : (k : ℕ) (v : Verb) → Reads (body? v) (put-body v) (read-body v k)
+unfolding read-body body? put-body put-items
+body-read k stream =
+    byte-step 32 _ (item-step _ name-read (λ s t. item-step _ (some-read closes name-read k) (λ cs u. give-step _ (and-both (name? s) (some-all name? cs) t u) (λ l. refl))))
+body-read k grant = grant-read k
+body-read k clock = number-read
+body-read k row = byte-step 32 _ (item-step _ name-read (λ s t. item-step _ (some-read closes int-read k) (λ vs u. give-step _ (row-good s vs t u) (λ l. refl))))
+body-read k clear = give-step tt tt (λ l. refl)
+body-read k caller =
     item-step _ (part-read (bytes "roles") (items-read closes name-read k)) (λ rs t. item-step _ (items-read closes entry-read k) (λ es u.
-    byte-step 41 _ (give-step _ (and-both (every name? rs) (every entry? es) t u) (λ l. refl))))
-verb-read k v-ask = byte-step 32 _ (item-step _ (form-read k) (λ q t. byte-step 41 _ (give-step _ t (λ l. refl))))
-verb-read k v-line = item-step _ number-read (λ r s. byte-step 32 _ (item-step _ (form-read k) (λ q t. byte-step 41 _ (give-step _ t (λ l. refl)))))
+    give-step _ (and-both (every name? rs) (every entry? es) t u) (λ l. refl)))
+body-read k ask = byte-step 32 _ (item-step _ (form-read k) (λ q t. give-step _ t (λ l. refl)))
+body-read k line = item-step _ number-read (λ r s. byte-step 32 _ (item-step _ (form-read k) (λ q t. give-step _ t (λ l. refl))))
 
-pub line-read : (k : ℕ) → Reads line? put-line (read-line k)
-unfolding read-line
-line-read k = item-step _ (head-read verb-word verbs) (λ v t. verb-read k v)
+pub as-read : (v : Verb) (k : ℕ) → Reads (body? v) (put-line v) (λ r. read-as v k r)
+unfolding read-as put-line
+as-read v k = item-step _ (open-read (verb-word v)) (λ o u. item-step _ (body-read k v) (λ b t. byte-step 41 _ (give-step _ t (λ l. refl))))
 
 -- ---- whole texts
 
@@ -137,42 +154,16 @@ module _ {A : Type 0} (reader : ℕ → Reader A) where
       nothing [] t = refl
       nothing (b ∷ l) t = absurd t
 
-pub line-fits : (l : Line) (rest : Bytes) (n : ℕ) → length (put-line l rest) ≤ n → Fits n l
-unfolding put-line put-items put-grant
-line-fits (stream s cs) rest n h =
-    let a = open-room (bytes "stream") (32 ∷ put-name s (put-items put-name cs (41 ∷ rest))) in
-    let b = name-room s (put-items put-name cs (41 ∷ rest)) in
-    let c = items-room put-name name-room cs (41 ∷ rest) in omega arith
-line-fits (grant g) rest n h = let a = open-room (bytes "grant") (grant-body g rest) in grant-room g rest n (omega arith)
-line-fits (clock z) rest n h = tt
-line-fits (row s vs) rest n h =
-    let a = open-room (bytes "row") (32 ∷ put-name s (put-items put-int vs (41 ∷ rest))) in
-    let b = name-room s (put-items put-int vs (41 ∷ rest)) in
-    let c = items-room put-int int-room vs (41 ∷ rest) in omega arith
-line-fits clear rest n h = tt
-line-fits (caller rs es) rest n h =
-    let a = open-room (bytes "caller") (put-part (bytes "roles") (put-items put-name rs) (put-items put-entry es (41 ∷ rest))) in
-    let b = part-room (bytes "roles") (put-items put-name rs) (put-items put-entry es (41 ∷ rest)) in
-    let c = items-room put-name name-room rs (41 ∷ put-items put-entry es (41 ∷ rest)) in
-    let d = items-room put-entry entry-room es (41 ∷ rest) in
-    let x : length rs < n = omega arith in
-    let y : length es < n = omega arith in
-    (x, y)
-line-fits (ask q) rest n h = let a = open-room (bytes "ask") (32 ∷ put-form q (41 ∷ rest)) in let b = form-room q (41 ∷ rest) in omega arith
-line-fits (line r q) rest n h =
-    let a = open-room (bytes "line") (32 ∷ put-int r (32 ∷ put-form q (41 ∷ rest))) in
-    let b = int-room r (32 ∷ put-form q (41 ∷ rest)) in
-    let c = form-room q (41 ∷ rest) in omega arith
-
 -- what is printed reads back
-pub line-printed-parses : (l : Line) → T (line? l) → parse-line (line-text l) ≡ some l
-unfolding parse-line line-text
-line-printed-parses l t = parse-put read-line (put-line l []) (line-put (length (put-line l [])) l t (line-fits l [] (length (put-line l [])) (omega arith)))
+pub printed-parses : (v : Verb) (b : Body v) → T (body? v b) → parse-as v (line-text v b) ≡ some b
+unfolding parse-as line-text
+printed-parses v b t =
+    parse-put (λ k. read-as v k) (put-line v b []) (as-put (length (put-line v b [])) v b t (omega arith))
 
 -- what reads was printed
-pub line-parsed-printed : (bs : Bytes) (l : Line) → parse-line bs ≡ some l → T (line? l) × (bs ≡ line-text l)
-unfolding parse-line line-text
-line-parsed-printed bs l e = parse-read read-line line-read bs l e
+pub parsed-printed : (v : Verb) (bs : Bytes) (b : Body v) → parse-as v bs ≡ some b → T (body? v b) × (bs ≡ line-text v b)
+unfolding parse-as line-text
+parsed-printed v bs b e = parse-read (λ k. read-as v k) (as-read v) bs b e
 
 pub query-printed-parses : (q : Form) → T (form? q) → parse-query (query-text q) ≡ some q
 unfolding parse-query query-text
@@ -182,16 +173,34 @@ pub query-parsed-printed : (bs : Bytes) (q : Form) → parse-query bs ≡ some q
 unfolding parse-query query-text
 query-parsed-printed bs q e = parse-read read-form form-read bs q e
 
+-- a line begins with its verb, and reads as a line of no other
+pub verb-printed : (v : Verb) (b : Body v) → verb-of (line-text v b) ≡ some v
+unfolding verb-of line-text put-line
+verb-printed v b = bind-put _ _ (head-put verb-word verbs v (verb-known v) (body-follow v b [])) refl
+
+pub parsed-verb : (v : Verb) (bs : Bytes) (b : Body v) → parse-as v bs ≡ some b → verb-of bs ≡ some v
+parsed-verb v bs b e = rw (parsed-printed v bs b e .1) (verb-printed v b)
+
+-- the same of lines of any verb
+pub line-printed-parses : (l : Line) → T (body? (l .verb) (l .body)) → parse-line (line-text (l .verb) (l .body)) ≡ some l
+unfolding parse-line
+line-printed-parses l t = bind-put _ _ (verb-printed (l .verb) (l .body)) (bind-put _ _ (printed-parses (l .verb) (l .body) t) refl)
+
+pub line-parsed-printed : (bs : Bytes) (l : Line) → parse-line bs ≡ some l → T (body? (l .verb) (l .body)) × (bs ≡ line-text (l .verb) (l .body))
+unfolding parse-line
+line-parsed-printed bs l e =
+    from _ _ e (λ v p q. from _ _ q (λ b r s. done (λ x. T (body? (x .verb) (x .body)) × (bs ≡ line-text (x .verb) (x .body))) s (parsed-printed v bs b r)))
+
 -- one to one
-pub line-text-one-to-one : (l m : Line) → T (line? l) → T (line? m) → line-text l ≡ line-text m → l ≡ m
-line-text-one-to-one l m t u e = Option·some-injective l m (sym (line-printed-parses l t) ∙ ap parse-line e ∙ line-printed-parses m u)
+pub text-one-to-one : (l m : Line) → T (body? (l .verb) (l .body)) → T (body? (m .verb) (m .body)) → line-text (l .verb) (l .body) ≡ line-text (m .verb) (m .body) → l ≡ m
+text-one-to-one l m t u e = Option·some-injective l m (sym (line-printed-parses l t) ∙ ap parse-line e ∙ line-printed-parses m u)
 
 pub query-text-one-to-one : (q r : Form) → T (form? q) → T (form? r) → query-text q ≡ query-text r → q ≡ r
 query-text-one-to-one q r t u e = Option·some-injective q r (sym (query-printed-parses q t) ∙ ap parse-query e ∙ query-printed-parses r u)
 
 -- a text that no reader takes is no line's
-pub line-unread : (bs : Bytes) → parse-line bs ≡ none → (l : Line) → T (line? l) → bs ≡ line-text l → ⊥
-line-unread bs e l t d = Option·none-ne-some l (sym e ∙ ap parse-line d ∙ line-printed-parses l t)
+pub unread : (v : Verb) (bs : Bytes) → parse-as v bs ≡ none → (b : Body v) → T (body? v b) → bs ≡ line-text v b → ⊥
+unread v bs e b t d = Option·none-ne-some b (sym e ∙ ap (parse-as v) d ∙ printed-parses v b t)
 
 pub query-unread : (bs : Bytes) → parse-query bs ≡ none → (q : Form) → T (form? q) → bs ≡ query-text q → ⊥
 query-unread bs e q t d = Option·none-ne-some q (sym e ∙ ap parse-query d ∙ query-printed-parses q t)

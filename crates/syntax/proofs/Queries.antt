@@ -8,13 +8,13 @@ use native.Mathlib.Omega.{arith}
 use lib.Dec.{T, eqb, leb, eqb→eq, leb→le, not-T}
 use lib.ListN.{length}
 use Rattle.lists.specs.Lists.{every, same-list}
-use Rattle.lists.proofs.Laws.{and-l, and-both, parts, T-false}
+use Rattle.lists.proofs.Laws.{and-l, and-both, parts, T-false, every-all}
 use Rattle.syntax.specs.Grammar.{Bytes, eq, min, max, count, avg, sum, Ref, Test, Cond, Form, rows, pick, keep, join, aggregate, letter, ref?, cond?, some-all, form?, op-word, fn-word, put-ref, put-open, put-items, put-cond, put-equality, put-form}
 use Rattle.syntax.specs.Readers.{Reader, _>>=_, give, among, plain, read-ref, read-some, opens, form-next, read-cond, Kind, k-in, k-pick, k-keep, k-join, k-fn, kind-word, kinds, read-rest, read-form}
 use Rattle.syntax.proofs.Steps.{Takes, Reads, space, close, byte-step, item-step, give-step, bind-put, byte-put, item-put, Known, head-put, head-read, open-put, open-read}
 use Rattle.syntax.proofs.Lexical.{name-put, name-read, int-put, int-read}
 use Rattle.syntax.proofs.Terms.{Starts, ref-put, ref-read, ref-first}
-use Rattle.syntax.proofs.Items.{every-all, some-every, some-filled, items-follow, some-put, some-read}
+use Rattle.syntax.proofs.Items.{some-every, some-filled, items-follow, some-put, some-read}
 use Rattle.syntax.proofs.Conditions.{size, cond-put, cond-read}
 
 -- ---- what is printed is read back

@@ -1,12 +1,12 @@
 -- Texts that read back, by computation.
 use mathlib.Core.Path.{_≡_, refl}
-use mathlib.Core.List.{List, [], _∷_, _++_, map}
-use mathlib.Core.Option.{Option, none, some}
-use Rattle.syntax.specs.Grammar.{Bytes, bytes, line-text, query-text, Line, clear}
+use mathlib.Core.List.{List, [], _∷_, map}
+use mathlib.Core.Option.{Option, some}
+use Rattle.syntax.specs.Grammar.{Bytes, bytes, line-text}
 use Rattle.syntax.specs.Readers.{parse-line, bind, readers-compute}
 
 back : Bytes → Option Bytes
-back bs = bind (parse-line bs) (λ l. some (line-text l))
+back bs = bind (parse-line bs) (λ l. some (line-text (l .verb) (l .body)))
 
 samples : List Bytes
 samples =

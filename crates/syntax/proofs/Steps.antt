@@ -48,7 +48,7 @@ unfolding byte
 byte-read b [] r e = absurd (Option·none-ne-some r e)
 byte-read b (x ∷ xs) r e = ensured (eqb b x) e (λ t d. ap₂ _∷_ (sym (eqb→eq b x t)) (ap (λ s. s .left) d))
 
-bind-bind : {A B C : Type 0} (m : Option A) (f : A → Option B) (g : B → Option C) → bind (bind m f) g ≡ bind m (λ a. bind (f a) g)
+pub bind-bind : {A B C : Type 0} (m : Option A) (f : A → Option B) (g : B → Option C) → bind (bind m f) g ≡ bind m (λ a. bind (f a) g)
 unfolding bind
 bind-bind none f g = refl
 bind-bind (some a) f g = refl
@@ -144,7 +144,7 @@ past-put p (b ∷ w) rest h s = rw (T-true (p b) (search parts)) (past-put p w r
 
 -- ---- words
 
-stops-plain : {rest : Bytes} → Follows rest → Stops plain rest
+pub stops-plain : {rest : Bytes} → Follows rest → Stops plain rest
 unfolding plain
 stops-plain space = refl
 stops-plain close = refl

@@ -91,15 +91,41 @@ pub record Entry : Type 0 where
   pub name : Bytes
   pub value : ℤ
 
-pub data Line : Type 0 where
-  stream : Bytes → List Bytes → Line
-  grant : GrantLine → Line
-  clock : ℤ → Line
-  row : Bytes → List ℤ → Line
-  clear : Line
-  caller : List Bytes → List Entry → Line
-  ask : Form → Line
-  line : ℤ → Form → Line
+pub record Stream : Type 0 where
+  pub name : Bytes
+  pub columns : List Bytes
+
+pub record RowLine : Type 0 where
+  pub name : Bytes
+  pub values : List ℤ
+
+pub record Caller : Type 0 where
+  pub roles : List Bytes
+  pub profile : List Entry
+
+-- a route's number and a query
+pub record RouteLine : Type 0 where
+  pub route : ℤ
+  pub query : Form
+
+-- the first word of a line
+pub data Verb : Type 0 where
+  stream grant clock row clear caller ask line : Verb
+
+-- what a line says after its first word
+abbrev pub Body : Verb → Type 0
+Body stream = Stream
+Body grant = GrantLine
+Body clock = ℤ
+Body row = RowLine
+Body clear = Unit {0}
+Body caller = Caller
+Body ask = Form
+Body line = RouteLine
+
+pub record Line : Type 0 where
+  pub verb : Verb
+  pub body : Body verb
 
 -- ---- well-formed syntax: names are names, and what is one or more is not none
 
@@ -161,15 +187,15 @@ grant? g = name? (g .role) && some-all name? (g .of) && show? (g .show) && every
 unfoldable pub entry? : Entry → Bool
 entry? e = name? (e .name)
 
-unfoldable pub line? : Line → Bool
-line? (stream s cs) = name? s && some-all name? cs
-line? (grant g) = grant? g
-line? (clock n) = true
-line? (row s vs) = name? s && not (empty? vs)
-line? clear = true
-line? (caller rs es) = every name? rs && every entry? es
-line? (ask q) = form? q
-line? (line r q) = form? q
+unfoldable pub body? : (v : Verb) → Body v → Bool
+body? stream b = name? (b .name) && some-all name? (b .columns)
+body? grant g = grant? g
+body? clock n = true
+body? row b = name? (b .name) && not (empty? (b .values))
+body? clear u = true
+body? caller w = every name? (w .roles) && every entry? (w .profile)
+body? ask q = form? q
+body? line l = form? (l .query)
 
 -- ---- words
 
@@ -191,6 +217,16 @@ fn-word sum = bytes "sum"
 unfoldable pub right-word : Right → Bytes
 right-word read = bytes "read"
 right-word (figures f) = fn-word f
+
+unfoldable pub verb-word : Verb → Bytes
+verb-word stream = bytes "stream"
+verb-word grant = bytes "grant"
+verb-word clock = bytes "clock"
+verb-word row = bytes "row"
+verb-word clear = bytes "clear"
+verb-word caller = bytes "caller"
+verb-word ask = bytes "ask"
+verb-word line = bytes "line"
 
 -- ---- texts, each in front of what follows
 
@@ -269,31 +305,36 @@ unfoldable pub put-window : Option Span → Bytes → Bytes
 put-window none rest = rest
 put-window (some w) rest = put-part (bytes "window") (λ r. 32 ∷ put-int (w .size) (32 ∷ put-int (w .offset) r)) rest
 
+-- what follows the word `grant`
 unfoldable pub put-grant : GrantLine → Bytes → Bytes
 put-grant g rest =
-    put-open (bytes "grant") (32 ∷ put-name (g .role) (32 ∷ (right-word (g .right) ++ put-part (bytes "of") (put-items put-name (g .of))
-    (put-part (bytes "show") (put-show (g .show)) (put-when (g .when) (put-limit (bytes "from") (g .from) (put-limit (bytes "to") (g .to) (put-window (g .window) (41 ∷ rest)))))))))
+    32 ∷ put-name (g .role) (32 ∷ (right-word (g .right) ++ put-part (bytes "of") (put-items put-name (g .of))
+    (put-part (bytes "show") (put-show (g .show)) (put-when (g .when) (put-limit (bytes "from") (g .from) (put-limit (bytes "to") (g .to) (put-window (g .window) rest)))))))
 
 unfoldable pub put-entry : Entry → Bytes → Bytes
 put-entry e rest = put-open (bytes "self") (32 ∷ put-name (e .name) (32 ∷ put-int (e .value) (41 ∷ rest)))
 
-unfoldable pub put-line : Line → Bytes → Bytes
-put-line (stream s cs) rest = put-open (bytes "stream") (put-items put-name (s ∷ cs) (41 ∷ rest))
-put-line (grant g) rest = put-grant g rest
-put-line (clock n) rest = put-open (bytes "clock") (32 ∷ put-int n (41 ∷ rest))
-put-line (row s vs) rest = put-open (bytes "row") (32 ∷ put-name s (put-items put-int vs (41 ∷ rest)))
-put-line clear rest = put-open (bytes "clear") (41 ∷ rest)
-put-line (caller rs es) rest = put-open (bytes "caller") (put-part (bytes "roles") (put-items put-name rs) (put-items put-entry es (41 ∷ rest)))
-put-line (ask q) rest = put-open (bytes "ask") (32 ∷ put-form q (41 ∷ rest))
-put-line (line r q) rest = put-open (bytes "line") (32 ∷ put-int r (32 ∷ put-form q (41 ∷ rest)))
+-- what follows a line's first word, up to its closing bracket
+unfoldable pub put-body : (v : Verb) → Body v → Bytes → Bytes
+put-body stream b rest = put-items put-name (b .name ∷ b .columns) rest
+put-body grant g rest = put-grant g rest
+put-body clock n rest = 32 ∷ put-int n rest
+put-body row b rest = 32 ∷ put-name (b .name) (put-items put-int (b .values) rest)
+put-body clear u rest = rest
+put-body caller w rest = put-part (bytes "roles") (put-items put-name (w .roles)) (put-items put-entry (w .profile) rest)
+put-body ask q rest = 32 ∷ put-form q rest
+put-body line l rest = 32 ∷ put-int (l .route) (32 ∷ put-form (l .query) rest)
 
-unfoldable pub line-text : Line → Bytes
-line-text l = put-line l []
+unfoldable pub put-line : (v : Verb) → Body v → Bytes → Bytes
+put-line v b rest = put-open (verb-word v) (put-body v b (41 ∷ rest))
+
+unfoldable pub line-text : (v : Verb) → Body v → Bytes
+line-text v b = put-line v b []
 
 unfoldable pub query-text : Form → Bytes
 query-text q = put-form q []
 
 -- To unfold this is to unfold every definition above.
 unfoldable pub grammar-computes : Unit {0}
-unfolding lists-compute digit letter alnum name? ref? operand? test? cond? some-all form? show? grant? entry? line? op-word fn-word right-word digits-from put-nat put-int put-name put-ref put-operand put-open put-items put-cond put-equality put-form put-show put-part put-when put-limit put-window put-grant put-entry put-line line-text query-text
+unfolding lists-compute digit letter alnum name? ref? operand? test? cond? some-all form? show? grant? entry? body? op-word fn-word right-word verb-word digits-from put-nat put-int put-name put-ref put-operand put-open put-items put-cond put-equality put-form put-show put-part put-when put-limit put-window put-grant put-entry put-body put-line line-text query-text
 grammar-computes = tt

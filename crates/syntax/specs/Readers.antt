@@ -7,7 +7,7 @@ use lib.IntN.{ℤ, pos, negsuc}
 use lib.Dec.{eqb}
 use lib.ListN.{length}
 use Rattle.lists.specs.Lists.{empty?, same-list}
-use Rattle.syntax.specs.Grammar.{Bytes, bytes, Op, eq, ne, lt, le, gt, ge, Fn, min, max, count, avg, sum, Right, read, figures, Ref, dotted, time, figure, Operand, ref, number, Test, Cond, test, all, any, neg, Conds, last, more, Form, rows, pick, keep, join, aggregate, Show, everything, listed, Span, GrantLine, Entry, Line, stream, grant, clock, row, clear, caller, ask, line, digit, letter, alnum, name?, op-word, fn-word, right-word, grammar-computes}
+use Rattle.syntax.specs.Grammar.{Bytes, bytes, Op, eq, ne, lt, le, gt, ge, Fn, min, max, count, avg, sum, Right, read, figures, Ref, dotted, time, figure, Operand, ref, number, Test, Cond, test, all, any, neg, Conds, last, more, Form, rows, pick, keep, join, aggregate, Show, everything, listed, Span, GrantLine, Entry, Stream, RowLine, Caller, RouteLine, Verb, stream, grant, clock, row, clear, caller, ask, line, Body, Line, digit, letter, alnum, name?, op-word, fn-word, right-word, verb-word, grammar-computes}
 
 -- ---- readers of a type: what was read, and what is left
 
@@ -182,17 +182,17 @@ read-test o = do
   give (test (record { op = o; left = a; right = b }))
 
 -- what follows a head, given a reader of a condition and one of a list
-unfoldable pub read-body : Reader (Cond Test) → Reader (Conds Test) → Head → Reader (Cond Test)
-read-body one many (compare o) = read-test o
-read-body one many and = do
+unfoldable pub read-headed : Reader (Cond Test) → Reader (Conds Test) → Head → Reader (Cond Test)
+read-headed one many (compare o) = read-test o
+read-headed one many and = do
   cs ← many
   byte 41
   give (all cs)
-read-body one many or = do
+read-headed one many or = do
   cs ← many
   byte 41
   give (any cs)
-read-body one many not-of = do
+read-headed one many not-of = do
   byte 32
   c ← one
   byte 41
@@ -208,7 +208,7 @@ read-more many c (b ∷ bs) =
 unfoldable mutual
   pub read-cond : ℕ → Reader (Cond Test)
   read-cond zero bs = none
-  read-cond (suc k) bs = bind (read-head head-word heads bs) (λ h. read-body (λ r. read-cond k r) (λ r. read-conds k r) (h .what) (h .left))
+  read-cond (suc k) bs = bind (read-head head-word heads bs) (λ h. read-headed (λ r. read-cond k r) (λ r. read-conds k r) (h .what) (h .left))
 
   pub read-conds : ℕ → Reader (Conds Test)
   read-conds zero bs = none
@@ -286,11 +286,15 @@ read-form (suc k) bs =
 unfoldable pub rights : List Right
 rights = read ∷ figures min ∷ figures max ∷ figures count ∷ figures avg ∷ figures sum ∷ []
 
--- a text begins with given bytes
-unfoldable pub begins : Bytes → Bytes → Bool
-begins [] bs = true
-begins (w ∷ ws) [] = false
-begins (w ∷ ws) (b ∷ bs) = eqb w b && begins ws bs
+-- an opening bracket and a given word are next
+unfoldable pub word-opens : Bytes → Bytes → Bool
+word-opens w [] = false
+word-opens w (b ∷ bs) = eqb 40 b && same-list w (run plain bs)
+
+-- a space before them
+unfoldable pub part-opens : Bytes → Bytes → Bool
+part-opens w [] = false
+part-opens w (b ∷ bs) = eqb 32 b && word-opens w bs
 
 -- a part in brackets, after a space
 unfoldable pub read-part : {A : Type 0} → Bytes → Reader A → Reader A
@@ -301,9 +305,9 @@ read-part w inner = do
   byte 41
   give a
 
--- a part that may be absent: present where its opening bracket, its word and a space are next
+-- a part that may be absent: present where its opening bracket and its word are next
 unfoldable pub read-optional : {A : Type 0} → Bytes → A → Reader A → Reader A
-read-optional w absent part bs = cond (begins (32 ∷ (40 ∷ (w ++ (32 ∷ [])))) bs) (part bs) (give absent bs)
+read-optional w absent part bs = cond (part-opens w bs) (part bs) (give absent bs)
 
 unfoldable pub read-star : Reader Bytes
 read-star = do
@@ -349,7 +353,6 @@ read-grant k = do
   from ← read-limit (bytes "from")
   to ← read-limit (bytes "to")
   window ← read-window
-  byte 41
   give (record { role = role; right = right; of = of; show = show; when = when; from = from; to = to; window = window })
 
 -- ---- lines
@@ -364,78 +367,67 @@ read-entry = do
   byte 41
   give (record { name = n; value = z })
 
-pub data Verb : Type 0 where
-  v-stream v-grant v-clock v-row v-clear v-caller v-ask v-line : Verb
-
-unfoldable pub verb-word : Verb → Bytes
-verb-word v-stream = bytes "stream"
-verb-word v-grant = bytes "grant"
-verb-word v-clock = bytes "clock"
-verb-word v-row = bytes "row"
-verb-word v-clear = bytes "clear"
-verb-word v-caller = bytes "caller"
-verb-word v-ask = bytes "ask"
-verb-word v-line = bytes "line"
-
 unfoldable pub verbs : List Verb
-verbs = v-stream ∷ v-grant ∷ v-clock ∷ v-row ∷ v-clear ∷ v-caller ∷ v-ask ∷ v-line ∷ []
+verbs = stream ∷ grant ∷ clock ∷ row ∷ clear ∷ caller ∷ ask ∷ line ∷ []
 
--- what follows a line's first word
-unfoldable pub read-verb : ℕ → Verb → Reader Line
-read-verb k v-stream = do
+-- what follows a line's first word, up to its closing bracket
+unfoldable pub read-body : (v : Verb) → ℕ → Reader (Body v)
+read-body stream k = do
   byte 32
   s ← read-name
   cs ← read-some closes read-name k
-  byte 41
-  give (stream s cs)
-read-verb k v-grant = do
-  g ← read-grant k
-  give (grant g)
-read-verb k v-clock = do
-  n ← read-number
-  byte 41
-  give (clock n)
-read-verb k v-row = do
+  give (record { name = s; columns = cs })
+read-body grant k = read-grant k
+read-body clock k = read-number
+read-body row k = do
   byte 32
   s ← read-name
   vs ← read-some closes read-int k
-  byte 41
-  give (row s vs)
-read-verb k v-clear = do
-  byte 41
-  give clear
-read-verb k v-caller = do
+  give (record { name = s; values = vs })
+read-body clear k = give tt
+read-body caller k = do
   rs ← read-part (bytes "roles") (read-items closes read-name k)
   es ← read-items closes read-entry k
-  byte 41
-  give (caller rs es)
-read-verb k v-ask = do
+  give (record { roles = rs; profile = es })
+read-body ask k = do
   byte 32
   q ← read-form k
-  byte 41
-  give (ask q)
-read-verb k v-line = do
+  give q
+read-body line k = do
   r ← read-number
   byte 32
   q ← read-form k
-  byte 41
-  give (line r q)
+  give (record { route = r; query = q })
 
-unfoldable pub read-line : ℕ → Reader Line
-read-line k = read-head verb-word verbs >>= read-verb k
+-- a line of a verb
+unfoldable pub read-as : (v : Verb) → ℕ → Reader (Body v)
+read-as v k = do
+  o ← read-open (verb-word v)
+  b ← read-body v k
+  byte 41
+  give b
 
 -- ---- whole texts
 
 unfoldable pub parse : {A : Type 0} → (ℕ → Reader A) → Bytes → Option A
 parse reader bs = bind (reader (length bs) bs) (λ a. ensure (empty? (a .left)) (a .what))
 
+-- what a text says as a line of a verb
+unfoldable pub parse-as : (v : Verb) → Bytes → Option (Body v)
+parse-as v bs = parse (read-as v) bs
+
+-- the verb that a text begins with
+unfoldable pub verb-of : Bytes → Option Verb
+verb-of bs = bind (read-head verb-word verbs bs) (λ h. some (h .what))
+
+-- a line of any verb
 unfoldable pub parse-line : Bytes → Option Line
-parse-line bs = parse read-line bs
+parse-line bs = bind (verb-of bs) (λ v. bind (parse-as v bs) (λ b. some (record { verb = v; body = b })))
 
 unfoldable pub parse-query : Bytes → Option Form
 parse-query bs = parse read-form bs
 
 -- To unfold this is to unfold every definition above.
 unfoldable pub readers-compute : Unit {0}
-unfolding grammar-computes bind ensure _>>=_ _>>_ give byte run past plain among read-word read-head itself read-open read-name numeral value-from read-nat negated read-negative read-natural read-int lone read-dotted after-name read-ref read-operand read-items read-some closes opens form-next head-word heads read-test read-body read-more read-cond kind-word kinds read-rest read-form rights begins read-part read-optional read-star star-next read-show read-number read-limit read-window read-when read-grant read-entry verb-word verbs read-verb read-line parse parse-line parse-query
+unfolding grammar-computes bind ensure _>>=_ _>>_ give byte run past plain among read-word read-head itself read-open read-name numeral value-from read-nat negated read-negative read-natural read-int lone read-dotted after-name read-ref read-operand read-items read-some closes opens form-next head-word heads read-test read-headed read-more read-cond kind-word kinds read-rest read-form rights word-opens part-opens read-part read-optional read-star star-next read-show read-number read-limit read-window read-when read-grant read-entry verbs read-body read-as parse parse-as verb-of parse-line parse-query
 readers-compute = tt

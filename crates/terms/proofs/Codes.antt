@@ -1,16 +1,14 @@
--- The code of a term, as it is found place by place.
-use mathlib.Core.Path.{_≡_, refl, sym, _∙_}
-use mathlib.Core.List.{List, _∷_}
+-- The code of a term, as it is found among the names.
+use mathlib.Core.Path.{_≡_, sym, ap₂, _∙_}
+use mathlib.Core.List.{List}
 use mathlib.Core.Bool.{Bool, true, false, cond}
-use Prim.Native.Nat.{ℕ, suc, _+_, _-_, _/_, _≤_, _<_}
+use Prim.Native.Nat.{ℕ, zero, suc, _+_, _*_, _-_, _≤_, _<_}
 use native.Mathlib.Omega.{arith}
-use native.Mathlib.Numerals.{add-one}
 use lib.Dec.{eqb}
 use lib.ListN.{getD}
-use borrow.Author.Tests.{eq-eqb, ne-eqb}
-use Rattle.lists.specs.Lists.{select, nth, count-from}
+use borrow.Author.Tests.{eq-eqb, ne-eqb, lt-ltb, le-ltb}
 use Rattle.text.specs.Words.{code-from, code-of}
-use Rattle.terms.specs.Terms.{place-in, place-test, code-in}
+use Rattle.terms.specs.Terms.{found, stream-found, place-in, code-in}
 
 -- ---- a profile entry's name
 
@@ -22,79 +20,100 @@ entry-other c m f = rw (ne-eqb c 27 f)
 
 pub ruleset entry-ends = (entry-taken, entry-other)
 
--- ---- one place
+-- ---- the first of some numbers
 
-module _ (ks : List ℕ) (n m i : ℕ) {a : ℕ} (p : a ≡ getD ks (i / 6) 0) where
-  pub test-other : (a ≡ n → ⊥) → false ≡ place-test ks n m i
-  unfolding place-test
-  test-other f = rw (sym p, ne-eqb a n f)
+pub found-most : (ns : List ℕ) (at n x : ℕ) → found ns at n x ≤ n
+unfolding found
+found-most ns at zero x = omega arith
+found-most ns at (suc n) x = go (eqb (getD ns at 0) x) (found-most ns (suc at) n x)
+  where
+    go : (b : Bool) → found ns (suc at) n x ≤ n → cond b 0 (suc (found ns (suc at) n x)) ≤ suc n
+    go true h = omega arith
+    go false h = omega arith
 
-  pub test-stream : {b : ℕ} → a ≡ n → b ≡ getD ks (4 + i) 0 → eqb b m ≡ place-test ks n m i
-  unfolding place-test
-  test-stream e q = rw (q, sym p, eq-eqb a n e)
+pub found-few : (ns : List ℕ) (at n x : ℕ) {y : ℕ} → y ≡ found ns at n x → y ≤ n
+found-few ns at n x e = let h = found-most ns at n x in omega arith
 
-pub ruleset test-ends = (test-other, test-stream)
+pub found-start : (ns : List ℕ) (at n x : ℕ) → found ns at n x ≡ 0 + found ns (at + 0) (n - 0) x
+found-start ns at n x =
+    let a : at + 0 ≡ at = omega arith in
+    let b : n - 0 ≡ n = omega arith in
+    let e : found ns (at + 0) (n - 0) x ≡ found ns at n x = ap₂ (λ i k. found ns i k x) a b in
+    omega arith
 
--- ---- the places, one after another
+module _ (ns : List ℕ) (at n x i : ℕ) where
+  found-left : i < n → found ns (at + i) (n - i) x ≡ cond (eqb (getD ns (at + i) 0) x) 0 (suc (found ns (at + (i + 1)) (n - (i + 1)) x))
+  unfolding found
+  found-left h =
+      let e : n - i ≡ suc (n - (i + 1)) = omega arith in
+      let d : suc (at + i) ≡ at + (i + 1) = omega arith in
+      rw (e, d)
 
--- the first place that passes from i on
-unfoldable pub first-from : (ℕ → Bool) → ℕ → ℕ
-first-from p i = nth 28 (select p (count-from i (24 - i))) 0
+  module _ (inv : found ns at n x ≡ i + found ns (at + i) (n - i) x) where
+    pub found-here : {y : ℕ} → i < n → y ≡ getD ns (at + i) 0 → y ≡ x → i ≡ found ns at n x
+    found-here h e z =
+        let f : found ns (at + i) (n - i) x ≡ 0 = found-left h ∙ rw (eq-eqb (getD ns (at + i) 0) x (sym e ∙ z)) in
+        omega arith
 
-module _ (p : ℕ → Bool) (i : ℕ) where
-  from-more : i < 24 → count-from i (24 - i) ≡ i ∷ count-from (i + 1) (24 - (i + 1))
-  unfolding count-from
-  from-more h = let e : 24 - i ≡ suc (24 - (i + 1)) = omega arith in rw (e, add-one i)
+    pub found-on : {y : ℕ} → i < n → y ≡ getD ns (at + i) 0 → (y ≡ x → ⊥) → found ns at n x ≡ i + 1 + found ns (at + (i + 1)) (n - (i + 1)) x
+    found-on h e z =
+        let f : found ns (at + i) (n - i) x ≡ suc (found ns (at + (i + 1)) (n - (i + 1)) x) = found-left h ∙ rw (ne-eqb (getD ns (at + i) 0) x (λ d. z (e ∙ d))) in
+        omega arith
 
-  pub first-here : i < 24 → p i ≡ true → first-from p i ≡ i
-  unfolding first-from select nth
-  first-here h t = rw (from-more h, t)
+    pub found-end : i ≤ n → n ≤ i → n ≡ found ns at n x
+    unfolding found
+    found-end h k =
+        let e : n - i ≡ 0 = omega arith in
+        let f : found ns (at + i) (n - i) x ≡ 0 = rw e in
+        omega arith
 
-  pub first-on : i < 24 → p i ≡ false → first-from p i ≡ first-from p (i + 1)
-  unfolding first-from select
-  first-on h t = rw (from-more h, t)
+pub ruleset found-ends = (found-start, found-here, found-on, found-end)
 
-  pub first-end : 24 ≤ i → first-from p i ≡ 28
-  unfolding first-from select nth count-from
-  first-end h = let e : 24 - i ≡ 0 = omega arith in rw e
+pub stream-there : (ns : List ℕ) (n : ℕ) {s : ℕ} → s ≡ found ns 0 4 n → s ≡ stream-found ns n
+unfolding stream-found
+stream-there ns n e = e
 
-module _ (ks : List ℕ) (n m : ℕ) where
-  pub place-start : place-in ks n m ≡ first-from (place-test ks n m) 0
-  unfolding place-in first-from place-test
-  place-start = refl
+pub stream-most : (ns : List ℕ) (n : ℕ) → stream-found ns n ≤ 4
+unfolding stream-found
+stream-most ns n = found-most ns 0 4 n
 
-  module _ (i : ℕ) (inv : place-in ks n m ≡ first-from (place-test ks n m) i) where
-    pub place-none : 24 ≤ i → 28 ≡ place-in ks n m
-    place-none h = sym (inv ∙ first-end (place-test ks n m) i h)
+-- ---- the place of a column
 
-    module _ (h : i < 24) {t : Bool} (e : t ≡ place-test ks n m i) where
-      pub place-here : t ≡ true → i ≡ place-in ks n m
-      place-here d = sym (inv ∙ first-here (place-test ks n m) i h (sym e ∙ d))
+module _ (ns : List ℕ) (n m : ℕ) {s : ℕ} (e : s ≡ found ns 0 4 n) where
+  pub place-streamless : 4 ≤ s → 28 ≡ place-in ns n m
+  unfolding place-in
+  place-streamless h = rw (sym e, le-ltb s 4 h)
 
-      pub place-on : t ≡ false → place-in ks n m ≡ first-from (place-test ks n m) (i + 1)
-      place-on d = inv ∙ first-on (place-test ks n m) i h (sym e ∙ d)
+  module _ (h : s < 4) {c : ℕ} (d : c ≡ found ns (4 + s * 6) 6 m) where
+    pub place-columnless : 6 ≤ c → 28 ≡ place-in ns n m
+    unfolding place-in
+    place-columnless k = rw (sym e, lt-ltb s 4 h, sym d, le-ltb c 6 k)
 
-pub ruleset place-ends = (place-start, place-none, place-here, place-on)
+    pub place-there : c < 6 → s * 6 + c ≡ place-in ns n m
+    unfolding place-in
+    place-there k = rw (sym e, lt-ltb s 4 h, sym d, lt-ltb c 6 k)
+
+pub ruleset place-ends = (place-streamless, place-columnless, place-there)
 
 -- ---- the code
 
-module _ (ks : List ℕ) (n m : ℕ) where
+module _ (ns : List ℕ) (n m : ℕ) where
   module _ (z : m ≡ 0) where
-    pub code-time : n ≡ 1953066341 → 24 ≡ code-in ks n m
+    pub code-time : n ≡ 0x74696d65 → 24 ≡ code-in ns n m
     unfolding code-in code-of code-from
-    code-time e = rw (z, eq-eqb n 1953066341 e)
+    code-time e = rw (z, eq-eqb n 0x74696d65 e)
 
-    pub code-figure : (n ≡ 1953066341 → ⊥) → 25 ≡ code-in ks n m
+    pub code-figure : (n ≡ 0x74696d65 → ⊥) → 25 ≡ code-in ns n m
     unfolding code-in code-of code-from
-    code-figure f = rw (z, ne-eqb n 1953066341 f)
+    code-figure f = rw (z, ne-eqb n 0x74696d65 f)
 
   module _ (z : m ≡ 0 → ⊥) where
-    pub code-own : n ≡ 1936026726 → 27 ≡ code-in ks n m
+    pub code-own : n ≡ 0x73656c66 → 27 ≡ code-in ns n m
     unfolding code-in code-of code-from
-    code-own e = rw (ne-eqb m 0 z, eq-eqb n 1936026726 e)
+    code-own e = rw (ne-eqb m 0 z, eq-eqb n 0x73656c66 e)
 
-    pub code-listed : {r : ℕ} → (n ≡ 1936026726 → ⊥) → r ≡ place-in ks n m → r ≡ code-in ks n m
+    pub code-listed : {r : ℕ} → (n ≡ 0x73656c66 → ⊥) → r ≡ place-in ns n m → r ≡ code-in ns n m
     unfolding code-in code-of code-from
-    code-listed f e = rw (ne-eqb m 0 z, ne-eqb n 1936026726 f) e
+    code-listed f e = rw (ne-eqb m 0 z, ne-eqb n 0x73656c66 f) e
 
 pub ruleset code-ends = (code-time, code-figure, code-own, code-listed)

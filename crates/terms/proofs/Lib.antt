@@ -1,8 +1,7 @@
 pub mod Codes
-pub mod Columns
+pub mod References
 pub mod Numbers
 pub mod Operands
 pub mod Comparisons
-pub mod Tests
-pub mod Listing
+pub mod Sides
 pub mod Resolving

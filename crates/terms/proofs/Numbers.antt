@@ -1,15 +1,19 @@
 -- A number of 32 bits, the lowest as 0.
 use mathlib.Core.Path.{_≡_, ap, _∙_}
+use mathlib.Core.Bool.{cond}
 use Prim.Native.Nat.{suc, _+_, _-_, _<_}
 use native.Mathlib.Omega.{arith}
 use lib.IntN.{ℤ, pos, negsuc, natAbs, _+ℤ_}
 use lib.Signed.{nonNeg}
-use lib.Dec.{T}
-use borrow.Author.Tests.{le-ltb}
+use lib.Dec.{T, leb, leb→le}
+use borrow.Author.Tests.{le-ltb, le-leb, lt-leb}
 use mir.Syntax.{w32, w64}
 use mir.Val.{Fits, SFits, toZ, ofZ}
 use mir.ValLaws.{toZ-ofZ}
 use mir.Facts.{sfits-widen}
+use Rattle.lists.proofs.Laws.{T-true}
+use Rattle.syntax.specs.Limits.{is-value}
+use Rattle.text.specs.Words.{value-kept}
 use Rattle.terms.specs.Terms.{biased}
 
 biased-under : (z : ℤ) → SFits w32 z → biased z < 4294967296
@@ -56,3 +60,20 @@ module _ (z : ℤ) (f : SFits w32 z) where
 
   pub total-biased : natAbs (toZ w64 (ofZ w64 (read +ℤ pos 2147483648))) ≡ biased z
   total-biased = ap natAbs total-is
+
+-- ---- and back
+
+pub biased-back : (z : ℤ) → T (is-value z) → (biased (value-kept z) < 4294967296)
+    × (cond (leb 2147483648 (biased (value-kept z))) (pos (biased (value-kept z) - 2147483648)) (negsuc (2147483647 - biased (value-kept z))) ≡ z)
+unfolding value-kept biased is-value
+biased-back z t = rw (T-true (is-value z) t) (back z t)
+  where
+    back : (z : ℤ) → T (is-value z) → (biased z < 4294967296) × (cond (leb 2147483648 (biased z)) (pos (biased z - 2147483648)) (negsuc (2147483647 - biased z)) ≡ z)
+    back (pos n) t =
+        let h = leb→le n 2147483647 t in
+        let e : 2147483648 + n - 2147483648 ≡ n = omega arith in
+        (omega arith, rw (le-leb 2147483648 (2147483648 + n) (omega arith), e))
+    back (negsuc n) t =
+        let h = leb→le n 2147483647 t in
+        let e : 2147483647 - (2147483647 - n) ≡ n = omega arith in
+        (omega arith, rw (lt-leb 2147483648 (2147483647 - n) (omega arith), e))

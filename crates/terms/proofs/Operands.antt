@@ -1,50 +1,34 @@
 -- The right side of a comparison at a place as the code reads it.
 use mathlib.Core.Path.{_≡_, refl, sym, ap, _∙_}
-use mathlib.Core.List.{List, [], _∷_, _++_}
+use mathlib.Core.List.{List, [], _∷_}
 use mathlib.Core.Bool.{Bool, true, false, not, cond}
 use mathlib.Core.Option.{Option, none, some}
-use Prim.Native.Nat.{ℕ, _+_, _-_, _≤_, _<_}
-use native.Mathlib.Omega.{arith}
+use Prim.Native.Nat.{ℕ}
 use lib.IntN.{ℤ}
 use lib.Dec.{eqb}
 use lib.ListN.{drop, getD}
-use borrow.Author.Tests.{le-leb, lt-leb}
-use Rattle.syntax.specs.Grammar.{Bytes, Ref, Operand, ref, number, letter, put-operand}
+use borrow.Author.Tests.{not-true, not-false}
+use Rattle.syntax.specs.Grammar.{Bytes, Ref, Operand, ref, number, letter}
 use Rattle.syntax.specs.Readers.{Read, bind, read-int, read-ref, read-operand}
-use Rattle.syntax.proofs.Terms as S
+use Rattle.syntax.proofs.Leaving.{operand-leaves}
 use Rattle.text.specs.declared.Number.{Number}
-use Rattle.text.specs.Words.{number-read, number-at}
-use Rattle.text.proofs.Runs.{first-byte, letter-below, letter-from}
-use Rattle.items.specs.declared.Kept.{Kept}
-use Rattle.items.specs.Items.{kept-of}
-use Rattle.items.proofs.Reading.{Leaves, leaves-printed, View, view-none, view-some}
-use Rattle.items.proofs.ValueLists.{int-word, int-front, int-view, kept-clamp}
+use Rattle.text.specs.declared.Kept.{Kept}
+use Rattle.text.specs.Words.{number-read, number-at, kept-of}
+use Rattle.text.proofs.Runs.{first-byte}
+use Rattle.text.proofs.Ranges.{kept-clamp}
+use Rattle.text.proofs.Views.{View, view-none, view-some, int-view}
 use Rattle.terms.specs.declared.Reference.{Reference}
 use Rattle.terms.specs.declared.Term.{Term}
 use Rattle.terms.specs.Terms.{ref-read, ref-at, code-in, ref-code, biased, operand-over, operand-code, operand-value, operand-read, operand-at, no-term, ref-term, ref-term-at, number-term, number-term-at}
-use Rattle.terms.proofs.Columns.{ref-word, ref-front, ref-view}
+use Rattle.terms.proofs.References.{ref-view}
 
--- ---- what an operand leaves
-
-unfoldable pub operand-word : Operand → Bytes
-operand-word (ref r) = ref-word r
-operand-word (number z) = int-word z
-
-pub operand-front : (o : Operand) (rest : Bytes) → put-operand o rest ≡ operand-word o ++ rest
-unfolding operand-word put-operand
-operand-front (ref r) rest = ref-front r rest
-operand-front (number z) rest = int-front z rest
-
-pub operand-leaves : Leaves read-operand
-operand-leaves = leaves-printed operand-word operand-front S.operand-read
-
-unfoldable pub operand-view : (ks : List ℕ) (s : Bytes) → View Operand Term s
+unfoldable pub operand-view : (ns : List ℕ) (s : Bytes) → View Operand Term s
 unfolding operand-read
-operand-view ks s =
+operand-view ns s =
     record {
       item = read-operand;
       leaves = operand-leaves;
-      seen = operand-read ks s;
+      seen = operand-read ns s;
       ok = λ t. t .ok;
       next = λ t. t .next;
       unseen = refl;
@@ -54,13 +38,13 @@ operand-view ks s =
 
 -- ---- a column
 
-module _ (ks : List ℕ) (s : Bytes) (at : ℕ) {r : Reference} (p : r ≡ ref-at s at) where
-  pub ref-term-none : {x : Term} → not (r .ok) ≡ true → x ≡ no-term → x ≡ ref-term-at ks s at
+module _ (ns : List ℕ) (s : Bytes) (at : ℕ) {r : Reference} (p : r ≡ ref-at s at) where
+  pub ref-term-none : {x : Term} → not (r .ok) ≡ true → x ≡ no-term → x ≡ ref-term-at ns s at
   unfolding ref-term-at ref-term ref-at ref-view
   ref-term-none q d = d ∙ sym (rw (view-none (ref-view s) at p q))
 
-  pub ref-term-some : {c v : ℕ} → not (r .ok) ≡ false → c ≡ code-in ks (r .first) (r .second) → v ≡ cond (eqb c 27) (r .second) 0
-      → record { ok = true; over = r .over; code = c; value = v; next = r .next } ≡ ref-term-at ks s at
+  pub ref-term-some : {c v : ℕ} → not (r .ok) ≡ false → c ≡ code-in ns (r .first) (r .second) → v ≡ cond (eqb c 27) (r .second) 0
+      → record { ok = true; over = r .over; code = c; value = v; next = r .next } ≡ ref-term-at ns s at
   unfolding ref-term-at ref-term ref-at ref-view ref-read ref-code
   ref-term-some {c} {v} q e f = view-some (ref-view s) at p q (λ a z m d. rw (f, e, m, z))
 
@@ -85,38 +69,35 @@ pub ruleset number-term-ends = (number-term-none, number-term-some)
 
 -- ---- either, by the first byte
 
-module _ (ks : List ℕ) (s : Bytes) where
-  from-ref : (o : Option (Read Ref)) → operand-read ks s (bind o (λ r. some (record { what = ref (r .what); left = r .left }))) ≡ ref-term ks s o
+module _ (ns : List ℕ) (s : Bytes) where
+  from-ref : (o : Option (Read Ref)) → operand-read ns s (bind o (λ r. some (record { what = ref (r .what); left = r .left }))) ≡ ref-term ns s o
   unfolding operand-read ref-term no-term bind operand-over operand-code operand-value
   from-ref none = refl
   from-ref (some r) = refl
 
-  from-number : (o : Option (Read ℤ)) → operand-read ks s (bind o (λ z. some (record { what = number (z .what); left = z .left }))) ≡ number-term s o
+  from-number : (o : Option (Read ℤ)) → operand-read ns s (bind o (λ z. some (record { what = number (z .what); left = z .left }))) ≡ number-term s o
   unfolding operand-read number-term no-term bind operand-over operand-code operand-value
   from-number none = refl
   from-number (some r) = refl
 
-  operand-by : (bs : Bytes) {x : Bool} → letter (getD bs 0 0) ≡ x → operand-read ks s (read-operand bs) ≡ cond x (ref-term ks s (read-ref bs)) (number-term s (read-int bs))
+  operand-by : (bs : Bytes) {x : Bool} → letter (getD bs 0 0) ≡ x → operand-read ns s (read-operand bs) ≡ cond x (ref-term ns s (read-ref bs)) (number-term s (read-int bs))
   unfolding read-operand read-int letter operand-read number-term no-term
   operand-by [] e = rw (sym e)
   operand-by (b ∷ bs) {x} e = rw e (go x)
     where
-      go : (x : Bool) → operand-read ks s (cond x (bind (read-ref (b ∷ bs)) (λ r. some (record { what = ref (r .what); left = r .left }))) (bind (read-int (b ∷ bs)) (λ z. some (record { what = number (z .what); left = z .left })))) ≡ cond x (ref-term ks s (read-ref (b ∷ bs))) (number-term s (read-int (b ∷ bs)))
+      go : (x : Bool) → operand-read ns s (cond x (bind (read-ref (b ∷ bs)) (λ r. some (record { what = ref (r .what); left = r .left }))) (bind (read-int (b ∷ bs)) (λ z. some (record { what = number (z .what); left = z .left })))) ≡ cond x (ref-term ns s (read-ref (b ∷ bs))) (number-term s (read-int (b ∷ bs)))
       go true = from-ref (read-ref (b ∷ bs))
       go false = from-number (read-int (b ∷ bs))
 
-  module _ (at : ℕ) {b : ℕ} (e : b ≡ getD s at 0) where
-    operand-is : {t : Bool} → letter b ≡ t → operand-at ks s at ≡ cond t (ref-term-at ks s at) (number-term-at s at)
+  module _ (at : ℕ) {b : ℕ} {l : Bool} (e : b ≡ getD s at 0) (f : l ≡ letter b) where
+    operand-is : {t : Bool} → l ≡ t → operand-at ns s at ≡ cond t (ref-term-at ns s at) (number-term-at s at)
     unfolding operand-at ref-term-at number-term-at
-    operand-is h = operand-by (drop at s) (ap letter (first-byte s at ∙ sym e) ∙ h)
+    operand-is h = operand-by (drop at s) (ap letter (first-byte s at ∙ sym e) ∙ sym f ∙ h)
 
-    pub operand-below : {x : Term} → b < 97 → x ≡ number-term-at s at → x ≡ operand-at ks s at
-    operand-below l f = f ∙ sym (operand-is (sym (letter-below b l)))
+    pub operand-number : {x : Term} → not l ≡ true → x ≡ number-term-at s at → x ≡ operand-at ns s at
+    operand-number h g = g ∙ sym (operand-is (not-true l h))
 
-    pub operand-above : {x : Term} → 122 < b → x ≡ number-term-at s at → x ≡ operand-at ks s at
-    operand-above l f = f ∙ sym (operand-is (sym (letter-from b (omega arith)) ∙ lt-leb b 122 l))
+    pub operand-ref : {x : Term} → not l ≡ false → x ≡ ref-term-at ns s at → x ≡ operand-at ns s at
+    operand-ref h g = g ∙ sym (operand-is (not-false l h))
 
-    pub operand-letter : {x : Term} → 97 ≤ b → b ≤ 122 → x ≡ ref-term-at ks s at → x ≡ operand-at ks s at
-    operand-letter l h f = f ∙ sym (operand-is (sym (letter-from b l) ∙ le-leb b 122 h))
-
-pub ruleset operand-ends = (operand-below, operand-above, operand-letter)
+pub ruleset operand-ends = (operand-number, operand-ref)

@@ -1,452 +1,406 @@
--- A column's code stands for the column that the schema has by its names.
-use mathlib.Core.Path.{_≡_, refl, sym, ap, _∙_, subst}
-use mathlib.Core.Logic.{_⊎_, inl, inr}
-use mathlib.Core.List.{List, [], map}
+-- What codes stand for, where the names are sound: the streams, the columns and the profile entries that the definitions find by name.
+use mathlib.Core.Path.{_≡_, refl, sym, ap, ap₂, _∙_}
+use mathlib.Core.List.{List, [], _∷_, map}
 use mathlib.Core.Bool.{Bool, true, false, _&&_, _||_, not, cond}
 use Prim.Native.Nat.{ℕ, zero, suc, _+_, _*_, _-_, _/_, _%_, _≤_, _<_}
 use native.Mathlib.Omega.{arith}
-use native.Mathlib.Decide.{decLt}
-use lib.IntN.{ℤ, pos, negsuc}
-use lib.Dec.{T, eqb, leb, ltb, not-T, leb→le}
-use lib.ListN.{length, getD, length-map, List·getD-eq-default}
-use borrow.Author.Tests.{eq-eqb, ne-eqb, eqb-true, lt-ltb, le-ltb, le-leb, lt-leb, ltb-true}
-use Rattle.lists.specs.Lists.{every, some?, empty?, distinct, nth, count-from, same-list, position}
-use Rattle.lists.proofs.Laws.{and-l, and-r, and-both, T-true, T-false, position-nth, position-below, among-nth, nth-position, same-list→eq}
+use lib.Dec.{T, eqb, ltb, ltb→lt, eqb→eq, eqb-refl}
+use lib.ListN.{length, getD}
+use borrow.Author.Tests.{eq-eqb, ne-eqb, eqb-true, eqb-false, lt-ltb, ltb-true, ltb-false, not-true}
+use Rattle.lists.specs.Lists.{every, some?, nth, count-from, same-list, position}
+use Rattle.lists.proofs.Laws.{and-l, and-r, and-both, or-r, or-cases, parts, true-T, T-true, position-nth, position-below, same-list→eq, same-list-refl}
 use Rattle.syntax.specs.Grammar.{Bytes, bytes, Ref, dotted, time, figure, digit, letter, alnum, name?, ref?}
-use Rattle.model.specs.Queries.{col}
-use Rattle.calls.specs.Names.{stream-names, stream-number, columns-named, col-of, is-self}
-use Rattle.calls.specs.Bounds.{max-name, max-columns, top, short, short-ref, is-value}
-use Rattle.calls.specs.Validity.{free-name, valid-stream}
-use Rattle.calls.specs.Tables.{declared, ref-declared}
+use Rattle.syntax.specs.Limits.{max-streams, max-columns, short, short-ref}
+use Rattle.model.specs.Queries as Q
+use Rattle.model.specs.Queries.{Schema, col}
+use Rattle.calls.specs.Names.{stream-names, stream-number, columns-named, col-of, is-self, term-of, column-of}
+use Rattle.calls.specs.Tables.{declared, ref-declared, same-ref}
+use Rattle.calls.proofs.Stored.{below}
 use Rattle.text.specs.Words.{code-from, code-of, name-of}
-use Rattle.text.proofs.Codes.{name-back, code-back, code-above, names-same}
-use Rattle.items.specs.Items.{code-short, value-kept}
-use Rattle.schema.specs.declared.Schema.{Schema}
-use Rattle.schema.specs.Schemas.{streams-in, width-of, stream-in, columns-in, schema-of, stream-sound, streams-sound, schema-sound}
-use Rattle.schema.proofs.Tables.{stream-names-are, columns-are, columns-named-in}
-use Rattle.schema.proofs.Soundness.{length-columns, length-schema, schema-parts}
-use Rattle.terms.specs.Terms.{stream-name, column-name, listed, directory, place-in, place-test, first-code, second-code, code-in, ref-code, biased}
-use Rattle.terms.proofs.Codes.{first-from, first-here, first-on, first-end, place-start}
-use Rattle.terms.proofs.Listing.{directory-at, directory-length}
+use Rattle.text.proofs.Codes.{name-back, code-above, code-below, names-same}
+use Rattle.items.specs.Items.{code-short}
+use Rattle.schema.specs.Schemas.{code-end, column-place, streams-in, width-in, column-in, schema-of, schema-sound}
+use Rattle.schema.proofs.Counted.{same-truth}
+use Rattle.schema.proofs.FreeNames.{name-one}
+use Rattle.schema.proofs.Lookups.{stream-names-are, length-schema, columns-are, length-columns}
+use Rattle.schema.proofs.Tests.{streams-most}
+use Rattle.schema.proofs.Soundness.{free-below, named-free, width-most, Sound, sound-facts}
+use Rattle.terms.specs.Terms.{time-code, figure-code, number-code, entry-code, unknown-code, found, stream-found, place-in, first-code, second-code, code-in, ref-code}
 
--- ---- the first place that passes
+-- ---- what stands where a column may
 
--- the first place from i on that passes is one, or it is 28 and none passes
-First : (ℕ → Bool) → ℕ → ℕ → Type 0
-First p i j = ((j < 24) × (p j ≡ true)) ⊎ ((j ≡ 28) × ((k : ℕ) → i ≤ k → k < 24 → p k ≡ false))
+same-ref→eq : (r s : Ref) → T (same-ref r s) → r ≡ s
+unfolding same-ref
+same-ref→eq (dotted n m) (dotted k l) h = ap₂ dotted (same-list→eq n k (search parts)) (same-list→eq m l (search parts))
+same-ref→eq (dotted n m) time h = absurd h
+same-ref→eq (dotted n m) figure h = absurd h
+same-ref→eq time (dotted k l) h = absurd h
+same-ref→eq time time h = refl
+same-ref→eq time figure h = absurd h
+same-ref→eq figure (dotted k l) h = absurd h
+same-ref→eq figure time h = absurd h
+same-ref→eq figure figure h = refl
 
-first-cases : (p : ℕ → Bool) (n i : ℕ) → i + n ≡ 24 → First p i (first-from p i)
-unfolding First
-first-cases p zero i e = inr (first-end p i (omega arith), λ k h l. absurd (omega arith))
-first-cases p (suc n) i e = go (p i) refl (first-cases p n (i + 1) (omega arith))
-  where
-    go : (b : Bool) → p i ≡ b → First p (i + 1) (first-from p (i + 1)) → First p i (first-from p i)
-    go true t f = let z = first-here p i (omega arith) t in rw z (inl (omega arith, t))
-    go false t (inl f) = let z = first-on p i (omega arith) t in rw z (inl f)
-    go false t (inr f) =
-        let z = first-on p i (omega arith) t in
-        rw z (inr (f .0, λ k h l. here k h l (decLt i k)))
-      where
-        here : (k : ℕ) → i ≤ k → k < 24 → Dec (i < k) → p k ≡ false
-        here k h l (yes d) = f .1 k (omega arith) l
-        here k h l (no d) = let y : k ≡ i = omega arith in rw y t
+same-ref-refl : (r : Ref) → T (same-ref r r)
+unfolding same-ref
+same-ref-refl (dotted n m) = and-both (same-list n n) (same-list m m) (same-list-refl n) (same-list-refl m)
+same-ref-refl time = tt
+same-ref-refl figure = tt
 
--- ---- what a schema has by its numbers
+-- `self.NAME`
+unfoldable pub own? : Ref → Bool
+own? (dotted n m) = is-self n
+own? time = false
+own? figure = false
 
-nth-counted : {A : Type 0} (d : A) (f : ℕ → A) (a n s : ℕ) → s < n → nth d (map f (count-from a n)) s ≡ f (a + s)
-unfolding nth count-from
-nth-counted d f a zero s h = absurd (omega arith)
-nth-counted d f a (suc n) zero h = let e : a ≡ a + 0 = omega arith in ap f e
-nth-counted d f a (suc n) (suc s) h = let e : suc a + s ≡ a + suc s = omega arith in nth-counted d f (suc a) n s (omega arith) ∙ ap f e
+-- ---- the first of some names
 
-every-counted : (p : ℕ → Bool) (a n s : ℕ) → T (every p (count-from a n)) → s < n → T (p (a + s))
-unfolding every count-from
-every-counted p a zero s t h = absurd (omega arith)
-every-counted p a (suc n) zero t h = let e : a + 0 ≡ a = omega arith in rw e (and-l (p a) _ t)
-every-counted p a (suc n) (suc s) t h = let e : a + suc s ≡ suc a + s = omega arith in rw e (every-counted p (suc a) n s (and-r (p a) _ t) (omega arith))
+-- the names of w numbers from a place on
+abbrev words : List ℕ → ℕ → ℕ → List Bytes
+words ns at w = map (λ i. name-of (getD ns i 0)) (count-from at w)
 
-module _ (q : Schema) where
-  few : streams-in q ≤ 4
-  unfolding streams-in
-  few = omega arith
+words-shift : (ns : List ℕ) (at i w : ℕ) → map (λ c. name-of (getD ns (at + c) 0)) (count-from i w) ≡ words ns (at + i) w
+unfolding count-from
+words-shift ns at i zero = refl
+words-shift ns at i (suc w) = let e : at + suc i ≡ suc (at + i) = omega arith in ap (λ l. name-of (getD ns (at + i) 0) ∷ l) (rw e at (words-shift ns at (suc i) w))
 
-  narrow-width : (s : ℕ) → width-of q s ≤ 6
-  unfolding width-of
-  narrow-width s = omega arith
-
-  streams-many : length (stream-names (schema-of q)) ≡ streams-in q
-  unfolding stream-names
-  streams-many = length-map (schema-of q) _ ∙ length-schema q
-
-  stream-word : (s : ℕ) → s < streams-in q → nth [] (stream-names (schema-of q)) s ≡ name-of (getD (q .names) s 0)
-  stream-word s h =
-      let e : 0 + s ≡ s = omega arith in
-      rw (stream-names-are q (streams-in q) refl) (nth-counted [] _ 0 (streams-in q - 0) s (omega arith) ∙ ap (λ i. name-of (getD (q .names) i 0)) e)
-
-  module _ (s : ℕ) (h : s < streams-in q) where
-    columns-here : columns-named (schema-of q) s ≡ columns-in q s
-    columns-here = columns-named-in q s (streams-in q) refl h
-
-    columns-many : length (columns-named (schema-of q) s) ≡ width-of q s
-    columns-many = ap length columns-here ∙ length-columns q s
-
-    column-word : (c : ℕ) → c < width-of q s → nth [] (columns-named (schema-of q) s) c ≡ name-of (getD (q .columns) (s * 6 + c) 0)
-    column-word c k =
-        let e : 0 + c ≡ c = omega arith in
-        rw (columns-here ∙ columns-are q s (width-of q s) refl) (nth-counted [] _ 0 (width-of q s - 0) c (omega arith) ∙ ap (λ i. name-of (getD (q .columns) (s * 6 + i) 0)) e)
-
-    -- ---- and its directory
-
-    key-stream : getD (directory q) s 0 ≡ getD (q .names) s 0
-    unfolding listed stream-name
-    key-stream = let f = few in directory-at q s (omega arith) ∙ rw (lt-ltb s 4 (omega arith), lt-ltb s (streams-in q) h)
-
-  key-column : (i : ℕ) → i < 24 → i / 6 < streams-in q → i % 6 < width-of q (i / 6) → getD (directory q) (4 + i) 0 ≡ getD (q .columns) i 0
-  unfolding listed column-name
-  key-column i h k l =
-      let e : 4 + i - 4 ≡ i = omega arith in
-      directory-at q (4 + i) (omega arith) ∙ rw (le-ltb (4 + i) 4 (omega arith), e, lt-ltb (i / 6) (streams-in q) k, lt-ltb (i % 6) (width-of q (i / 6)) l)
-
-  unlisted : (s : ℕ) → s < 4 → streams-in q ≤ s → listed q s ≡ 0
-  unfolding listed stream-name
-  unlisted s h l = rw (lt-ltb s 4 h, le-ltb s (streams-in q) l)
-
-  -- whether there is a column at a place
-  abbrev there : ℕ → Bool
-  there i = ltb (i / 6) (streams-in q) && ltb (i % 6) (width-of q (i / 6))
-
-  columnless : (i : ℕ) → (T (there i) → ⊥) → listed q (4 + i) ≡ 0
-  unfolding listed column-name
-  columnless i f =
-      let e : 4 + i - 4 ≡ i = omega arith in
-      rw (le-ltb (4 + i) 4 (omega arith), e, T-false (there i) (not-T (there i) f))
-
-  -- a number that is not 0 is that of a stream or a column
-  key-stream-in : (s : ℕ) → s < 4 → 0 < getD (directory q) s 0 → s < streams-in q
-  key-stream-in s h k = go (decLt s (streams-in q))
+module _ (ns : List ℕ) (x : ℕ) (p : 0 < x) (b : x < code-end) where
+  word-here : (i : ℕ) → getD ns i 0 < code-end → same-list (name-of x) (name-of (getD ns i 0)) ≡ eqb (getD ns i 0) x
+  word-here i h = go (eqb (getD ns i 0) x) refl
     where
-      past : streams-in q ≤ s → getD (directory q) s 0 ≡ 0
-      past l = directory-at q s (omega arith) ∙ unlisted s h l
+      go : (t : Bool) → eqb (getD ns i 0) x ≡ t → same-list (name-of x) (name-of (getD ns i 0)) ≡ t
+      go true e = rw (eqb-true (getD ns i 0) x e) (T-true (same-list (name-of x) (name-of x)) (same-list-refl (name-of x)))
+      go false e = name-one x (getD ns i 0) b h ∙ ne-eqb x (getD ns i 0) (λ d. eqb-false (getD ns i 0) x e (sym d))
 
-      go : Dec (s < streams-in q) → s < streams-in q
-      go (yes l) = l
-      go (no l) = let e = past (omega arith) in absurd (omega arith)
+  found-none : (at n : ℕ) → ((i : ℕ) → at ≤ i → i < at + n → getD ns i 0 ≡ 0) → found ns at n x ≡ n
+  unfolding found
+  found-none at zero z = refl
+  found-none at (suc n) z =
+      let e = z at (omega arith) (omega arith) in
+      rw (ne-eqb (getD ns at 0) x (λ d. omega arith)) (ap suc (found-none (suc at) n (λ i h k. z i (omega arith) (omega arith))))
 
-  key-column-in : (i : ℕ) → i < 24 → 0 < getD (directory q) (4 + i) 0 → (i / 6 < streams-in q) × (i % 6 < width-of q (i / 6))
-  key-column-in i h k = go (there i) refl
+  found-words : (at w n : ℕ) → w ≤ n → ((i : ℕ) → at ≤ i → i < at + w → getD ns i 0 < code-end) → ((i : ℕ) → at + w ≤ i → i < at + n → getD ns i 0 ≡ 0)
+      → found ns at n x ≡ cond (some? (same-list (name-of x)) (words ns at w)) (position (name-of x) (words ns at w)) n
+  unfolding found some? position count-from
+  found-words at zero n l f z = found-none at n (λ i h k. z i (omega arith) k)
+  found-words at (suc w) zero l f z = absurd (omega arith)
+  found-words at (suc w) (suc n) l f z =
+      rw (word-here at (f at (omega arith) (omega arith)))
+      (go (eqb (getD ns at 0) x) (some? (same-list (name-of x)) (words ns (suc at) w)) (found-words (suc at) w n (omega arith) (λ i h k. f i (omega arith) (omega arith)) (λ i h k. z i (omega arith) (omega arith))))
     where
-      go : (b : Bool) → there i ≡ b → (i / 6 < streams-in q) × (i % 6 < width-of q (i / 6))
-      go true e =
-          let t : T (there i) = rw e tt in
-          (ltb-true (i / 6) _ (T-true _ (and-l (ltb (i / 6) (streams-in q)) _ t)), ltb-true (i % 6) _ (T-true _ (and-r (ltb (i / 6) (streams-in q)) _ t)))
-      go false e = let z = directory-at q (4 + i) (omega arith) ∙ columnless i (λ t. rw e at t) in absurd (omega arith)
+      go : (t s : Bool) → found ns (suc at) n x ≡ cond s (position (name-of x) (words ns (suc at) w)) n
+          → cond t 0 (suc (found ns (suc at) n x)) ≡ cond (t || s) (cond t 0 (suc (position (name-of x) (words ns (suc at) w)))) (suc n)
+      go true s i = refl
+      go false true i = ap suc i
+      go false false i = ap suc i
 
--- ---- what is sound
+-- ---- codes whatever the names are
 
--- the numbers of a list are those of names: below 2^64
-abbrev pub Narrow : List ℕ → Type 0
-Narrow ks = (i : ℕ) → getD ks i 0 < 18446744073709551616
-
-module _ (w : Bytes) (t : T (name? w)) (u : T (short w)) (n : ℕ) where
-  word-is : n ≡ code-of w → name-of n ≡ w
-  word-is e = ap name-of e ∙ name-back w t u
-
-  code-is : n < 18446744073709551616 → name-of n ≡ w → n ≡ code-of w
-  code-is h e = sym (code-back n h) ∙ ap code-of e
-
-module _ (q : Schema) (sound : schema-sound q ≡ true) where
-  sound-parts : T (leb (q .count) 4 && streams-sound q && distinct same-list (stream-names (schema-of q)))
-  sound-parts = rw (sym (schema-parts q) ∙ sound) tt
-
-  streams-once : T (distinct same-list (stream-names (schema-of q)))
-  streams-once = and-r (leb (q .count) 4 && streams-sound q) _ sound-parts
-
-  stream-sound-here : (s : ℕ) → s < streams-in q → T (stream-sound q s)
-  unfolding streams-sound
-  stream-sound-here s h =
-      let e : 0 + s ≡ s = omega arith in
-      subst (λ i. T (stream-sound q i)) e
-      (every-counted (stream-sound q) 0 (streams-in q) s (and-r (leb (q .count) 4) _ (and-l (leb (q .count) 4 && streams-sound q) _ sound-parts)) h)
-
-  columns-once : (s : ℕ) → s < streams-in q → T (distinct same-list (columns-named (schema-of q) s))
-  unfolding stream-sound valid-stream columns-in
-  columns-once s h = rw (columns-here q s h) (and-r (free-name (stream-in q s .name) && every free-name (columns-in q s) && not (empty? (columns-in q s)) && leb (length (columns-in q s)) max-columns) _ (and-r (leb (getD (q .widths) s 0) 6) _ (stream-sound-here s h)))
-
--- ---- a column by its place
-
-module _ (q : Schema) (sound : schema-sound q ≡ true) (narrow : Narrow (directory q)) (n m : Bytes) (t : T (name? n)) (v : T (name? m)) (u : T (short n)) (w : T (short m)) where
-  abbrev passes : ℕ → Bool
-  passes i = place-test (directory q) (code-of n) (code-of m) i
-
-  -- the stream is declared, and has the column
-  abbrev known : Bool
-  known = declared (schema-of q) n && some? (same-list m) (columns-named (schema-of q) (stream-number (schema-of q) n))
-
-  -- a place that passes has the names
-  module _ (j : ℕ) (h : j < 24) (e : passes j ≡ true) where
-    both : T (eqb (getD (directory q) (j / 6) 0) (code-of n) && eqb (getD (directory q) (4 + j) 0) (code-of m))
-    unfolding place-test
-    both = rw e tt
-
-    first-is : getD (directory q) (j / 6) 0 ≡ code-of n
-    first-is = eqb-true _ _ (T-true _ (and-l (eqb (getD (directory q) (j / 6) 0) (code-of n)) _ both))
-
-    second-is : getD (directory q) (4 + j) 0 ≡ code-of m
-    second-is = eqb-true _ _ (T-true _ (and-r (eqb (getD (directory q) (j / 6) 0) (code-of n)) _ both))
-
-    within : (j / 6 < streams-in q) × (j % 6 < width-of q (j / 6))
-    within = let f = second-is in let g = code-above m v in key-column-in q j h (omega arith)
-
-    stream-named : nth [] (stream-names (schema-of q)) (j / 6) ≡ n
-    stream-named = stream-word q (j / 6) (within .0) ∙ ap name-of (sym (key-stream q (j / 6) (within .0))) ∙ word-is n t u _ first-is
-
-    column-named : nth [] (columns-named (schema-of q) (j / 6)) (j % 6) ≡ m
-    column-named =
-        let a : j / 6 * 6 + j % 6 ≡ j = omega arith in
-        column-word q (j / 6) (within .0) (j % 6) (within .1) ∙ ap (λ i. name-of (getD (q .columns) i 0)) a
-        ∙ ap name-of (sym (key-column q j h (within .0) (within .1))) ∙ word-is m v w _ second-is
-
-    number-is : stream-number (schema-of q) n ≡ j / 6
-    unfolding stream-number
-    number-is =
-        let k = streams-many q in
-        let l = within .0 in
-        sym (ap (λ x. position x (stream-names (schema-of q))) stream-named) ∙ nth-position (stream-names (schema-of q)) (j / 6) (streams-once q sound) (omega arith)
-
-    position-is : position m (columns-named (schema-of q) (j / 6)) ≡ j % 6
-    position-is =
-        let k = columns-many q (j / 6) (within .0) in
-        let l = within .1 in
-        sym (ap (λ x. position x (columns-named (schema-of q) (j / 6))) column-named) ∙ nth-position (columns-named (schema-of q) (j / 6)) (j % 6) (columns-once q sound (j / 6) (within .0)) (omega arith)
-
-    is-declared : T known
-    unfolding declared
-    is-declared =
-        let k = streams-many q in
-        let l = within .0 in
-        let i = columns-many q (j / 6) (within .0) in
-        let o = within .1 in
-        and-both (some? (same-list n) (stream-names (schema-of q))) _
-        (subst (λ x. T (some? (same-list x) (stream-names (schema-of q)))) stream-named (among-nth (stream-names (schema-of q)) (j / 6) (omega arith)))
-        (rw number-is (subst (λ x. T (some? (same-list x) (columns-named (schema-of q) (j / 6)))) column-named (among-nth (columns-named (schema-of q) (j / 6)) (j % 6) (omega arith))))
-
-  -- names that are declared have a place
-  module _ (d : T known) where
-    abbrev at : ℕ
-    at = stream-number (schema-of q) n
-
-    abbrev among : ℕ
-    among = position m (columns-named (schema-of q) at)
-
-    named-stream : T (some? (same-list n) (stream-names (schema-of q)))
-    unfolding declared
-    named-stream = and-l (declared (schema-of q) n) _ d
-
-    named-column : T (some? (same-list m) (columns-named (schema-of q) at))
-    named-column = and-r (declared (schema-of q) n) _ d
-
-    at-below : at < streams-in q
-    unfolding stream-number
-    at-below = let k = streams-many q in let l = position-below n (stream-names (schema-of q)) named-stream in omega arith
-
-    among-below : among < width-of q at
-    among-below = let k = columns-many q at at-below in let l = position-below m (columns-named (schema-of q) at) named-column in omega arith
-
-    abbrev spot : ℕ
-    spot = at * 6 + among
-
-    spot-stream : spot / 6 ≡ at
-    spot-stream = let k = among-below in let l = narrow-width q at in omega arith
-
-    spot-column : spot % 6 ≡ among
-    spot-column = let k = among-below in let l = narrow-width q at in omega arith
-
-    spot-below : spot < 24
-    spot-below = let k = among-below in let l = narrow-width q at in let i = at-below in let f = few q in omega arith
-
-    first-code-is : getD (directory q) at 0 ≡ code-of n
-    unfolding stream-number
-    first-code-is = code-is n t u _ (narrow at) (ap name-of (key-stream q at at-below) ∙ sym (stream-word q at at-below) ∙ position-nth n (stream-names (schema-of q)) named-stream)
-
-    second-code-is : getD (directory q) (4 + spot) 0 ≡ code-of m
-    second-code-is =
-        code-is m v w _ (narrow (4 + spot))
-        (ap name-of (key-column q spot spot-below (rw spot-stream at-below) (rw (spot-stream, spot-column) among-below)) ∙ sym (column-word q at at-below among among-below)
-        ∙ position-nth m (columns-named (schema-of q) at) named-column)
-
-    spot-passes : passes spot ≡ true
-    unfolding place-test
-    spot-passes = rw (spot-stream, first-code-is, second-code-is, eq-eqb (code-of n) (code-of n) refl, eq-eqb (code-of m) (code-of m) refl)
-
-  -- ---- both ways
-
-  -- where the names are declared their place is the column's, and where they are not it is 28
-  Placed : ℕ → Type 0
-  Placed p =
-      ((p < 24) × T known × (stream-number (schema-of q) n ≡ p / 6)
-      × (position m (columns-named (schema-of q) (p / 6)) ≡ p % 6))
-      ⊎ ((p ≡ 28) × (known ≡ false))
-
-  placed : Placed (place-in (directory q) (code-of n) (code-of m))
-  unfolding Placed First
-  placed = rw (place-start (directory q) (code-of n) (code-of m)) (go (first-cases passes 24 0 refl))
+module _ (ns : List ℕ) where
+  place-range : (n m : ℕ) → (place-in ns n m ≤ unknown-code) × (place-in ns n m ≡ number-code → ⊥)
+  unfolding place-in
+  place-range n m = go (found ns 0 4 n) (found ns (column-place (found ns 0 4 n)) 6 m)
     where
-      go : First passes 0 (first-from passes 0) → Placed (first-from passes 0)
-      go (inl f) = let j = first-from passes 0 in inl (f .0, is-declared j (f .0) (f .1), number-is j (f .0) (f .1), position-is j (f .0) (f .1))
-      go (inr f) =
-          inr (
-            f .0,
-            T-false known (not-T known (λ d.
-                let z : _≡_ {A = Bool} true false = sym (spot-passes d) ∙ f .1 (spot d) (omega arith) (spot-below d) in
-                let k : _≡_ {A = ℕ} 0 1 = cc in omega arith)),
-          )
+      go : (s c : ℕ) → (cond (ltb s 4 && ltb c 6) (s * 6 + c) 28 ≤ 28) × (cond (ltb s 4 && ltb c 6) (s * 6 + c) 28 ≡ 26 → ⊥)
+      go s c = by (ltb s 4) (ltb c 6) refl refl
+        where
+          by : (a b : Bool) → ltb s 4 ≡ a → ltb c 6 ≡ b → (cond (a && b) (s * 6 + c) 28 ≤ 28) × (cond (a && b) (s * 6 + c) 28 ≡ 26 → ⊥)
+          by true true e f = let h = ltb-true s 4 e in let k = ltb-true c 6 f in (omega arith, λ z. omega arith)
+          by true false e f = (omega arith, λ z. omega arith)
+          by false b e f = (omega arith, λ z. omega arith)
 
--- ---- the code of a column, for every list of numbers
-
-self-same : (n : Bytes) → T (name? n) → T (short n) → same-list (bytes "self") n ≡ eqb (code-of (bytes "self")) (code-of n)
-unfolding name? letter digit alnum every short max-name
-self-same n t u = names-same (bytes "self") n tt tt t u
-
-own-self : (m : Bytes) → eqb (first-code (dotted (bytes "self") m)) (code-of (bytes "self")) ≡ true
-unfolding first-code code-short short max-name code-of code-from
-own-self m = refl
-
-module _ (ks : List ℕ) where
-  place-range : (n m : ℕ) → (place-in ks n m ≤ 28) × (place-in ks n m ≡ 26 → ⊥)
-  unfolding First
-  place-range n m = rw (place-start ks n m) (go (first-cases (place-test ks n m) 24 0 refl))
-    where
-      go : First (place-test ks n m) 0 (first-from (place-test ks n m) 0) → (first-from (place-test ks n m) 0 ≤ 28) × (first-from (place-test ks n m) 0 ≡ 26 → ⊥)
-      go (inl f) = let h = f .0 in (omega arith, λ e. omega arith)
-      go (inr f) = let h = f .0 in (omega arith, λ e. omega arith)
-
-  pub code-in-range : (n m : ℕ) → (code-in ks n m ≤ 28) × (code-in ks n m ≡ 26 → ⊥)
+  pub code-in-range : (n m : ℕ) → (code-in ns n m ≤ unknown-code) × (code-in ns n m ≡ number-code → ⊥)
   unfolding code-in
   code-in-range n m = go (eqb m 0) (eqb n (code-of (bytes "time"))) (eqb n (code-of (bytes "self"))) (place-range n m)
     where
-      go : (a b c : Bool) → (place-in ks n m ≤ 28) × (place-in ks n m ≡ 26 → ⊥) → (cond a (cond b 24 25) (cond c 27 (place-in ks n m)) ≤ 28) × (cond a (cond b 24 25) (cond c 27 (place-in ks n m)) ≡ 26 → ⊥)
+      go : (a b c : Bool) → (place-in ns n m ≤ 28) × (place-in ns n m ≡ 26 → ⊥) → (cond a (cond b 24 25) (cond c 27 (place-in ns n m)) ≤ 28) × (cond a (cond b 24 25) (cond c 27 (place-in ns n m)) ≡ 26 → ⊥)
       go true true c h = (omega arith, λ e. omega arith)
       go true false c h = (omega arith, λ e. omega arith)
       go false b true h = (omega arith, λ e. omega arith)
       go false b false h = h
 
-  pub code-range : (r : Ref) → (ref-code ks r ≤ 28) × (ref-code ks r ≡ 26 → ⊥)
+  pub code-range : (r : Ref) → (ref-code ns r ≤ unknown-code) × (ref-code ns r ≡ number-code → ⊥)
   unfolding ref-code
   code-range r = code-in-range (first-code r) (second-code r)
 
-  pub code-alone : (ref-code ks time ≡ 24) × (ref-code ks figure ≡ 25)
+  pub code-alone : (ref-code ns time ≡ time-code) × (ref-code ns figure ≡ figure-code)
   unfolding ref-code code-in first-code second-code code-of code-from
   code-alone = (refl, refl)
 
-  module _ (n m : Bytes) (v : T (name? m)) (w : T (short m)) where
-    second-code-of : second-code (dotted n m) ≡ code-of m
-    unfolding second-code code-short
-    second-code-of = rw (T-true (short m) w)
+-- the name `self` is the one of its code
+pub self-same : (n : Bytes) → T (name? n) → T (short n) → same-list (bytes "self") n ≡ eqb (code-of (bytes "self")) (code-of n)
+unfolding name? letter digit alnum every short
+self-same n t u = names-same (bytes "self") n tt tt t u
 
-    second-above : eqb (second-code (dotted n m)) 0 ≡ false
-    second-above = let h = code-above m v in let e = second-code-of in ne-eqb (second-code (dotted n m)) 0 (λ z. omega arith)
+own-self : (m : Bytes) → eqb (first-code (dotted (bytes "self") m)) (code-of (bytes "self")) ≡ true
+unfolding first-code code-short short code-of code-from
+own-self m = refl
 
-    pub code-self : is-self n ≡ true → (ref-code ks (dotted n m) ≡ 27) × (name-of (second-code (dotted n m)) ≡ m)
-    unfolding is-self ref-code code-in
-    code-self e = (rw (second-above, own-code (same-list→eq (bytes "self") n (rw e tt))), ap name-of second-code-of ∙ name-back m v w)
+module _ (ns : List ℕ) (n m : Bytes) (v : T (name? m)) (w : T (short m)) where
+  pub second-is : second-code (dotted n m) ≡ code-of m
+  unfolding second-code code-short
+  second-is = rw (T-true (short m) w)
+
+  second-above : eqb (second-code (dotted n m)) 0 ≡ false
+  second-above = let h = code-above m v in let e = second-is in ne-eqb (second-code (dotted n m)) 0 (λ z. omega arith)
+
+  -- a profile entry by its name
+  pub code-self : is-self n ≡ true → (ref-code ns (dotted n m) ≡ entry-code) × (name-of (second-code (dotted n m)) ≡ m)
+  unfolding is-self ref-code code-in
+  code-self e = (rw (second-above, own-code (same-list→eq (bytes "self") n (rw e tt))), ap name-of second-is ∙ name-back m v w)
+    where
+      own-code : bytes "self" ≡ n → eqb (first-code (dotted n m)) (code-of (bytes "self")) ≡ true
+      own-code d = rw (sym d) (own-self m)
+
+  code-other : T (name? n) → T (short n) → is-self n ≡ false → ref-code ns (dotted n m) ≡ place-in ns (code-of n) (code-of m)
+  unfolding is-self ref-code code-in first-code code-short
+  code-other t u e =
+      let k : eqb (code-of n) (code-of (bytes "self")) ≡ false = ne-eqb (code-of n) (code-of (bytes "self")) (λ d. eqb-false (code-of (bytes "self")) (code-of n) (sym (self-same n t u) ∙ e) (sym d)) in
+      rw (second-above, T-true (short n) u, k, second-is)
+
+-- ---- codes of sound names
+
+-- what may be written where a column may, with names that are short and declared
+unfoldable pub fine : List ℕ → Ref → Bool
+fine ns r = ref? r && (short-ref r && ref-declared (schema-of ns) r)
+
+-- a code is that of a column of a declared stream
+pub record Stands (ns : List ℕ) (r : Ref) : Type 0 where
+  pub stream : ref-code ns r / max-columns < streams-in ns
+  pub column : ref-code ns r % max-columns < width-in ns (ref-code ns r / max-columns)
+  pub is : column-of (schema-of ns) r ≡ col (ref-code ns r / max-columns) (ref-code ns r % max-columns)
+  pub term : term-of (schema-of ns) r ≡ Q.column (col (ref-code ns r / max-columns) (ref-code ns r % max-columns))
+
+module _ (ns : List ℕ) (sound : T (schema-sound ns)) where
+  abbrev d : Schema
+  d = schema-of ns
+
+  facts : Sound ns
+  facts = sound-facts ns sound
+
+  -- the stream is declared, and has the column
+  abbrev known : Bytes → Bytes → Bool
+  known n m = declared d n && some? (same-list m) (columns-named d (stream-number d n))
+
+  -- and its place
+  abbrev spot : Bytes → Bytes → ℕ
+  spot n m = stream-number d n * max-columns + position m (columns-named d (stream-number d n))
+
+  module _ (n : Bytes) (t : T (name? n)) (u : T (short n)) where
+    streams-found : found ns 0 4 (code-of n) ≡ cond (declared d n) (stream-number d n) 4
+    unfolding declared stream-number
+    streams-found =
+        found-words ns (code-of n) (code-above n t) (code-below n t u) 0 (streams-in ns) 4 (streams-most ns)
+        (λ i h k. let e : 0 + i ≡ i = omega arith in free-below (getD ns i 0) (rw e at (named-free ns 0 (streams-in ns) (facts .names) i (omega arith))))
+        (λ i h k. facts .after i (omega arith) (omega arith))
+        ∙ ap₂ (λ w ws. cond (some? (same-list w) ws) (position w ws) 4) (name-back n t u) (sym (stream-names-are ns))
+
+    -- the place of a stream is its number where it is declared
+    pub stream-found-is : stream-found ns (code-short n) ≡ cond (declared d n) (stream-number d n) max-streams
+    unfolding stream-found code-short
+    stream-found-is = rw (T-true (short n) u) streams-found
+
+    columns-found : (s : ℕ) → s < streams-in ns → found ns (column-place s) 6 (code-of n) ≡ cond (some? (same-list n) (columns-named d s)) (position n (columns-named d s)) 6
+    unfolding column-in
+    columns-found s h =
+        let l = streams-most ns in
+        let z : column-place s + 0 ≡ column-place s = omega arith in
+        found-words ns (code-of n) (code-above n t) (code-below n t u) (column-place s) (width-in ns s) 6 (width-most ns s)
+        (λ i j k. let e : column-place s + (i - column-place s) ≡ i = omega arith in free-below (getD ns i 0) (rw e at (named-free ns (column-place s) (width-in ns s) (facts .columns s h) (i - column-place s) (omega arith))))
+        (λ i j k. let e : column-place s + (i - column-place s) ≡ i = omega arith in rw e at (facts .columns-after s (i - column-place s) (omega arith) (omega arith) (omega arith)))
+        ∙ ap₂ (λ w ws. cond (some? (same-list w) ws) (position w ws) 6) (name-back n t u) (sym (columns-are ns s h ∙ words-shift ns (column-place s) 0 (width-in ns s) ∙ ap (λ i. words ns i (width-in ns s)) z))
+
+  pub stream-below : (n : Bytes) → T (declared d n) → stream-number d n < streams-in ns
+  stream-below n k = let l = ltb→lt (stream-number d n) (length d) (below d n k) in let e = length-schema ns in omega arith
+
+  pub column-below : (n m : Bytes) → T (known n m) → position m (columns-named d (stream-number d n)) < width-in ns (stream-number d n)
+  column-below n m k =
+      let l = position-below m (columns-named d (stream-number d n)) (and-r (declared d n) (some? (same-list m) (columns-named d (stream-number d n))) k) in
+      let e = length-columns ns (stream-number d n) (stream-below n (and-l (declared d n) (some? (same-list m) (columns-named d (stream-number d n))) k)) in
+      omega arith
+
+  pub stream-declared : (n : Bytes) → T (name? n) → T (short n) → ltb (stream-found ns (code-short n)) max-streams ≡ declared d n
+  stream-declared n t u = rw (stream-found-is n t u) (go (declared d n) refl)
+    where
+      go : (b : Bool) → declared d n ≡ b → ltb (cond b (stream-number d n) max-streams) max-streams ≡ b
+      go true e = let l = stream-below n (true-T (declared d n) e) in let m = streams-most ns in lt-ltb (stream-number d n) max-streams (omega arith)
+      go false e = refl
+
+  module _ (n m : Bytes) (t : T (name? n)) (v : T (name? m)) (u : T (short n)) (w : T (short m)) where
+    place-is : place-in ns (code-of n) (code-of m) ≡ cond (known n m) (spot n m) unknown-code
+    unfolding place-in
+    place-is = rw (streams-found n t u) (go (declared d n) refl)
       where
-        own-code : bytes "self" ≡ n → eqb (first-code (dotted n m)) (code-of (bytes "self")) ≡ true
-        own-code d = rw (sym d) (own-self m)
+        go : (b : Bool) → declared d n ≡ b
+            → cond (ltb (cond b (stream-number d n) 4) 4 && ltb (found ns (column-place (cond b (stream-number d n) 4)) 6 (code-of m)) 6) (cond b (stream-number d n) 4 * 6 + found ns (column-place (cond b (stream-number d n) 4)) 6 (code-of m)) 28
+            ≡ cond (b && some? (same-list m) (columns-named d (stream-number d n))) (spot n m) 28
+        go false e = refl
+        go true e =
+            let l = stream-below n (true-T (declared d n) e) in
+            let k = streams-most ns in
+            rw (lt-ltb (stream-number d n) 4 (omega arith), columns-found m v w (stream-number d n) l) (by (some? (same-list m) (columns-named d (stream-number d n))) refl)
+          where
+            by : (b : Bool) → some? (same-list m) (columns-named d (stream-number d n)) ≡ b
+                → cond (ltb (cond b (position m (columns-named d (stream-number d n))) 6) 6) (stream-number d n * 6 + cond b (position m (columns-named d (stream-number d n))) 6) 28 ≡ cond b (spot n m) 28
+            by false f = refl
+            by true f =
+                let l = column-below n m (and-both (declared d n) (some? (same-list m) (columns-named d (stream-number d n))) (true-T (declared d n) e) (true-T (some? (same-list m) (columns-named d (stream-number d n))) f)) in
+                let k = width-most ns (stream-number d n) in
+                rw (lt-ltb (position m (columns-named d (stream-number d n))) 6 (omega arith))
 
-    pub code-other : T (name? n) → T (short n) → is-self n ≡ false → ref-code ks (dotted n m) ≡ place-in ks (code-of n) (code-of m)
-    unfolding is-self ref-code code-in first-code code-short
-    code-other t u e =
-        let k : eqb (code-of n) (code-of (bytes "self")) ≡ false = ne-eqb (code-of n) (code-of (bytes "self")) (λ d. let z : _≡_ {A = Bool} true false = sym (self-same n t u ∙ eq-eqb (code-of (bytes "self")) (code-of n) (sym d)) ∙ e in let y : _≡_ {A = ℕ} 0 1 = cc in omega arith) in
-        rw (second-above, T-true (short n) u, k, second-code-of)
+    -- the code of two names
+    pub code-dotted : ref-code ns (dotted n m) ≡ cond (is-self n) entry-code (cond (known n m) (spot n m) unknown-code)
+    code-dotted = go (is-self n) refl
+      where
+        go : (b : Bool) → is-self n ≡ b → ref-code ns (dotted n m) ≡ cond b entry-code (cond (known n m) (spot n m) unknown-code)
+        go true e = code-self ns n m v w e .0
+        go false e = code-other ns n m v w t u e ∙ place-is
 
--- ---- the codes of a schema's columns
+    spot-parts : T (known n m) → (spot n m < time-code) × (spot n m / max-columns ≡ stream-number d n) × (spot n m % max-columns ≡ position m (columns-named d (stream-number d n)))
+    spot-parts k =
+        let l = stream-below n (and-l (declared d n) (some? (same-list m) (columns-named d (stream-number d n))) k) in
+        let o = column-below n m k in
+        let e = streams-most ns in
+        let f = width-most ns (stream-number d n) in
+        (omega arith, omega arith, omega arith)
 
-module _ (q : Schema) (sound : schema-sound q ≡ true) (narrow : Narrow (directory q)) where
-  pub code-column : (n m : Bytes) → T (name? n) → T (name? m) → T (short n) → T (short m) → is-self n ≡ false → T (ref-declared (schema-of q) (dotted n m))
-      → (ref-code (directory q) (dotted n m) < 24) × (col-of (schema-of q) n m ≡ col (ref-code (directory q) (dotted n m) / 6) (ref-code (directory q) (dotted n m) % 6))
-  unfolding ref-declared col-of Placed
-  code-column n m t v u w e d = rw (code-other (directory q) n m v w t u e) (go (placed q sound narrow n m t v u w))
-    where
-      p : ℕ
-      p = place-in (directory q) (code-of n) (code-of m)
+  -- ---- every code
 
-      go : Placed q sound narrow n m t v u w p → (p < 24) × (col (stream-number (schema-of q) n) (position m (columns-named (schema-of q) (stream-number (schema-of q) n))) ≡ col (p / 6) (p % 6))
-      go (inl f) = (f .0, rw (f .2, f .3))
-      go (inr f) = absurd (rw (e, f .1) at d)
+  module _ (n m : Bytes) (t : T (name? n)) (v : T (name? m)) (u : T (short n)) (w : T (short m)) where
+    dotted-declared : not (eqb (ref-code ns (dotted n m)) unknown-code) ≡ ref-declared d (dotted n m)
+    unfolding ref-declared
+    dotted-declared = rw (code-dotted n m t v u w) (go (is-self n) (known n m) refl)
+      where
+        go : (a b : Bool) → known n m ≡ b → not (eqb (cond a entry-code (cond b (spot n m) unknown-code)) unknown-code) ≡ (a || b)
+        go true b e = refl
+        go false true e = let l = spot-parts n m t v u w (true-T (known n m) e) .0 in rw (ne-eqb (spot n m) unknown-code (λ z. omega arith))
+        go false false e = refl
 
-  by-self : (n m : Bytes) → T (name? n) → T (name? m) → T (short n) → T (short m) → (b : Bool) → is-self n ≡ b
-      → not (eqb (ref-code (directory q) (dotted n m)) 28) ≡ (b || declared (schema-of q) n && some? (same-list m) (columns-named (schema-of q) (stream-number (schema-of q) n)))
-  unfolding Placed
-  by-self n m t v u w true e = rw (code-self (directory q) n m v w e .0)
-  by-self n m t v u w false e = rw (code-other (directory q) n m v w t u e) (go (placed q sound narrow n m t v u w))
-    where
-      p : ℕ
-      p = place-in (directory q) (code-of n) (code-of m)
+    dotted-entry : eqb (ref-code ns (dotted n m)) entry-code ≡ is-self n
+    dotted-entry = rw (code-dotted n m t v u w) (go (is-self n) (known n m) refl)
+      where
+        go : (a b : Bool) → known n m ≡ b → eqb (cond a entry-code (cond b (spot n m) unknown-code)) entry-code ≡ a
+        go true b e = refl
+        go false true e = let l = spot-parts n m t v u w (true-T (known n m) e) .0 in ne-eqb (spot n m) entry-code (λ z. omega arith)
+        go false false e = refl
 
-      go : Placed q sound narrow n m t v u w p → not (eqb p 28) ≡ (declared (schema-of q) n && some? (same-list m) (columns-named (schema-of q) (stream-number (schema-of q) n)))
-      go (inl f) = let h = f .0 in rw (ne-eqb p 28 (λ d. omega arith), T-true (known q sound narrow n m t v u w) (f .1))
-      go (inr f) = rw (eq-eqb p 28 (f .0), f .1)
+    -- where it is no profile entry
+    module _ (o : is-self n ≡ false) where
+      dotted-known : T (ref-declared d (dotted n m)) → T (known n m)
+      unfolding ref-declared
+      dotted-known k = rw o at k
 
-  pub code-declared : (r : Ref) → T (ref? r) → T (short-ref r) → not (eqb (ref-code (directory q) r) 28) ≡ ref-declared (schema-of q) r
+      dotted-code : T (known n m) → ref-code ns (dotted n m) ≡ spot n m
+      dotted-code k = code-dotted n m t v u w ∙ rw (o, T-true (known n m) k)
+
+      pub code-low : T (ref-declared d (dotted n m)) → ref-code ns (dotted n m) < time-code
+      code-low k = rw (dotted-code (dotted-known k)) (spot-parts n m t v u w (dotted-known k) .0)
+
+      dotted-stands : T (known n m) → Stands ns (dotted n m)
+      unfolding column-of term-of col-of
+      dotted-stands k =
+          let e = dotted-code k in
+          let f = spot-parts n m t v u w k .1 in
+          let g = spot-parts n m t v u w k .2 in
+          record {
+            stream = rw (e, f) (stream-below n (and-l (declared d n) (some? (same-list m) (columns-named d (stream-number d n))) k));
+            column = rw (e, f, g) (column-below n m k);
+            is = rw (e, f, g, o);
+            term = rw (e, f, g, o);
+          }
+
+    dotted-column : ref-code ns (dotted n m) < time-code → Stands ns (dotted n m)
+    dotted-column l = go (is-self n) (known n m) refl refl
+      where
+        go : (a b : Bool) → is-self n ≡ a → known n m ≡ b → Stands ns (dotted n m)
+        go true b e f = absurd (let c = code-self ns n m v w e .0 in omega arith)
+        go false true e f = dotted-stands e (true-T (known n m) f)
+        go false false e f = absurd (let c : ref-code ns (dotted n m) ≡ unknown-code = code-dotted n m t v u w ∙ rw (e, f) in omega arith)
+
+  -- what is not declared has a code of its own
+  pub code-declared : (r : Ref) → T (ref? r) → T (short-ref r) → not (eqb (ref-code ns r) unknown-code) ≡ ref-declared d r
   unfolding ref-declared ref? short-ref
-  code-declared time g h = rw (code-alone (directory q) .0)
-  code-declared figure g h = rw (code-alone (directory q) .1)
-  code-declared (dotted n m) g h =
-      by-self n m (and-l (name? n) (name? m) g) (and-r (name? n) (name? m) g) (and-l (short n) (short m) h) (and-r (short n) (short m) h) (is-self n) refl
+  code-declared (dotted n m) g h = dotted-declared n m (search parts) (search parts) (search parts) (search parts)
+  code-declared time g h = rw (code-alone ns .0)
+  code-declared figure g h = rw (code-alone ns .1)
 
-  -- the place of a column from its numbers
-  pub code-spot : (n m : Bytes) → T (name? n) → T (name? m) → T (short n) → T (short m) → is-self n ≡ false → T (ref-declared (schema-of q) (dotted n m))
-      → ref-code (directory q) (dotted n m) ≡ stream-number (schema-of q) n * 6 + position m (columns-named (schema-of q) (stream-number (schema-of q) n))
-  unfolding ref-declared Placed
-  code-spot n m t v u w e d = rw (code-other (directory q) n m v w t u e) (go (placed q sound narrow n m t v u w))
+  -- so has a profile entry
+  pub code-entry : (r : Ref) → T (ref? r) → T (short-ref r) → eqb (ref-code ns r) entry-code ≡ own? r
+  unfolding own? ref? short-ref
+  code-entry (dotted n m) g h = dotted-entry n m (search parts) (search parts) (search parts) (search parts)
+  code-entry time g h = rw (code-alone ns .0)
+  code-entry figure g h = rw (code-alone ns .1)
+
+  -- a low code is a column's
+  pub code-column : (r : Ref) → T (ref? r) → T (short-ref r) → ref-code ns r < time-code → Stands ns r
+  unfolding ref? short-ref
+  code-column (dotted n m) g h l = dotted-column n m (search parts) (search parts) (search parts) (search parts) l
+  code-column time g h l = absurd (let c = code-alone ns .0 in omega arith)
+  code-column figure g h l = absurd (let c = code-alone ns .1 in omega arith)
+
+  -- ---- codes tell apart what they stand for
+
+  -- what has a code, and a number of a second name where it is a profile entry
+  back : ℕ → ℕ → Ref
+  back c s =
+      cond (ltb c time-code) (dotted (nth [] (stream-names d) (c / max-columns)) (nth [] (columns-named d (c / max-columns)) (c % max-columns)))
+      (cond (eqb c time-code) time (cond (eqb c figure-code) figure (dotted (bytes "self") (name-of s))))
+
+  back-low : (c s k : ℕ) → (c ≡ entry-code → s ≡ k) → (c ≡ number-code → ⊥) → c < unknown-code → back c s ≡ back c k
+  unfolding back
+  back-low c s k f g l = go (ltb c 24) (eqb c 24) (eqb c 25) refl refl refl
     where
-      p : ℕ
-      p = place-in (directory q) (code-of n) (code-of m)
+      go : (x y z : Bool) → ltb c 24 ≡ x → eqb c 24 ≡ y → eqb c 25 ≡ z
+          → cond x (dotted (nth [] (stream-names d) (c / 6)) (nth [] (columns-named d (c / 6)) (c % 6))) (cond y time (cond z figure (dotted (bytes "self") (name-of s))))
+          ≡ cond x (dotted (nth [] (stream-names d) (c / 6)) (nth [] (columns-named d (c / 6)) (c % 6))) (cond y time (cond z figure (dotted (bytes "self") (name-of k))))
+      go true y z e i j = refl
+      go false true z e i j = refl
+      go false false true e i j = refl
+      go false false false e i j =
+          let p = ltb-false c 24 e in
+          let q = eqb-false c 24 i in
+          let r = eqb-false c 25 j in
+          ap (λ x. dotted (bytes "self") (name-of x)) (f (omega arith))
 
-      go : Placed q sound narrow n m t v u w p → p ≡ stream-number (schema-of q) n * 6 + position m (columns-named (schema-of q) (stream-number (schema-of q) n))
-      go (inl f) = rw (f .2, f .3) (omega arith)
-      go (inr f) = absurd (rw (e, f .1) at d)
+  module _ (n m : Bytes) (t : T (name? n)) (v : T (name? m)) (u : T (short n)) (w : T (short m)) where
+    back-own : is-self n ≡ true → back (ref-code ns (dotted n m)) (second-code (dotted n m)) ≡ dotted n m
+    unfolding back is-self
+    back-own e = let c = code-self ns n m v w e in rw (c .0, c .1) (ap (λ x. dotted x m) (same-list→eq (bytes "self") n (true-T (same-list (bytes "self") n) e)))
 
-  -- equal codes are of one column
-  pub code-place : (n m k l : Bytes) → T (name? n) → T (name? m) → T (short n) → T (short m) → is-self n ≡ false → T (ref-declared (schema-of q) (dotted n m))
-      → T (name? k) → T (name? l) → T (short k) → T (short l) → is-self k ≡ false → T (ref-declared (schema-of q) (dotted k l))
-      → ref-code (directory q) (dotted n m) ≡ ref-code (directory q) (dotted k l) → col-of (schema-of q) n m ≡ col-of (schema-of q) k l
-  code-place n m k l a b c d e f g h i j o r s =
-      code-column n m a b c d e f .1 ∙ ap (λ p. col (p / 6) (p % 6)) s ∙ sym (code-column k l g h i j o r .1)
+    back-column : is-self n ≡ false → T (known n m) → back (ref-code ns (dotted n m)) (second-code (dotted n m)) ≡ dotted n m
+    unfolding back declared stream-number
+    back-column o k =
+        let p = spot-parts n m t v u w k in
+        rw (dotted-code n m t v u w o k, lt-ltb (spot n m) time-code (p .0), p .1, p .2)
+        (ap₂ dotted (position-nth n (stream-names d) (and-l (declared d n) (some? (same-list m) (columns-named d (stream-number d n))) k))
+        (position-nth m (columns-named d (stream-number d n)) (and-r (declared d n) (some? (same-list m) (columns-named d (stream-number d n))) k)))
 
--- a list of a schema's numbers is one of names where the schema's are
-pub directory-narrow : (q : Schema) → Narrow (q .names) → Narrow (q .columns) → Narrow (directory q)
-unfolding listed stream-name column-name
-directory-narrow q f g i = go (decLt i 28)
-  where
-    chosen : (b : Bool) (x : ℕ) → x < 18446744073709551616 → cond b x 0 < 18446744073709551616
-    chosen true x h = h
-    chosen false x h = omega arith
+    back-dotted : T (ref-declared d (dotted n m)) → back (ref-code ns (dotted n m)) (second-code (dotted n m)) ≡ dotted n m
+    back-dotted k = go (is-self n) refl
+      where
+        go : (b : Bool) → is-self n ≡ b → back (ref-code ns (dotted n m)) (second-code (dotted n m)) ≡ dotted n m
+        go true e = back-own e
+        go false e = back-column e (dotted-known n m t v u w e k)
 
-    either : (b : Bool) (x y : ℕ) → x < 18446744073709551616 → y < 18446744073709551616 → cond b x y < 18446744073709551616
-    either true x y h k = h
-    either false x y h k = k
+  back-is : (r : Ref) → T (ref? r) → T (short-ref r) → T (ref-declared d r) → back (ref-code ns r) (second-code r) ≡ r
+  unfolding back ref? short-ref
+  back-is (dotted n m) g h k = back-dotted n m (search parts) (search parts) (search parts) (search parts) k
+  back-is time g h k = rw (code-alone ns .0)
+  back-is figure g h k = rw (code-alone ns .1)
 
-    go : Dec (i < 28) → getD (directory q) i 0 < 18446744073709551616
-    go (yes h) = rw (directory-at q i h) (either (ltb i 4) (stream-name q i) (column-name q (i - 4)) (chosen (ltb i (streams-in q)) (getD (q .names) i 0) (f i)) (chosen (there q (i - 4)) (getD (q .columns) (i - 4) 0) (g (i - 4))))
-    go (no h) =
-        let l = directory-length q in
-        let o : length (directory q) ≤ i = omega arith in
-        rw (List·getD-eq-default (directory q) 0 o) (omega arith)
+  module _ (a b : Ref) (s : T (fine ns a)) (t : T (fine ns b)) where
+    -- one code is one column, and one profile entry where its name is one
+    pub code-one : ref-code ns a ≡ ref-code ns b → (ref-code ns a ≡ entry-code → second-code a ≡ second-code b) → a ≡ b
+    unfolding fine
+    code-one e f =
+        let l = code-range ns a in
+        let k = eqb-false (ref-code ns a) unknown-code (not-true (eqb (ref-code ns a) unknown-code) (code-declared a (search parts) (search parts) ∙ T-true (ref-declared d a) (search parts))) in
+        sym (back-is a (search parts) (search parts) (search parts)) ∙ back-low (ref-code ns a) (second-code a) (second-code b) f (l .1) (omega arith)
+        ∙ ap (λ c. back c (second-code b)) e ∙ back-is b (search parts) (search parts) (search parts)
 
--- ---- numbers
-
-pub biased-back : (z : ℤ) → T (is-value z) → (biased (value-kept z) < 4294967296)
-    × (cond (leb 2147483648 (biased (value-kept z))) (pos (biased (value-kept z) - 2147483648)) (negsuc (2147483647 - biased (value-kept z))) ≡ z)
-unfolding value-kept biased is-value top
-biased-back z t = rw (T-true (is-value z) t) (back z t)
-  where
-    back : (z : ℤ) → T (is-value z) → (biased z < 4294967296) × (cond (leb 2147483648 (biased z)) (pos (biased z - 2147483648)) (negsuc (2147483647 - biased z)) ≡ z)
-    back (pos n) t =
-        let h = leb→le n 2147483647 t in
-        let e : 2147483648 + n - 2147483648 ≡ n = omega arith in
-        (omega arith, rw (le-leb 2147483648 (2147483648 + n) (omega arith), e))
-    back (negsuc n) t =
-        let h = leb→le n 2147483647 t in
-        let e : 2147483647 - (2147483647 - n) ≡ n = omega arith in
-        (omega arith, rw (lt-leb 2147483648 (2147483647 - n) (omega arith), e))
+    pub ref-same : same-ref a b ≡ (eqb (ref-code ns a) (ref-code ns b) && (not (eqb (ref-code ns a) entry-code) || eqb (second-code a) (second-code b)))
+    ref-same =
+        same-truth (same-ref a b) (eqb (ref-code ns a) (ref-code ns b) && (not (eqb (ref-code ns a) entry-code) || eqb (second-code a) (second-code b)))
+        (λ u. let e = same-ref→eq a b u in rw e (and-both (eqb (ref-code ns b) (ref-code ns b)) _ (eqb-refl (ref-code ns b)) (or-r (not (eqb (ref-code ns b) entry-code)) _ (eqb-refl (second-code b)))))
+        (λ u. rw (code-one (eqb→eq (ref-code ns a) (ref-code ns b) (search parts)) (λ e. or-cases (not (eqb (ref-code ns a) entry-code)) (eqb (second-code a) (second-code b)) (search parts)
+        (λ x. absurd (rw (eq-eqb (ref-code ns a) entry-code e) at x)) (λ x. eqb→eq (second-code a) (second-code b) x))) (same-ref-refl b))

@@ -1,20 +1,15 @@
 // Columns, operands and comparisons of a line at a place, resolved by the names of a schema.
 ghost use mathlib.Core.Path.{_≡_};
 ghost use mathlib.Core.Bool.{cond};
-ghost use Prim.Native.Nat.{_<_};
+ghost use Prim.Native.Nat.{_+_, _≤_};
 ghost use lib.Dec.{eqb};
 ghost use lib.ListN.{getD};
-ghost use Rattle.terms.specs.Terms.{stream-name, column-name, listed, directory, place-in, place-test, no-ref, dotted-of, alone-of, ref-at, code-in, biased, no-term, ref-term-at, number-term-at, operand-at, no-comparison, compared, comparison-at};
-use items::Kept;
-use schema::Schema;
+ghost use Rattle.schema.specs.Schemas.{schema-size};
+ghost use Rattle.terms.specs.Terms.{entry-code, found, stream-found, place-in, no-ref, dotted-of, alone-of, ref-at, code-in, biased, no-term, ref-term-at, number-term-at, operand-at, no-comparison, compared, comparison-at};
+use schema::Stream;
+use text::Kept;
 use text::Name;
-
-// The numbers of the names that stand alone, and of `self`.
-const SELF: u64 = 1936026726;
-
-const TIME: u64 = 1953066341;
-
-const FIGURE: u64 = 112602893349477;
+use text::Word;
 
 // What stands where a column may: the numbers of its two names, the second 0 where it stands alone.
 pub struct Reference {
@@ -32,6 +27,19 @@ pub struct Term {
     pub code: u32,
     pub value: u64,
     pub next: usize,
+}
+
+impl Term {
+    // The codes of terms: a column's place among the 24, and those after them.
+    pub const TIME: u32 = 24;
+
+    pub const FIGURE: u32 = 25;
+
+    pub const NUMBER: u32 = 26;
+
+    pub const ENTRY: u32 = 27;
+
+    pub const UNKNOWN: u32 = 28;
 }
 
 // A comparison: the codes of its terms, and the number or the profile entry on its right.
@@ -84,55 +92,7 @@ fn alone_of(n: Name) -> Reference
     }
 }
 
-// The number of a stream's name, and 0 where there is none.
-fn stream_name(q: Schema, s: usize) -> u64
-    ensures { λ r. ⌜ r ≡ stream-name q s ⌝ }
-{
-    if q.streams() <= s {
-        return 0;
-    }
-    q.name(s)
-}
-
-// The number of a column's name by its place among the 24, and 0 where there is none.
-fn column_name(q: Schema, i: usize) -> u64
-    ensures { λ r. ⌜ r ≡ column-name q i ⌝ }
-{
-    let s = i / 6;
-    let c = i % 6;
-    if q.streams() <= s {
-        return 0;
-    }
-    if q.width(s) <= c {
-        return 0;
-    }
-    q.column_code(s, c)
-}
-
-// One of the 28 numbers of a schema's names.
-fn listed(q: Schema, i: usize) -> u64
-    ensures { λ r. ⌜ r ≡ listed q i ⌝ }
-{
-    if i < 4 {
-        return stream_name(q, i);
-    }
-    column_name(q, i - 4)
-}
-
-// The names of a schema: four streams, then six columns of each.
-pub fn directory(q: Schema) -> [u64; 28]
-    ensures { λ r. ⌜ r ≡ directory q ⌝ }
-{
-    let mut r: [u64; 28] = [0; 28];
-    let mut i: usize = 0;
-    while i < 28 {
-        r[i] = listed(q, i);
-        i += 1;
-    }
-    r
-}
-
-// What stands at a place where a column may.
+// Returns what stands at a place where a column may, and the place after it; `ok` is false where there is no such thing, and all else 0.
 pub fn ref_at(s: &[u8], at: usize) -> Reference
     ensures { λ r. ⌜ r ≡ ref-at (now (s .entry)) at ⌝ }
 {
@@ -151,64 +111,71 @@ pub fn ref_at(s: &[u8], at: usize) -> Reference
     if n.long {
         return no_ref();
     }
-    if n.code == TIME {
+    if n.code == Word::TIME {
         return alone_of(n);
     }
-    if n.code == FIGURE {
+    if n.code == Word::FIGURE {
         return alone_of(n);
     }
     no_ref()
 }
 
-// The number at a place of a list, and 0 past its end.
-fn number_in(ks: &[u64], i: usize) -> u64
-    ensures { λ r. ⌜ r ≡ getD (now (ks .entry)) i 0 ⌝ }
-{
-    if i < ks.len() {
-        return ks[i];
-    }
-    0
-}
-
-// Whether a column has its names at a place.
-fn stands_at(ks: &[u64], n: u64, m: u64, i: usize) -> bool
-    requires { ⌜ i < 24 ⌝ }
-    ensures { λ r. ⌜ r ≡ place-test (now (ks .entry)) n m i ⌝ }
-{
-    if number_in(ks, i / 6) != n {
-        return false;
-    }
-    number_in(ks, 4 + i) == m
-}
-
-// The place of a column by the numbers of its names, or 28.
-fn place(ks: &[u64], n: u64, m: u64) -> u32
-    ensures { λ r. ⌜ r ≡ place-in (now (ks .entry)) n m ⌝ }
+// The first of n numbers from a place on that is a given one, or n.
+fn find(names: &[u64], at: usize, n: usize, code: u64) -> usize
+    requires { ⌜ at + n ≤ schema-size ⌝ }
+    ensures { λ r. ⌜ r ≡ found (now (names .entry)) at n code ⌝ }
 {
     let mut i: usize = 0;
-    while i < 24 {
-        if stands_at(ks, n, m, i) {
-            return i as u32;
+    while i < n {
+        if schema::name_in(names, at + i) == code {
+            return i;
         }
         i += 1;
     }
-    28
+    n
 }
 
-// The code of a term by the numbers of its names.
-pub fn term_code(ks: &[u64], n: u64, m: u64) -> u32
-    ensures { λ r. ⌜ r ≡ code-in (now (ks .entry)) n m ⌝ }
+// Returns the number of a stream by that of its name; Stream::MOST means that there is none.
+pub fn stream_place(names: &[u64], code: u64) -> u32
+    ensures { λ r. ⌜ r ≡ stream-found (now (names .entry)) code ⌝ }
+{
+    find(names, 0, Stream::MOST, code) as u32
+}
+
+// The place of a column among the 24 by the numbers of its names, or Term::UNKNOWN.
+fn place(names: &[u64], n: u64, m: u64) -> u32
+    ensures { λ r. ⌜ r ≡ place-in (now (names .entry)) n m ⌝ }
+{
+    let s = find(names, 0, Stream::MOST, n);
+    if Stream::MOST <= s {
+        return Term::UNKNOWN;
+    }
+    let c = find(
+        names,
+        Stream::MOST + s * Stream::COLUMNS,
+        Stream::COLUMNS,
+        m,
+    );
+    if Stream::COLUMNS <= c {
+        return Term::UNKNOWN;
+    }
+    (s * Stream::COLUMNS + c) as u32
+}
+
+// Returns the code of a term by the numbers of its names, Term::UNKNOWN where it is not declared.
+pub fn term_code(names: &[u64], n: u64, m: u64) -> u32
+    ensures { λ r. ⌜ r ≡ code-in (now (names .entry)) n m ⌝ }
 {
     if m == 0 {
-        if n == TIME {
-            return 24;
+        if n == Word::TIME {
+            return Term::TIME;
         }
-        return 25;
+        return Term::FIGURE;
     }
-    if n == SELF {
-        return 27;
+    if n == Word::SELF {
+        return Term::ENTRY;
     }
-    place(ks, n, m)
+    place(names, n, m)
 }
 
 // A number of 32 bits, the lowest as 0.
@@ -234,23 +201,23 @@ fn no_term() -> Term
 
 // The number of a profile entry's name, and 0 for any other term.
 fn entry_value(code: u32, m: u64) -> u64
-    ensures { λ r. ⌜ r ≡ cond (eqb code 27) m 0 ⌝ }
+    ensures { λ r. ⌜ r ≡ cond (eqb code entry-code) m 0 ⌝ }
 {
-    if code == 27 {
+    if code == Term::ENTRY {
         return m;
     }
     0
 }
 
 // The operand at a place that begins with a letter.
-fn ref_term(s: &[u8], at: usize, ks: &[u64]) -> Term
-    ensures { λ r. ⌜ r ≡ ref-term-at (now (ks .entry)) (now (s .entry)) at ⌝ }
+fn ref_term(s: &[u8], at: usize, names: &[u64]) -> Term
+    ensures { λ r. ⌜ r ≡ ref-term-at (now (names .entry)) (now (s .entry)) at ⌝ }
 {
     let r = ref_at(s, at);
     if !r.ok {
         return no_term();
     }
-    let code = term_code(ks, r.first, r.second);
+    let code = term_code(names, r.first, r.second);
     let value = entry_value(code, r.second);
     Term {
         ok: true,
@@ -269,29 +236,25 @@ fn number_term(s: &[u8], at: usize) -> Term
     if !z.ok {
         return no_term();
     }
-    let k = items::kept_value(z);
+    let k = z.kept();
     let value = biased(k);
     Term {
         ok: true,
         over: k.wide,
-        code: 26,
+        code: Term::NUMBER,
         value: value,
         next: z.next,
     }
 }
 
-// The right side of a comparison at a place.
-pub fn operand_at(s: &[u8], at: usize, ks: &[u64]) -> Term
-    ensures { λ r. ⌜ r ≡ operand-at (now (ks .entry)) (now (s .entry)) at ⌝ }
+// Returns the right side of a comparison at a place, and the place after it; `ok` is false where there is none, and all else 0.
+pub fn operand_at(s: &[u8], at: usize, names: &[u64]) -> Term
+    ensures { λ r. ⌜ r ≡ operand-at (now (names .entry)) (now (s .entry)) at ⌝ }
 {
-    let b = text::byte(s, at);
-    if b < 97 {
+    if !text::is_letter(text::byte(s, at) as u64) {
         return number_term(s, at);
     }
-    if 122 < b {
-        return number_term(s, at);
-    }
-    ref_term(s, at, ks)
+    ref_term(s, at, names)
 }
 
 // No comparison was read.
@@ -323,9 +286,9 @@ fn compared(l: Reference, left: u32, t: Term, next: usize) -> Comparison
     }
 }
 
-// A comparison after its head, its closing bracket included.
-pub fn comparison_at(s: &[u8], at: usize, ks: &[u64]) -> Comparison
-    ensures { λ r. ⌜ r ≡ comparison-at (now (ks .entry)) (now (s .entry)) at ⌝ }
+// Returns the comparison whose head ended at a place, and the place after its bracket; `ok` is false where there is none, and all else 0.
+pub fn comparison_at(s: &[u8], at: usize, names: &[u64]) -> Comparison
+    ensures { λ r. ⌜ r ≡ comparison-at (now (names .entry)) (now (s .entry)) at ⌝ }
 {
     if text::byte(s, at) != b' ' {
         return no_comparison();
@@ -338,7 +301,7 @@ pub fn comparison_at(s: &[u8], at: usize, ks: &[u64]) -> Comparison
     if text::byte(s, i) != b' ' {
         return no_comparison();
     }
-    let t = operand_at(s, i + 1, ks);
+    let t = operand_at(s, i + 1, names);
     if !t.ok {
         return no_comparison();
     }
@@ -346,6 +309,6 @@ pub fn comparison_at(s: &[u8], at: usize, ks: &[u64]) -> Comparison
     if text::byte(s, j) != b')' {
         return no_comparison();
     }
-    let left = term_code(ks, l.first, l.second);
+    let left = term_code(names, l.first, l.second);
     compared(l, left, t, j + 1)
 }

@@ -6,7 +6,7 @@ use native.Mathlib.Omega.{arith}
 use lib.IntN.{ℤ, pos, negsuc, negℤ, natAbs}
 use lib.Dec.{T, leb, leb→le}
 use borrow.Author.Tests.{le-leb, lt-leb, leb-true, leb-false}
-use Rattle.calls.specs.Bounds.{top, is-value, is-time, not-above}
+use Rattle.syntax.specs.Limits.{top, is-value, is-time, not-above}
 use Rattle.text.specs.Words.{far, clamp}
 
 -- two tests of order that agree
@@ -24,11 +24,11 @@ clamp-negative n = let e : min (suc n) far ≡ suc (min n (far - 1)) = omega ari
 
 -- what is above the range stays above it
 top-kept : (n : ℕ) → leb (min n far) top ≡ leb n top
-unfolding top far
+unfolding far
 top-kept n = leb-both n top (min n far) top (λ h. omega arith) (λ h. omega arith)
 
 top-kept-below : (n : ℕ) → leb (min n (far - 1)) top ≡ leb n top
-unfolding top far
+unfolding far
 top-kept-below n = leb-both n top (min n (far - 1)) top (λ h. omega arith) (λ h. omega arith)
 
 pub clamp-value : (z : ℤ) → is-value (clamp z) ≡ is-value z
@@ -52,18 +52,18 @@ unfolding clamp
 clamp-near (pos n) h = let e : min n far ≡ n = omega arith in ap pos e
 clamp-near (negsuc n) h = let e : min (suc n) far ≡ suc n = omega arith in ap (λ m. negℤ (pos m)) e
 
-pub value-kept : (z : ℤ) → T (is-value z) → clamp z ≡ z
-unfolding is-value top far
-value-kept (pos n) t = let h = leb→le n top t in clamp-near (pos n) (omega arith)
-value-kept (negsuc n) t = let h = leb→le n top t in clamp-near (negsuc n) (omega arith)
+pub value-same : (z : ℤ) → T (is-value z) → clamp z ≡ z
+unfolding is-value far
+value-same (pos n) t = let h = leb→le n top t in clamp-near (pos n) (omega arith)
+value-same (negsuc n) t = let h = leb→le n top t in clamp-near (negsuc n) (omega arith)
 
-pub time-kept : (z : ℤ) → T (is-time z) → clamp z ≡ z
-unfolding is-time top far
-time-kept (pos n) t = let h = leb→le n top t in clamp-near (pos n) (omega arith)
-time-kept (negsuc n) t = absurd t
+pub time-same : (z : ℤ) → T (is-time z) → clamp z ≡ z
+unfolding is-time far
+time-same (pos n) t = let h = leb→le n top t in clamp-near (pos n) (omega arith)
+time-same (negsuc n) t = absurd t
 
 -- SIZE and OFFSET have no lower bound: they are kept where they are not below the clamp's own
-pub above-kept : (z : ℤ) → T (not-above z) → ((n : ℕ) → z ≡ negsuc n → n < far) → clamp z ≡ z
-unfolding not-above top far
-above-kept (pos n) t l = let h = leb→le n top t in clamp-near (pos n) (omega arith)
-above-kept (negsuc n) t l = let h = l n refl in clamp-near (negsuc n) (omega arith)
+pub above-same : (z : ℤ) → T (not-above z) → ((n : ℕ) → z ≡ negsuc n → n < far) → clamp z ≡ z
+unfolding not-above far
+above-same (pos n) t l = let h = leb→le n top t in clamp-near (pos n) (omega arith)
+above-same (negsuc n) t l = let h = l n refl in clamp-near (negsuc n) (omega arith)

@@ -1,21 +1,27 @@
 -- Bytes as one number: words of equal lengths and codes are equal, and a name is its number.
-use mathlib.Core.Path.{_≡_, refl, sym, ap, ap₂, _∙_}
+use mathlib.Core.Path.{_≡_, refl, sym, ap, ap₂, _∙_, subst}
 use mathlib.Core.List.{[], _∷_, _++_}
-use mathlib.Core.Bool.{Bool, true, false}
+use mathlib.Core.Bool.{Bool, true, false, _&&_, not}
 use Prim.Native.Nat.{ℕ, zero, suc, _+_, _*_, _-_, _/_, _%_, _^_, _≤_, _<_}
 use native.Mathlib.Omega.{arith}
 use native.Mathlib.Numerals.{add-one}
 use native.Mathlib.Nat.{pow-suc, pow-le-pow-right}
-use lib.Dec.{T, eqb, leb, leb→le, lit<}
+use lib.Dec.{T, eqb, leb, leb→le, le→leb, ltb→lt, lt→ltb, lit<}
 use lib.ListN.{length, take, drop, getD, length-drop}
 use lib.Seq.{take-suc, getD-drop}
 use borrow.Author.Tests.{ne-eqb, eqb-true, eqb-false}
-use Rattle.lists.specs.Lists.{All, same-list}
-use Rattle.lists.proofs.Laws.{and-r, parts, or-cases, T-true, all-head, all-tail, all-weaken, every-all, append-nil, same-list→eq, same-list-refl}
+use Rattle.lists.specs.Lists.{All, all-nil, all-cons, same-list}
+use Rattle.lists.proofs.Laws.{and-r, and-both, parts, or-cases, T-true, T-false, all-head, all-tail, all-weaken, every-all, all-every, append-nil, same-list→eq, same-list-refl}
 use Rattle.syntax.specs.Grammar.{Bytes, digit, letter, alnum, name?}
 use Rattle.syntax.proofs.Lexical.{name-every}
-use Rattle.calls.specs.Bounds.{max-name, short}
+use Rattle.syntax.specs.Limits.{short}
 use Rattle.text.specs.Words.{code-from, code-of, bytes-from, name-of}
+use Rattle.text.specs.Keywords.{octet, keyword?}
+
+-- a test that cannot pass
+pub T-never : (b : Bool) → (T b → ⊥) → b ≡ false
+T-never true h = absurd (h tt)
+T-never false h = refl
 
 -- each byte is one
 abbrev pub Octets : Bytes → Type 0
@@ -78,6 +84,37 @@ code-under a k (x ∷ w) p h =
     let e : k + suc (length w) ≡ k + 1 + length w = omega arith in
     rw e (code-under (a * 256 + x) (k + 1) w (all-tail p) (code-wider k h (all-head p)))
 
+-- ---- keywords
+
+word-octets : (w : Bytes) → T (keyword? w) → Octets w
+unfolding keyword? octet
+word-octets [] t = absurd t
+word-octets (b ∷ w) t = all-weaken (λ x u. ltb→lt x 256 u) (every-all octet (b ∷ w) (search parts))
+
+word-first : (b : ℕ) (w : Bytes) → T (keyword? (b ∷ w)) → 0 < b
+unfolding keyword?
+word-first b w t = let n = eqb-false b 0 (T-false (eqb b 0) (search parts)) in omega arith
+
+word-length : (w : Bytes) → T (keyword? w) → length w ≤ 8
+unfolding keyword? short
+word-length [] t = absurd t
+word-length (b ∷ w) t = leb→le (length (b ∷ w)) 8 (search parts)
+
+pub keyword-made : (b : ℕ) (w : Bytes) → 0 < b → suc (length w) ≤ 8 → Octets (b ∷ w) → T (keyword? (b ∷ w))
+unfolding keyword? octet short
+keyword-made b w z l o =
+    and-both (not (eqb b 0) && leb (length (b ∷ w)) 8) _ (and-both (not (eqb b 0)) _ (rw (ne-eqb b 0 (λ e. omega arith)) tt) (le→leb (length (b ∷ w)) 8 l))
+    (all-every octet (all-weaken (λ x h. lt→ltb x 256 h) o))
+
+-- the code of a keyword is not 0
+pub word-above : (w : Bytes) → T (keyword? w) → 0 < code-of w
+unfolding keyword? code-of code-from
+word-above [] t = absurd t
+word-above (b ∷ w) t =
+    let h = word-first b w t in
+    let g = code-grows (0 * 256 + b) w in
+    omega arith
+
 -- ---- names
 
 alnum-octet : (b : ℕ) → T (alnum b) → b < 256
@@ -93,6 +130,15 @@ letter-above : (b : ℕ) → T (letter b) → 0 < b
 unfolding letter
 letter-above b t = let h = leb→le 97 b (search parts) in omega arith
 
+short-length : (w : Bytes) → T (short w) → length w ≤ 8
+unfolding short
+short-length w t = leb→le (length w) 8 t
+
+pub name-keyword : (w : Bytes) → T (name? w) → T (short w) → T (keyword? w)
+unfolding name?
+name-keyword [] t s = absurd t
+name-keyword (b ∷ w) t s = keyword-made b w (letter-above b (search parts)) (short-length (b ∷ w) s) (name-octets (b ∷ w) t)
+
 pub code-above : (w : Bytes) → T (name? w) → 0 < code-of w
 unfolding name? code-of code-from
 code-above [] t = absurd t
@@ -100,10 +146,6 @@ code-above (b ∷ w) t =
     let h = letter-above b (search parts) in
     let g = code-grows (0 * 256 + b) w in
     omega arith
-
-short-length : (w : Bytes) → T (short w) → length w ≤ 8
-unfolding short max-name
-short-length w t = leb→le (length w) 8 t
 
 pub code-below : (w : Bytes) → T (name? w) → T (short w) → code-of w < 18446744073709551616
 unfolding code-of
@@ -134,14 +176,15 @@ bytes-word k a (x ∷ w) bs p h =
     let r : (a * 256 + x) % 256 ≡ x = omega arith in
     rw e (bytes-word (suc k) (a * 256 + x) w bs (all-tail p) (omega arith)) ∙ bytes-step k (a * 256 + x) (w ++ bs) (omega arith) ∙ ap₂ (λ m y. bytes-from k m (y ∷ (w ++ bs))) q r
 
-pub name-back : (w : Bytes) → T (name? w) → T (short w) → name-of (code-of w) ≡ w
-unfolding name? name-of code-of code-from
-name-back [] t s = absurd t
-name-back (b ∷ w) t s =
-    let o = name-octets (b ∷ w) t in
+-- a keyword is the bytes of its code
+pub word-back : (w : Bytes) → T (keyword? w) → name-of (code-of w) ≡ w
+unfolding keyword? name-of code-of code-from
+word-back [] t = absurd t
+word-back (b ∷ w) t =
+    let o = word-octets (b ∷ w) t in
     let i : b < 256 = all-head o in
-    let z = letter-above b (search parts) in
-    let l : suc (length w) ≤ 8 = short-length (b ∷ w) s in
+    let z = word-first b w t in
+    let l : suc (length w) ≤ 8 = word-length (b ∷ w) t in
     let k : 8 ≡ suc (7 - length w) + length w = omega arith in
     let q : (0 * 256 + b) / 256 ≡ 0 = omega arith in
     let r : (0 * 256 + b) % 256 ≡ b = omega arith in
@@ -151,6 +194,9 @@ name-back (b ∷ w) t s =
     ∙ ap₂ (λ m y. bytes-from (7 - length w) m (y ∷ (w ++ []))) q r
     ∙ bytes-none (7 - length w) (b ∷ (w ++ []))
     ∙ ap (λ v. b ∷ v) (append-nil w)
+
+pub name-back : (w : Bytes) → T (name? w) → T (short w) → name-of (code-of w) ≡ w
+name-back w t s = word-back w (name-keyword w t s)
 
 code-bytes : (k n : ℕ) (bs : Bytes) → n < 256 ^ k → code-from 0 (bytes-from k n bs) ≡ code-from n bs
 unfolding bytes-from code-from
@@ -171,13 +217,33 @@ pub code-back : (n : ℕ) → n < 18446744073709551616 → code-of (name-of n) �
 unfolding code-of name-of code-from
 code-back n h = code-bytes 8 n [] h
 
-pub names-same : (w v : Bytes) → T (name? w) → T (short w) → T (name? v) → T (short v) → same-list w v ≡ eqb (code-of w) (code-of v)
-names-same w v nw sw nv sv = go (eqb (code-of w) (code-of v)) refl
+-- and the bytes of a code are a keyword
+bytes-keyword : (k n : ℕ) (bs : Bytes) → 0 < n → n < 256 ^ k → k + length bs ≤ 8 → Octets bs → T (keyword? (bytes-from k n bs))
+bytes-keyword zero n bs p h l o = absurd (omega arith)
+bytes-keyword (suc k) n bs p h l o =
+    let q = pow-suc 256 k in
+    let m : n / 256 < 256 ^ k = omega arith in
+    let j : n % 256 < 256 = omega arith in
+    subst (λ w. T (keyword? w)) (sym (bytes-step k n bs p)) (go (eqb (n / 256) 0) refl (λ i. bytes-keyword k (n / 256) ((n % 256) ∷ bs) i m (omega arith) (all-cons j o)))
+  where
+    go : (b : Bool) → eqb (n / 256) 0 ≡ b → (0 < n / 256 → T (keyword? (bytes-from k (n / 256) ((n % 256) ∷ bs)))) → T (keyword? (bytes-from k (n / 256) ((n % 256) ∷ bs)))
+    go true e i =
+        let z = eqb-true (n / 256) 0 e in
+        let j : n % 256 < 256 = omega arith in
+        rw (z, bytes-none k ((n % 256) ∷ bs)) (keyword-made (n % 256) bs (omega arith) (omega arith) (all-cons j o))
+    go false e i = let z = eqb-false (n / 256) 0 e in i (omega arith)
+
+pub code-keyword : (n : ℕ) → 0 < n → n < 18446744073709551616 → T (keyword? (name-of n))
+unfolding name-of
+code-keyword n p h = bytes-keyword 8 n [] p h (omega arith) all-nil
+
+-- keywords are the same where their codes are
+pub words-same : (w v : Bytes) → T (keyword? w) → T (keyword? v) → same-list w v ≡ eqb (code-of w) (code-of v)
+words-same w v kw kv = go (eqb (code-of w) (code-of v)) refl
   where
     go : (b : Bool) → eqb (code-of w) (code-of v) ≡ b → same-list w v ≡ b
-    go true e = rw (sym (name-back w nw sw) ∙ ap name-of (eqb-true (code-of w) (code-of v) e) ∙ name-back v nv sv) (T-true (same-list v v) (same-list-refl v))
-    go false e = other (same-list w v) (λ t. eqb-false (code-of w) (code-of v) e (ap code-of (same-list→eq w v t)))
-      where
-        other : (b : Bool) → (T b → ⊥) → b ≡ false
-        other true h = absurd (h tt)
-        other false h = refl
+    go true e = rw (sym (word-back w kw) ∙ ap name-of (eqb-true (code-of w) (code-of v) e) ∙ word-back v kv) (T-true (same-list v v) (same-list-refl v))
+    go false e = T-never (same-list w v) (λ t. eqb-false (code-of w) (code-of v) e (ap code-of (same-list→eq w v t)))
+
+pub names-same : (w v : Bytes) → T (name? w) → T (short w) → T (name? v) → T (short v) → same-list w v ≡ eqb (code-of w) (code-of v)
+names-same w v nw sw nv sv = words-same w v (name-keyword w nw sw) (name-keyword v nv sv)

@@ -1,149 +1,65 @@
--- Keywords: words and keywords are one to one, a keyword is its length and its code, and the readers' tables by keywords.
-use mathlib.Core.Path.{_≡_, refl, sym, ap, _∙_}
-use mathlib.Core.List.{List, [], _∷_, map}
-use mathlib.Core.Bool.{Bool, true, false, _&&_, cond}
-use mathlib.Core.Option.{Option, none, some, Option·none-ne-some}
+-- Keywords: a word's code is a keyword's exactly where their letters are the same.
+use mathlib.Core.Path.{_≡_, refl, sym, ap, _∙_, subst}
+use mathlib.Core.List.{List, [], _∷_}
+use mathlib.Core.Bool.{Bool, true, false, _&&_, not, cond}
+use mathlib.Core.Option.{none, some}
 use Prim.Native.Nat.{ℕ, suc, _+_, _-_, _≤_, _<_}
 use native.Mathlib.Omega.{arith}
-use lib.Dec.{T, eqb, leb, ltb, ltb→lt, leb→le, eqb→eq}
+use native.Mathlib.Numerals.{add-one}
+use lib.Dec.{T, eqb, lt→ltb}
 use lib.ListN.{length, take, drop, getD, drop-of-length-le}
-use lib.Seq.{getD-drop}
-use borrow.Author.Tests.{eq-eqb, ne-eqb}
-use Rattle.lists.specs.Lists.{All as Each, all-nil, all-cons, every, nth, same-list}
-use Rattle.lists.proofs.Laws.{and-l, and-r, T-true, all-head, all-tail, all-weaken, every-all, same-list→eq, same-list-refl}
+use lib.Seq.{getD-drop, drop-cons}
+use mir.Syntax.{w64}
+use mir.Val.{Fits}
+use borrow.Author.Tests.{eq-eqb, ne-eqb, lt-leb, le-leb, lt-ltb, le-ltb, eqb-true, eqb-false}
+use Rattle.lists.specs.Lists.{All, all-nil, all-cons, every, same-list}
+use Rattle.lists.proofs.Laws.{parts, all-head, all-tail, all-weaken, all-every, same-list→eq}
 use Rattle.syntax.specs.Grammar.{Bytes, right-word}
-use Rattle.syntax.specs.Readers.{run, plain, among, head-word, heads, kind-word, kinds, rights, verb-word, verbs}
+use Rattle.syntax.specs.Readers.{bind, ensure, _>>_, byte, run, past, plain, among, read-word, read-head, itself, read-open, head-word, heads, rights}
+use Rattle.syntax.specs.Limits.{short}
 use Rattle.text.specs.declared.Class.the-variants.{Plain}
-use Rattle.text.specs.declared.Keyword.{Keyword}
-use Rattle.text.specs.declared.Keyword.the-variants.{Unknown, Stream, Grant, Clock, Row, Clear, Caller, Ask, Line, In, Pick, Keep, Join, Min, Max, Count, Avg, Sum, Read, Of, Show, When, From, To, Window, Roles, Own, And, Or, Not, Eq, Ne, Lt, Le, Gt, Ge, All}
-use Rattle.text.specs.Words.{class-of, run-end, code-of}
-use Rattle.text.specs.Keywords.{keyword-word, keywords, keyword-among, keyword-of, keyword-at, coded-among, keyword-coded, head-of, kind-of, right-of, verb-of, keywords-compute}
-use Rattle.text.proofs.Codes.{Octets, code-one}
-use Rattle.text.proofs.Runs.{run-from, run-length, run-word, run-room}
+use Rattle.text.specs.declared.Word.{Word}
+use Rattle.text.specs.Words.{class-of, run-end, code-from, code-of, name-of}
+use Rattle.text.specs.Keywords.{word-code, octet, keyword?, word-at, WordAt, coded, numbered, head-number, head-coded, right-number, right-coded, place, opened-at, part-at, closes-at, line-open, keywords-compute}
+use Rattle.text.proofs.Codes.{T-never, Octets, word-above, words-same, code-back, code-keyword}
+use Rattle.text.proofs.Runs.{first-byte, inside, run-head, run-from, run-length, run-word, run-place, run-room}
 
--- a table of all keywords says the same of each
-module _ {A : Type 0} (f g : Keyword → A) (e : map f (Unknown ∷ keywords) ≡ map g (Unknown ∷ keywords)) where
-  at : (i : ℕ) → nth (f Unknown) (map f (Unknown ∷ keywords)) i ≡ nth (f Unknown) (map g (Unknown ∷ keywords)) i
-  at i = ap (λ l. nth (f Unknown) l i) e
+-- ---- the code of a word
 
-  pub each : (k : Keyword) → f k ≡ g k
-  unfolding nth keywords
-  each Unknown = at 0
-  each Stream = at 1
-  each Grant = at 2
-  each Clock = at 3
-  each Row = at 4
-  each Clear = at 5
-  each Caller = at 6
-  each Ask = at 7
-  each Line = at 8
-  each In = at 9
-  each Pick = at 10
-  each Keep = at 11
-  each Join = at 12
-  each Min = at 13
-  each Max = at 14
-  each Count = at 15
-  each Avg = at 16
-  each Sum = at 17
-  each Read = at 18
-  each Of = at 19
-  each Show = at 20
-  each When = at 21
-  each From = at 22
-  each To = at 23
-  each Window = at 24
-  each Roles = at 25
-  each Own = at 26
-  each And = at 27
-  each Or = at 28
-  each Not = at 29
-  each Eq = at 30
-  each Ne = at 31
-  each Lt = at 32
-  each Le = at 33
-  each Gt = at 34
-  each Ge = at 35
-  each All = at 36
-
--- ---- words and keywords
-
-pub keyword-back : (k : Keyword) → keyword-of (keyword-word k) ≡ k
-unfolding keywords-compute
-keyword-back k = each (λ k. keyword-of (keyword-word k)) (λ k. k) refl k
-
--- a run of bytes is the word of its keyword, or has none
-cases-among : {X : Type 0} (ks : List Keyword) (w : Bytes) → (keyword-word (keyword-among ks w) ≡ w → X) → (keyword-among ks w ≡ Unknown → X) → X
-unfolding keyword-among
-cases-among [] w f g = g refl
-cases-among {X} (k ∷ ks) w f g = go (same-list (keyword-word k) w) refl f g (cases-among ks w)
+-- a word is a keyword, or its code is 0
+code-cases : {X : Type 0} (w : Bytes) → T (every octet w) → (T (keyword? w) → word-code w ≡ code-of w → X) → (keyword? w ≡ false → word-code w ≡ 0 → X) → X
+unfolding word-code keyword?
+code-cases [] o f g = g refl refl
+code-cases {X} (b ∷ w) o f g = go (eqb b 0) (short (b ∷ w)) (every octet (b ∷ w)) o f g
   where
-    go : (b : Bool) → same-list (keyword-word k) w ≡ b → (keyword-word (cond b k (keyword-among ks w)) ≡ w → X) → (cond b k (keyword-among ks w) ≡ Unknown → X)
-        → ((keyword-word (keyword-among ks w) ≡ w → X) → (keyword-among ks w ≡ Unknown → X) → X) → X
-    go true e f g r = f (same-list→eq (keyword-word k) w (rw e tt))
-    go false e f g r = r f g
+    go : (x y z : Bool) → T z → (T (not x && y && z) → cond x 0 (cond y (code-of (b ∷ w)) 0) ≡ code-of (b ∷ w) → X) → ((not x && y && z) ≡ false → cond x 0 (cond y (code-of (b ∷ w)) 0) ≡ 0 → X) → X
+    go true y z o f g = g refl refl
+    go false true true o f g = f tt refl
+    go false true false o f g = absurd o
+    go false false z o f g = g refl refl
 
-keyword-cases : {X : Type 0} (w : Bytes) → (keyword-word (keyword-of w) ≡ w → X) → (keyword-of w ≡ Unknown → X) → X
-unfolding keyword-of
-keyword-cases w f g = cases-among keywords w f g
+pub same-word : (v w : Bytes) → T (keyword? v) → T (every octet w) → same-list v w ≡ eqb (code-of v) (word-code w)
+same-word v w k o =
+    code-cases w o (λ l e. rw e (words-same v w k l))
+    (λ l e.
+    let a = word-above v k in
+    rw (e, ne-eqb (code-of v) 0 (λ z. omega arith))
+    (T-never (same-list v w) (λ t. let q : T (keyword? w) = subst (λ u. T (keyword? u)) (same-list→eq v w t) k in let z = rw l at q in z)))
 
-pub keyword-known : (w : Bytes) (k : Keyword) → keyword-of w ≡ k → (k ≡ Unknown → ⊥) → w ≡ keyword-word k
-keyword-known w k e n = keyword-cases w (λ f. sym f ∙ ap keyword-word e) (λ u. absurd (n (sym e ∙ u)))
+-- tables of keywords by codes
+pub among-coded : {H : Type 0} (word : H → Bytes) (hs : List H) (w : Bytes) → T (every (λ h. keyword? (word h)) hs) → T (every octet w) → among word hs w ≡ coded word hs (word-code w)
+unfolding every among coded
+among-coded word [] w k o = refl
+among-coded word (h ∷ hs) w k o = rw (same-word (word h) w (search parts) o, among-coded word hs w (search parts) o)
 
-pub same-word : (w : Bytes) (k : Keyword) → keyword-of w ≡ k → (k ≡ Unknown → ⊥) → same-list (keyword-word k) w ≡ true
-same-word w k e n = rw (keyword-known w k e n) (T-true (same-list (keyword-word k) (keyword-word k)) (same-list-refl (keyword-word k)))
+-- a number's bytes are a word where the number is the word's code
+pub named-word : (c : ℕ) (w : Bytes) → 0 < c → c < 18446744073709551616 → T (every octet w) → same-list (name-of c) w ≡ eqb c (word-code w)
+named-word c w p h o = same-word (name-of c) w (code-keyword c p h) o ∙ ap (λ n. eqb n (word-code w)) (code-back c h)
 
-pub other-word : (w : Bytes) (k : Keyword) → (keyword-of w ≡ k → ⊥) → same-list (keyword-word k) w ≡ false
-other-word w k n = go (same-list (keyword-word k) w) (λ t. n (ap keyword-of (sym (same-list→eq (keyword-word k) w t)) ∙ keyword-back k))
-  where
-    go : (b : Bool) → (T b → ⊥) → b ≡ false
-    go true h = absurd (h tt)
-    go false h = refl
+-- ---- numbers of heads and rights, by the arms of a `match`
 
--- ---- the readers' tables by keywords
-
--- a table whose words are keywords
-module _ {H : Type 0} (word : H → Bytes) (hs : List H) where
-  abbrev By : Bytes → Option H
-  By w = among word hs (keyword-word (keyword-of w))
-
-  among-unknown : (gs : List H) (w : Bytes) → By w ≡ none → keyword-of w ≡ Unknown → map (λ h. By (word h)) gs ≡ map some gs → among word gs w ≡ none
-  unfolding among
-  among-unknown [] w z u e = refl
-  among-unknown (g ∷ gs) w z u e = go (same-list (word g) w) refl (among-unknown gs w z u (cc))
-    where
-      first : By (word g) ≡ some g
-      first = cc
-
-      go : (b : Bool) → same-list (word g) w ≡ b → among word gs w ≡ none → cond b (some g) (among word gs w) ≡ none
-      go true f i = absurd (Option·none-ne-some g (sym z ∙ ap By (sym (same-list→eq (word g) w (rw f tt))) ∙ first))
-      go false f i = i
-
-  by-keyword : among word hs (keyword-word Unknown) ≡ none → map (λ h. By (word h)) hs ≡ map some hs → (w : Bytes) → among word hs w ≡ By w
-  by-keyword z e w =
-      keyword-cases w (λ f. ap (among word hs) (sym f))
-      (λ u. let n : By w ≡ none = ap (λ k. among word hs (keyword-word k)) u ∙ z in among-unknown hs w n u e ∙ sym n)
-
-pub heads-by : (w : Bytes) → among head-word heads w ≡ head-of (keyword-of w)
-unfolding keywords-compute
-heads-by w = by-keyword head-word heads refl refl w
-
-pub kinds-by : (w : Bytes) → among kind-word kinds w ≡ kind-of (keyword-of w)
-unfolding keywords-compute
-kinds-by w = by-keyword kind-word kinds refl refl w
-
-pub rights-by : (w : Bytes) → among right-word rights w ≡ right-of (keyword-of w)
-unfolding keywords-compute
-rights-by w = by-keyword right-word rights refl refl w
-
-pub verbs-by : (w : Bytes) → among verb-word verbs w ≡ verb-of (keyword-of w)
-unfolding keywords-compute
-verbs-by w = by-keyword verb-word verbs refl refl w
-
--- ---- a keyword by its length and its code
-
--- x is none of the numbers: what the last arm of a `match` knows
-abbrev pub None-from : Type 0 → List ℕ → ℕ → Type 0
+-- x is none of the numbers: what the last arm knows
+abbrev None-from : Type 0 → List ℕ → ℕ → Type 0
 None-from A [] x = A
 None-from A (y ∷ ys) x = None-from (A × (x ≡ y → ⊥)) ys x
 
@@ -151,97 +67,34 @@ none-before : (A : Type 0) (ys : List ℕ) (x : ℕ) → None-from A ys x → A
 none-before A [] x h = h
 none-before A (y ∷ ys) x h = none-before (A × (x ≡ y → ⊥)) ys x h .0
 
-none-each : (A : Type 0) (ys : List ℕ) (x : ℕ) → None-from A ys x → Each (λ y. x ≡ y → ⊥) ys
+none-each : (A : Type 0) (ys : List ℕ) (x : ℕ) → None-from A ys x → All (λ y. x ≡ y → ⊥) ys
 none-each A [] x h = all-nil
 none-each A (y ∷ ys) x h = all-cons (none-before (A × (x ≡ y → ⊥)) ys x h .1) (none-each (A × (x ≡ y → ⊥)) ys x h)
 
--- the codes of the keywords of a length, in order
-unfoldable codes-among : List Keyword → ℕ → List ℕ
-codes-among [] n = []
-codes-among (k ∷ ks) n = let rest = codes-among ks n in cond (eqb (length (keyword-word k)) n) (code-of (keyword-word k) ∷ rest) rest
+unfoldable codes : {H : Type 0} → (H → Bytes) → List H → List ℕ
+codes word [] = []
+codes word (h ∷ hs) = code-of (word h) ∷ codes word hs
 
-unfoldable pub codes : ℕ → List ℕ
-unfolding codes-among
-codes n = codes-among keywords n
+none-coded : {H : Type 0} (word : H → Bytes) (hs : List H) (x : ℕ) → All (λ y. x ≡ y → ⊥) (codes word hs) → coded word hs x ≡ none
+unfolding codes coded
+none-coded word [] x h = refl
+none-coded word (k ∷ hs) x h = rw (ne-eqb (code-of (word k)) x (λ e. all-head h (sym e)), none-coded word hs x (all-tail h))
 
-none-among : (ks : List Keyword) (n x : ℕ) → Each (λ y. x ≡ y → ⊥) (codes-among ks n) → coded-among ks n x ≡ Unknown
-unfolding codes-among coded-among
-none-among [] n x h = refl
-none-among (k ∷ ks) n x h = go (eqb (length (keyword-word k)) n) h (none-among ks n x)
-  where
-    go : (b : Bool) → Each (λ y. x ≡ y → ⊥) (cond b (code-of (keyword-word k) ∷ codes-among ks n) (codes-among ks n)) → (Each (λ y. x ≡ y → ⊥) (codes-among ks n) → coded-among ks n x ≡ Unknown)
-        → cond (b && eqb (code-of (keyword-word k)) x) k (coded-among ks n x) ≡ Unknown
-    go true h i = rw (ne-eqb (code-of (keyword-word k)) x (λ e. all-head h (sym e))) (i (all-tail h))
-    go false h i = i h
+pub head-arm : {x y : ℕ} {n : ℕ} → x ≡ y → n ≡ head-coded y → n ≡ head-coded x
+head-arm e f = rw e f
 
-pub coded-none : (n x : ℕ) → None-from (Unit {0}) (codes n) x → Unknown ≡ keyword-coded n x
-unfolding codes keyword-coded
-coded-none n x h = sym (none-among keywords n x (none-each (Unit {0}) (codes n) x h))
+pub head-none : (x : ℕ) → None-from (Unit {0}) (0x3d ∷ 0x2f3d ∷ 0x3c ∷ 0x3c3d ∷ 0x3e ∷ 0x3e3d ∷ 0x616e64 ∷ 0x6f72 ∷ 0x6e6f74 ∷ []) x → 0 ≡ head-coded x
+unfolding keywords-compute codes
+head-none x h = sym (ap (numbered head-number 0) (none-coded head-word heads x (none-each (Unit {0}) (codes head-word heads) x h)))
 
-pub coded-at : (n : ℕ) {x y : ℕ} {k : Keyword} → x ≡ y → k ≡ keyword-coded n y → k ≡ keyword-coded n x
-coded-at n e f = rw e f
+pub right-arm : {x y : ℕ} {n : ℕ} → x ≡ y → n ≡ right-coded y → n ≡ right-coded x
+right-arm e f = rw e f
 
-pub coded-length : (m n x : ℕ) {k : Keyword} → n ≡ m → k ≡ keyword-coded m x → k ≡ keyword-coded n x
-coded-length m n x e f = rw e f
+pub right-none : (x : ℕ) → None-from (Unit {0}) (0x72656164 ∷ 0x6d696e ∷ 0x6d6178 ∷ 0x636f756e74 ∷ 0x617667 ∷ 0x73756d ∷ []) x → 6 ≡ right-coded x
+unfolding keywords-compute codes
+right-none x h = sym (ap (numbered right-number 6) (none-coded right-word rights x (none-each (Unit {0}) (codes right-word rights) x h)))
 
-pub ruleset lengths = (coded-length)
-
--- every keyword has one to six bytes
-sized : Keyword → Bool
-sized k = leb 1 (length (keyword-word k)) && leb (length (keyword-word k)) 6
-
-unsized : (ks : List Keyword) (n x : ℕ) → T (every sized ks) → (1 ≤ n → n ≤ 6 → ⊥) → coded-among ks n x ≡ Unknown
-unfolding every coded-among sized
-unsized [] n x t h = refl
-unsized (k ∷ ks) n x t h =
-    let l = leb→le 1 (length (keyword-word k)) (and-l (leb 1 (length (keyword-word k))) (leb (length (keyword-word k)) 6) (and-l (sized k) (every sized ks) t)) in
-    let m = leb→le (length (keyword-word k)) 6 (and-r (leb 1 (length (keyword-word k))) (leb (length (keyword-word k)) 6) (and-l (sized k) (every sized ks) t)) in
-    rw (ne-eqb (length (keyword-word k)) n (λ e. h (omega arith) (omega arith))) (unsized ks n x (and-r (sized k) (every sized ks) t) h)
-
-coded-unsized : (n x : ℕ) → (1 ≤ n → n ≤ 6 → ⊥) → Unknown ≡ keyword-coded n x
-unfolding keywords-compute sized
-coded-unsized n x h = sym (unsized keywords n x tt h)
-
-pub coded-beyond : (n x : ℕ) → None-from (Unit {0}) (1 ∷ 2 ∷ 3 ∷ 4 ∷ 5 ∷ 6 ∷ []) n → Unknown ≡ keyword-coded n x
-coded-beyond n x h = coded-unsized n x (λ l m. omega arith)
-
--- ---- the keyword of a word
-
-octet? : ℕ → Bool
-octet? b = ltb b 256
-
-word-octets : (k : Keyword) → Octets (keyword-word k)
-unfolding keywords-compute octet?
-word-octets k = all-weaken (λ b t. ltb→lt b 256 t) (every-all octet? (keyword-word k) (rw (each (λ k. every octet? (keyword-word k)) (λ k. true) refl k) tt))
-
-same-coded : (k : Keyword) (w : Bytes) → Octets w → same-list (keyword-word k) w ≡ (eqb (length (keyword-word k)) (length w) && eqb (code-of (keyword-word k)) (code-of w))
-same-coded k w o = go (eqb (length (keyword-word k)) (length w) && eqb (code-of (keyword-word k)) (code-of w)) refl
-  where
-    go : (b : Bool) → (eqb (length (keyword-word k)) (length w) && eqb (code-of (keyword-word k)) (code-of w)) ≡ b → same-list (keyword-word k) w ≡ b
-    go true e =
-        let l = and-l (eqb (length (keyword-word k)) (length w)) (eqb (code-of (keyword-word k)) (code-of w)) (rw e tt) in
-        let x = and-r (eqb (length (keyword-word k)) (length w)) (eqb (code-of (keyword-word k)) (code-of w)) (rw e tt) in
-        let q = code-one (keyword-word k) w (word-octets k) o (eqb→eq (length (keyword-word k)) (length w) l) (eqb→eq (code-of (keyword-word k)) (code-of w) x) in
-        rw q (T-true (same-list w w) (same-list-refl w))
-    go false e = other (same-list (keyword-word k) w) (λ t. same-list→eq (keyword-word k) w t)
-      where
-        other : (b : Bool) → (T b → keyword-word k ≡ w) → b ≡ false
-        other false h = refl
-        other true h =
-            let q = h tt in
-            let z = rw (eq-eqb (length (keyword-word k)) (length w) (ap length q), eq-eqb (code-of (keyword-word k)) (code-of w) (ap code-of q)) at e in
-            z
-
-coded-word : (ks : List Keyword) (w : Bytes) → Octets w → keyword-among ks w ≡ coded-among ks (length w) (code-of w)
-unfolding keyword-among coded-among
-coded-word [] w o = refl
-coded-word (k ∷ ks) w o = rw (same-coded k w o, coded-word ks w o)
-
-pub keyword-codes : (w : Bytes) → Octets w → keyword-of w ≡ keyword-coded (length w) (code-of w)
-unfolding keyword-of keyword-coded
-keyword-codes w o = coded-word keywords w o
-
--- ---- the keyword at a place, as the code finds it
+-- ---- the word at a place, as the code finds it
 
 octets-list : (bs : Bytes) → ((i : ℕ) → getD bs i 0 < 256) → Octets bs
 octets-list [] f = all-nil
@@ -256,27 +109,152 @@ octets-run p (all-cons {x} {xs} h hs) = go (p x) (octets-run p hs)
     go true i = all-cons h i
     go false i = all-nil
 
-pub keyword-over : (s : Bytes) (at : ℕ) → length s ≤ at → Unknown ≡ keyword-at s at
-unfolding keywords-compute
-keyword-over s at h = rw (drop-of-length-le s h)
+narrow-at : (s : Bytes) (at : ℕ) → ((i : ℕ) → getD s i 0 < 256) → T (every octet (run plain (drop at s)))
+unfolding octet
+narrow-at s at o = all-every octet (all-weaken (λ b h. lt→ltb b 256 h) (octets-run plain (octets-list (drop at s) (λ i. rw (getD-drop at s i 0) (o (at + i))))))
 
-module _ (s : Bytes) (at : ℕ) (o : (i : ℕ) → getD s i 0 < 256) {e : ℕ} (q : e ≡ run-end Plain s at) where
-  at-coded : keyword-at s at ≡ keyword-coded (e - at) (code-of (take (e - at) (drop at s)))
-  unfolding keyword-at class-of
-  at-coded =
-      let w = octets-run plain (octets-list (drop at s) (λ i. rw (getD-drop at s i 0) (o (at + i)))) in
-      rw (run-word Plain s at q, run-length Plain s at q) (keyword-codes (run plain (drop at s)) w)
+code-zero : (w : Bytes) → ((b : ℕ) (bs : Bytes) → w ≡ b ∷ bs → b ≡ 0) → 0 ≡ word-code w
+unfolding word-code
+code-zero [] f = refl
+code-zero (b ∷ bs) f = rw (f b bs refl)
 
-  pub keyword-long : 6 < e - at → Unknown ≡ keyword-at s at
-  keyword-long h = rw at-coded (coded-unsized (e - at) _ (λ l m. omega arith))
+code-long : (w : Bytes) → 8 < length w → 0 ≡ word-code w
+unfolding word-code short
+code-long [] h = refl
+code-long (b ∷ bs) h = rw (lt-leb (length (b ∷ bs)) 8 h) (go (eqb b 0))
+  where
+    go : (x : Bool) → _≡_ {A = ℕ} 0 (cond x 0 0)
+    go true = refl
+    go false = refl
 
-  pub keyword-short : {x : ℕ} {k : Keyword} → x ≡ code-of (take (e - at) (drop at s)) → k ≡ keyword-coded (e - at) x → k ≡ keyword-at s at
-  keyword-short f g = g ∙ rw (f, at-coded)
+code-short : (w : Bytes) → ((b : ℕ) (bs : Bytes) → w ≡ b ∷ bs → b ≡ 0 → ⊥) → length w ≤ 8 → code-of w ≡ word-code w
+unfolding word-code short code-of code-from
+code-short [] f h = refl
+code-short (b ∷ bs) f h = rw (le-leb (length (b ∷ bs)) 8 h, ne-eqb b 0 (f b bs refl))
 
-pub keyword-from : (s : Bytes) (at : ℕ) {e : ℕ} → e ≡ run-end Plain s at → at ≤ e
-keyword-from s at q = run-from Plain s at q
+module _ (s : Bytes) (at : ℕ) {e : ℕ} (q : e ≡ run-end Plain s at) where
+  pub word-from : at ≤ e
+  word-from = run-from Plain s at q
 
-pub keyword-room : (s : Bytes) (at : ℕ) {e : ℕ} → at < length s → e ≡ run-end Plain s at → at + (e - at) ≤ length s
-keyword-room s at h q = run-room Plain s at q (omega arith)
+  size : e - at ≡ length (run plain (drop at s))
+  unfolding class-of
+  size = run-length Plain s at q
 
-pub ruleset keyword-ends = (keyword-over, keyword-from, keyword-room, keyword-long, keyword-short)
+  module _ {b : ℕ} (p : b ≡ getD s at 0) where
+    first : (x : ℕ) (xs : Bytes) → run plain (drop at s) ≡ x ∷ xs → x ≡ b
+    first x xs f = run-head plain (drop at s) f ∙ first-byte s at ∙ sym p
+
+    pub word-room : (b ≡ 0 → ⊥) → at + (e - at) ≤ length s
+    word-room n = let h = inside s at (omega arith) in run-room Plain s at q (omega arith)
+
+    module _ (o : (i : ℕ) → getD s i 0 < 256) where
+      made : {c : ℕ} → c ≡ word-code (run plain (drop at s)) → WordAt s at (record { code = c; next = e })
+      unfolding word-at
+      made f = record { is = rw (f, q); narrow = narrow-at s at o }
+
+      pub word-zero : b ≡ 0 → WordAt s at (record { code = 0; next = e })
+      word-zero z = made (code-zero (run plain (drop at s)) (λ x xs f. first x xs f ∙ z))
+
+      pub word-long : 8 < e - at → WordAt s at (record { code = 0; next = e })
+      word-long h = let l = size in made (code-long (run plain (drop at s)) (omega arith))
+
+      pub word-short : {c : ℕ} → (b ≡ 0 → ⊥) → e - at ≤ 8 → c ≡ code-of (take (e - at) (drop at s)) → WordAt s at (record { code = c; next = e })
+      unfolding class-of
+      word-short n h f =
+          let l = size in
+          made (f ∙ ap code-of (run-word Plain s at q) ∙ code-short (run plain (drop at s)) (λ x xs g z. n (sym (first x xs g) ∙ z)) (omega arith))
+
+pub ruleset word-ends = (word-from, word-room)
+
+-- ---- an opening bracket and a word
+
+module _ (s : Bytes) (at c : ℕ) where
+  pub open-zero : c ≡ 0 → 0 ≡ opened-at s at c
+  unfolding opened-at
+  open-zero z = rw z
+
+  module _ (k : c ≡ 0 → ⊥) {b : ℕ} (p : b ≡ getD s at 0) where
+    pub open-other : (b ≡ 40 → ⊥) → 0 ≡ opened-at s at c
+    unfolding opened-at place read-open read-head _>>_ byte ensure bind
+    open-other n = rw (ne-eqb c 0 k) (go (drop at s) refl)
+      where
+        go : (bs : Bytes) → drop at s ≡ bs → 0 ≡ place s (read-open (name-of c) bs)
+        go [] f = refl
+        go (x ∷ xs) f = rw (ne-eqb 40 x (λ h. n (p ∙ sym (first-byte s at) ∙ rw f (sym h))))
+
+    module _ (z : b ≡ 40) where
+      pub open-inside : at < length s
+      open-inside = inside s at (omega arith)
+
+      module _ (f : Fits w64 c) {w : Word} (q : WordAt s (at + 1) w) where
+        open-is : opened-at s at c ≡ cond (eqb c (w .code)) (w .next) 0
+        unfolding opened-at place read-open read-head read-word itself among _>>_ byte ensure bind word-at class-of
+        open-is =
+            let h = open-inside in
+            let same = named-word c (run plain (drop (at + 1) s)) (omega arith) (omega arith) (q .narrow) in
+            let next = run-place Plain s (at + 1) refl (omega arith) in
+            rw (ne-eqb c 0 k, drop-cons s at 0 h, eq-eqb 40 (getD s at 0) (sym z ∙ p), sym (add-one at), same, q .is) (go (eqb c (word-code (run plain (drop (at + 1) s)))) next)
+          where
+            go : (x : Bool) → length s - length (past plain (drop (at + 1) s)) ≡ run-end Plain s (at + 1)
+                → place s (bind (cond x (some (name-of c)) none) (λ h. some (record { what = h; left = past plain (drop (at + 1) s) }))) ≡ cond x (run-end Plain s (at + 1)) 0
+            go true e = e
+            go false e = refl
+
+        pub open-unlike : (w .code ≡ c → ⊥) → 0 ≡ opened-at s at c
+        open-unlike n = sym (open-is ∙ rw (ne-eqb c (w .code) (λ e. n (sym e))))
+
+        pub open-here : w .code ≡ c → w .next ≡ opened-at s at c
+        open-here e = sym (open-is ∙ rw (eq-eqb c (w .code) (sym e)))
+
+pub ruleset open-ends = (open-zero, open-other, open-unlike, open-here)
+
+-- ---- the same after a space
+
+module _ (s : Bytes) (at c : ℕ) {b : ℕ} (p : b ≡ getD s at 0) where
+  pub part-other : (b ≡ 32 → ⊥) → 0 ≡ part-at s at c
+  unfolding part-at
+  part-other n = rw (sym p, ne-eqb b 32 n)
+
+  pub part-inside : b ≡ 32 → at < length s
+  part-inside z = inside s at (omega arith)
+
+  pub part-here : {r : ℕ} → b ≡ 32 → r ≡ opened-at s (at + 1) c → r ≡ part-at s at c
+  unfolding part-at
+  part-here z e = rw (sym p, z) e
+
+pub ruleset part-ends = (part-other, part-here)
+
+-- ---- a closing bracket at the end
+
+module _ (s : Bytes) (at : ℕ) where
+  pub close-over : length s ≤ at → false ≡ closes-at s at
+  unfolding closes-at same-list
+  close-over h = rw (drop-of-length-le s h)
+
+  module _ (h : at < length s) where
+    pub close-other : (getD s at 0 ≡ 41 → ⊥) → false ≡ closes-at s at
+    unfolding closes-at same-list
+    close-other n = rw (drop-cons s at 0 h, ne-eqb 41 (getD s at 0) (λ e. n (sym e)))
+
+    pub close-here : getD s at 0 ≡ 41 → eqb (at + 1) (length s) ≡ closes-at s at
+    unfolding closes-at same-list
+    close-here e = rw (drop-cons s at 0 h, e) (go (eqb (at + 1) (length s)) refl)
+      where
+        go : (b : Bool) → eqb (at + 1) (length s) ≡ b → b ≡ same-list [] (drop (suc at) s)
+        go true f = let l = eqb-true (at + 1) (length s) f in let h : length s ≤ suc at = omega arith in rw (drop-of-length-le s h)
+        go false f = let n = eqb-false (at + 1) (length s) f in rw (drop-cons s (suc at) 0 (omega arith))
+
+pub ruleset close-ends = (close-over, close-other, close-here)
+
+-- ---- a line
+
+module _ (s : Bytes) (verb : ℕ) where
+  pub line-long : 512 < length s → record { long = true; at = 0 } ≡ line-open s verb
+  unfolding line-open
+  line-long h = rw (lt-ltb 512 (length s) h)
+
+  pub line-short : {r : ℕ} → length s ≤ 512 → r ≡ opened-at s 0 verb → record { long = false; at = r } ≡ line-open s verb
+  unfolding line-open
+  line-short h e = rw (le-ltb 512 (length s) h, e)
+
+pub ruleset line-ends = (line-long, line-short)

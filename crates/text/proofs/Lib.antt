@@ -2,8 +2,11 @@ pub mod Runs
 pub mod Codes
 pub mod Names
 pub mod Clamps
+pub mod Ranges
 pub mod Numbers
-pub mod Depths
 pub mod Keywords
-pub mod Places
 pub mod Values
+pub mod Views
+pub mod Places
+pub mod Lines
+pub mod Fuel

@@ -12,7 +12,7 @@ use Rattle.lists.proofs.Laws.{and-l, T-true}
 use Rattle.syntax.specs.Grammar.{Bytes, digit, letter, alnum, name?}
 use Rattle.syntax.specs.Readers.{ensure, run, past, read-name}
 use Rattle.syntax.proofs.Steps.{run-every}
-use Rattle.calls.specs.Bounds.{max-name, short}
+use Rattle.syntax.specs.Limits.{short}
 use Rattle.text.specs.declared.Class.the-variants.{Alnum}
 use Rattle.text.specs.declared.Name.{Name}
 use Rattle.text.specs.Words.{class-of, run-end, code-of, name-read, name-at}
@@ -55,7 +55,7 @@ module _ (s : Bytes) (at : ℕ) {b : ℕ} {l : Bool} (p : b ≡ getD s at 0) (q 
       name-room = let k = place in run-room Alnum s at w (omega arith)
 
       short-is : short (run alnum (drop at s)) ≡ leb (e - at) 8
-      unfolding short max-name class-of
+      unfolding short class-of
       short-is = rw (run-length Alnum s at w)
 
       next-is : length s - length (past alnum (drop at s)) ≡ e

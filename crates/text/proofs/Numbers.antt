@@ -20,7 +20,7 @@ use Rattle.syntax.proofs.Steps.{run-past}
 use Rattle.text.specs.declared.Class.the-variants.{Digit}
 use Rattle.text.specs.declared.Number.{Number}
 use Rattle.text.specs.Words.{class-of, run-end, far, clamp, number-read, number-at, numeral-end, negative-at}
-use Rattle.text.proofs.Runs.{first-byte, inside, run-from, run-word, run-place, run-room}
+use Rattle.text.proofs.Runs.{first-byte, inside, run-head, run-from, run-word, run-place, run-room}
 
 -- ---- the value, digit by digit
 
@@ -44,15 +44,6 @@ value-more s at i {v} {w} h e f =
 
 -- ---- numerals
 
-run-head : (bs : Bytes) {d : ℕ} {ds : Bytes} → run digit bs ≡ d ∷ ds → d ≡ getD bs 0 0
-unfolding run
-run-head [] e = let z : _≡_ {A = ℕ} 0 1 = cc in absurd (omega arith)
-run-head (b ∷ bs) e = go (digit b) e
-  where
-    go : {d : ℕ} {ds : Bytes} (x : Bool) → cond x (b ∷ run digit bs) [] ≡ d ∷ ds → d ≡ b
-    go true e = cc
-    go false e = let z : _≡_ {A = ℕ} 0 1 = cc in absurd (omega arith)
-
 module _ (s : Bytes) (at : ℕ) {e : ℕ} (q : e ≡ run-end Digit s at) where
   count-is : {r : Bytes} → run digit (drop at s) ≡ r → e ≡ at + length r
   unfolding run-end class-of
@@ -64,16 +55,21 @@ module _ (s : Bytes) (at : ℕ) {e : ℕ} (q : e ≡ run-end Digit s at) where
 
   module _ {b : ℕ} (p : b ≡ getD s at 0) where
     head-is : {d : ℕ} {ds : Bytes} → run digit (drop at s) ≡ d ∷ ds → d ≡ b
-    head-is f = run-head (drop at s) f ∙ first-byte s at ∙ sym p
+    head-is f = run-head digit (drop at s) f ∙ first-byte s at ∙ sym p
 
-    pub digits-other : (b ≡ 48 → ⊥) → e ≡ numeral-end s at
+    -- fewer than two digits are a numeral, or none
+    few : ((d c : ℕ) (cs : Bytes) → run digit (drop at s) ≡ d ∷ (c ∷ cs) → e ≡ numeral-end s at) → e ≡ numeral-end s at
     unfolding numeral
-    digits-other n = go (run digit (drop at s)) refl
+    few k = go (run digit (drop at s)) refl
       where
         go : (r : Bytes) → run digit (drop at s) ≡ r → e ≡ numeral-end s at
         go [] f = let h = count-is f in rw (end-is f) (omega arith)
         go (d ∷ []) f = sym (end-is f)
-        go (d ∷ (c ∷ cs)) f = sym (end-is f ∙ rw (head-is f, ne-eqb b 48 n))
+        go (d ∷ (c ∷ cs)) f = k d c cs f
+
+    pub digits-other : (b ≡ 48 → ⊥) → e ≡ numeral-end s at
+    unfolding numeral
+    digits-other n = few (λ d c cs f. sym (end-is f ∙ rw (head-is f, ne-eqb b 48 n)))
 
     pub digits-needless : b ≡ 48 → 1 < e - at → at ≡ numeral-end s at
     unfolding numeral
@@ -85,13 +81,7 @@ module _ (s : Bytes) (at : ℕ) {e : ℕ} (q : e ≡ run-end Digit s at) where
         go (d ∷ (c ∷ cs)) f = sym (end-is f ∙ rw (head-is f, z))
 
     pub digits-zero : b ≡ 48 → e - at ≤ 1 → e ≡ numeral-end s at
-    unfolding numeral
-    digits-zero z n = go (run digit (drop at s)) refl
-      where
-        go : (r : Bytes) → run digit (drop at s) ≡ r → e ≡ numeral-end s at
-        go [] f = let h = count-is f in rw (end-is f) (omega arith)
-        go (d ∷ []) f = sym (end-is f)
-        go (d ∷ (c ∷ cs)) f = let h = count-is f in absurd (omega arith)
+    digits-zero z n = few (λ d c cs f. let h = count-is f in absurd (omega arith))
 
   pub digits-from : at ≤ e
   digits-from = run-from Digit s at q

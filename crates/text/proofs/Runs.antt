@@ -1,6 +1,7 @@
 -- Runs of bytes, and the classes of bytes as the code tests them.
 use mathlib.Core.Path.{_≡_, refl, sym, ap, _∙_}
-use mathlib.Core.Bool.{Bool, true, false, not}
+use mathlib.Core.List.{[], _∷_}
+use mathlib.Core.Bool.{Bool, true, false, not, cond}
 use Prim.Native.Nat.{ℕ, _+_, _-_, _≤_, _<_}
 use native.Mathlib.Omega.{arith}
 use native.Mathlib.Numerals.{add-one}
@@ -107,6 +108,15 @@ pub ruleset run-ends = (end-over, end-stops, end-goes)
 
 pub run-take : (p : ℕ → Bool) (bs : Bytes) → take (length (run p bs)) bs ≡ run p bs
 run-take p bs = ap (take (length (run p bs))) (sym (run-past p bs)) ∙ take-append-seam (run p bs) (past p bs)
+
+pub run-head : (p : ℕ → Bool) (bs : Bytes) {d : ℕ} {ds : Bytes} → run p bs ≡ d ∷ ds → d ≡ getD bs 0 0
+unfolding run
+run-head p [] e = let z : _≡_ {A = ℕ} 0 1 = cc in absurd (omega arith)
+run-head p (b ∷ bs) e = go (p b) e
+  where
+    go : {d : ℕ} {ds : Bytes} (x : Bool) → cond x (b ∷ run p bs) [] ≡ d ∷ ds → d ≡ b
+    go true e = cc
+    go false e = let z : _≡_ {A = ℕ} 0 1 = cc in absurd (omega arith)
 
 pub first-byte : (s : Bytes) (at : ℕ) → getD (drop at s) 0 0 ≡ getD s at 0
 first-byte s at = getD-drop at s 0 0 ∙ ap (λ n. getD s n 0) (add-zero at)

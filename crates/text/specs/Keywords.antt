@@ -1,97 +1,107 @@
--- The keywords of the line forms, by length and letters.
+-- Keywords by their letters, and the numbers that the code has for them.
+use mathlib.Core.Path.{_≡_}
 use mathlib.Core.List.{List, [], _∷_}
-use mathlib.Core.Bool.{_&&_, cond}
-use mathlib.Core.Option.{Option}
-use Prim.Native.Nat.{ℕ}
-use lib.Dec.{eqb}
-use lib.ListN.{length, drop}
-use Rattle.lists.specs.Lists.{same-list}
-use Rattle.syntax.specs.Grammar.{Bytes, bytes, Right, right-word}
-use Rattle.syntax.specs.Readers.{plain, run, among, Head, head-word, heads, Kind, kind-word, kinds, rights, Verb, verb-word, verbs, readers-compute}
-use Rattle.text.specs.Words.{code-from, code-of}
-use Rattle.text.specs.declared.Keyword.{Keyword}
-use Rattle.text.specs.declared.Keyword.the-variants.{Stream, Grant, Clock, Row, Clear, Caller, Ask, Line, In, Pick, Keep, Join, Min, Max, Count, Avg, Sum, Read, Of, Show, When, From, To, Window, Roles, Own, And, Or, Not, Eq, Ne, Lt, Le, Gt, Ge, All, Unknown}
+use mathlib.Core.Bool.{Bool, false, _&&_, not, cond}
+use mathlib.Core.Option.{Option, none, some}
+use Prim.Native.Nat.{ℕ, _+_, _-_}
+use lib.Dec.{T, ltb, eqb}
+use lib.ListN.{length, drop, getD}
+use Rattle.lists.specs.Lists.{every, same-list}
+use Rattle.syntax.specs.Grammar.{Bytes, Op, eq, ne, lt, le, gt, ge, min, max, count, avg, sum, Right, read, figures, right-word}
+use Rattle.syntax.specs.Limits.{max-line, short}
+use Rattle.syntax.specs.Readers.{Read, plain, run, read-open, Head, compare, and, or, not-of, head-word, heads, rights, readers-compute}
+use Rattle.text.specs.Words.{code-from, code-of, bytes-from, name-of, run-end}
+use Rattle.text.specs.declared.Class.the-variants.{Plain}
+use Rattle.text.specs.declared.Word.{Word}
+use Rattle.text.specs.declared.Line.{Line}
 
-unfoldable pub keyword-word : Keyword → Bytes
-keyword-word Stream = bytes "stream"
-keyword-word Grant = bytes "grant"
-keyword-word Clock = bytes "clock"
-keyword-word Row = bytes "row"
-keyword-word Clear = bytes "clear"
-keyword-word Caller = bytes "caller"
-keyword-word Ask = bytes "ask"
-keyword-word Line = bytes "line"
-keyword-word In = bytes "in"
-keyword-word Pick = bytes "pick"
-keyword-word Keep = bytes "keep"
-keyword-word Join = bytes "join"
-keyword-word Min = bytes "min"
-keyword-word Max = bytes "max"
-keyword-word Count = bytes "count"
-keyword-word Avg = bytes "avg"
-keyword-word Sum = bytes "sum"
-keyword-word Read = bytes "read"
-keyword-word Of = bytes "of"
-keyword-word Show = bytes "show"
-keyword-word When = bytes "when"
-keyword-word From = bytes "from"
-keyword-word To = bytes "to"
-keyword-word Window = bytes "window"
-keyword-word Roles = bytes "roles"
-keyword-word Own = bytes "self"
-keyword-word And = bytes "and"
-keyword-word Or = bytes "or"
-keyword-word Not = bytes "not"
-keyword-word Eq = bytes "="
-keyword-word Ne = bytes "/="
-keyword-word Lt = bytes "<"
-keyword-word Le = bytes "<="
-keyword-word Gt = bytes ">"
-keyword-word Ge = bytes ">="
-keyword-word All = bytes "*"
-keyword-word Unknown = []
+-- ---- words by their codes
 
-unfoldable pub keywords : List Keyword
-keywords =
-    Stream ∷ Grant ∷ Clock ∷ Row ∷ Clear ∷ Caller ∷ Ask ∷ Line ∷ In ∷ Pick ∷ Keep ∷ Join ∷ Min ∷ Max ∷ Count ∷ Avg ∷ Sum ∷ Read ∷ Of ∷ Show ∷ When ∷ From ∷ To ∷ Window ∷ Roles ∷ Own ∷ And ∷ Or ∷ Not
-    ∷ Eq ∷ Ne ∷ Lt ∷ Le ∷ Gt ∷ Ge ∷ All ∷ []
+-- the letters of a word as one number; 0 for no word, for one that is longer than a name may be, and for one that begins with a byte 0
+unfoldable pub word-code : Bytes → ℕ
+word-code [] = 0
+word-code (b ∷ bs) = cond (eqb b 0) 0 (cond (short (b ∷ bs)) (code-of (b ∷ bs)) 0)
 
-unfoldable pub keyword-among : List Keyword → Bytes → Keyword
-keyword-among [] w = Unknown
-keyword-among (k ∷ ks) w = cond (same-list (keyword-word k) w) k (keyword-among ks w)
+unfoldable pub octet : ℕ → Bool
+octet b = ltb b 256
 
--- which keyword a run of bytes is, or none
-unfoldable pub keyword-of : Bytes → Keyword
-keyword-of w = keyword-among keywords w
+-- a word that its code stands for: one to eight bytes, the first not 0
+unfoldable pub keyword? : Bytes → Bool
+keyword? [] = false
+keyword? (b ∷ bs) = not (eqb b 0) && short (b ∷ bs) && every octet (b ∷ bs)
 
--- the keyword at a place
-unfoldable pub keyword-at : Bytes → ℕ → Keyword
-keyword-at s at = keyword-of (run plain (drop at s))
+unfoldable pub word-at : Bytes → ℕ → Word
+word-at s at = record { code = word-code (run plain (drop at s)); next = run-end Plain s at }
 
--- ---- a keyword by its length and its code: no two have both alike
+-- the word at a place, whose letters are bytes
+pub record WordAt (s : Bytes) (at : ℕ) (r : Word) : Type 0 where
+  pub is : r ≡ word-at s at
+  pub narrow : T (every octet (run plain (drop at s)))
 
-unfoldable pub coded-among : List Keyword → ℕ → ℕ → Keyword
-coded-among [] n x = Unknown
-coded-among (k ∷ ks) n x = cond (eqb (length (keyword-word k)) n && eqb (code-of (keyword-word k)) x) k (coded-among ks n x)
+-- the one of some words that has a code
+unfoldable pub coded : {H : Type 0} → (H → Bytes) → List H → ℕ → Option H
+coded word [] c = none
+coded word (h ∷ hs) c = cond (eqb (code-of (word h)) c) (some h) (coded word hs c)
 
-unfoldable pub keyword-coded : ℕ → ℕ → Keyword
-keyword-coded n x = coded-among keywords n x
+unfoldable pub numbered : {H : Type 0} → (H → ℕ) → ℕ → Option H → ℕ
+numbered number other none = other
+numbered number other (some h) = number h
 
--- ---- what the readers' tables say of a keyword
+-- ---- heads of conditions
 
-unfoldable pub head-of : Keyword → Option Head
-head-of k = among head-word heads (keyword-word k)
+unfoldable pub op-number : Op → ℕ
+op-number eq = 1
+op-number ne = 2
+op-number lt = 3
+op-number le = 4
+op-number gt = 5
+op-number ge = 6
 
-unfoldable pub kind-of : Keyword → Option Kind
-kind-of k = among kind-word kinds (keyword-word k)
+unfoldable pub head-number : Head → ℕ
+head-number (compare o) = op-number o
+head-number and = 7
+head-number or = 8
+head-number not-of = 9
 
-unfoldable pub right-of : Keyword → Option Right
-right-of k = among right-word rights (keyword-word k)
+unfoldable pub head-coded : ℕ → ℕ
+head-coded c = numbered head-number 0 (coded head-word heads c)
 
-unfoldable pub verb-of : Keyword → Option Verb
-verb-of k = among verb-word verbs (keyword-word k)
+-- ---- rights
+
+unfoldable pub right-number : Right → ℕ
+right-number read = 0
+right-number (figures min) = 1
+right-number (figures max) = 2
+right-number (figures count) = 3
+right-number (figures avg) = 4
+right-number (figures sum) = 5
+
+unfoldable pub right-coded : ℕ → ℕ
+right-coded c = numbered right-number 6 (coded right-word rights c)
+
+-- ---- brackets and words at a place
+
+-- where what a reader leaves of a text begins; 0 where it reads nothing
+unfoldable pub place : {A : Type 0} → Bytes → Option (Read A) → ℕ
+place s none = 0
+place s (some r) = length s - length (r .left)
+
+-- an opening bracket and the word of a code
+unfoldable pub opened-at : Bytes → ℕ → ℕ → ℕ
+opened-at s at c = cond (eqb c 0) 0 (place s (read-open (name-of c) (drop at s)))
+
+-- the same after a space
+unfoldable pub part-at : Bytes → ℕ → ℕ → ℕ
+part-at s at c = cond (eqb (getD s at 0) 32) (opened-at s (at + 1) c) 0
+
+-- a closing bracket, and nothing after it
+unfoldable pub closes-at : Bytes → ℕ → Bool
+closes-at s at = same-list (41 ∷ []) (drop at s)
+
+unfoldable pub line-open : Bytes → ℕ → Line
+line-open s verb = record { long = ltb max-line (length s); at = cond (ltb max-line (length s)) 0 (opened-at s 0 verb) }
 
 -- To unfold this is to unfold every definition above, and those of the readers.
 unfoldable pub keywords-compute : Unit {0}
-unfolding readers-compute code-from code-of keyword-word keywords keyword-among keyword-of keyword-at coded-among keyword-coded head-of kind-of right-of verb-of
+unfolding readers-compute short code-from code-of bytes-from name-of word-code octet keyword? coded numbered op-number head-number head-coded right-number right-coded
 keywords-compute = tt

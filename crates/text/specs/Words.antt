@@ -8,11 +8,13 @@ use lib.Dec.{eqb}
 use lib.ListN.{length, drop}
 use Rattle.syntax.specs.Grammar.{Bytes, alnum, digit}
 use Rattle.syntax.specs.Readers.{Read, plain, run, numeral, read-name, read-negative, read-int}
-use Rattle.calls.specs.Bounds.{short}
+use Rattle.syntax.specs.Limits.{short, is-value, is-time, natural}
 use Rattle.text.specs.declared.Class.{Class}
 use Rattle.text.specs.declared.Class.the-variants.{Alnum, Digit, Plain}
 use Rattle.text.specs.declared.Name.{Name}
 use Rattle.text.specs.declared.Number.{Number}
+use Rattle.text.specs.declared.Kept.{Kept}
+use Rattle.text.specs.declared.Time.{Time}
 
 -- ---- runs of bytes
 
@@ -76,3 +78,17 @@ numeral-end s at = cond (numeral (run digit (drop at s))) (run-end Digit s at) a
 -- a number after its minus
 unfoldable pub negative-at : Bytes → ℕ → Number
 negative-at s at = number-read s (read-negative (drop at s))
+
+-- a value within the 32 bits, and else 0
+unfoldable pub value-kept : ℤ → ℤ
+value-kept z = cond (is-value z) z (pos 0)
+
+unfoldable pub kept-of : ℤ → Kept
+kept-of z = record { wide = not (is-value z); value = value-kept z }
+
+-- a time within its range, and else 0
+unfoldable pub time-kept : ℤ → ℕ
+time-kept z = cond (is-time z) (natural z) 0
+
+unfoldable pub time-of : ℤ → Time
+time-of z = record { beyond = not (is-time z); value = time-kept z }

@@ -1,14 +1,14 @@
-// Reading a text at a place: runs of bytes, names, numbers, keywords and brackets.
+// Reading a text at a place: runs of bytes, names, numbers and keywords.
 ghost use mathlib.Core.Path.{_≡_};
 ghost use mathlib.Core.Bool.{false, _||_};
-ghost use Prim.Native.Nat.{_+_, _*_, _-_, _≤_, _<_, max, min};
+ghost use Prim.Native.Nat.{_+_, _*_, _-_, _≤_, _<_, min};
 ghost use lib.IntN.{pos};
 ghost use lib.ListN.{length, getD, take, drop};
 ghost use Rattle.syntax.specs.Grammar.{digit, letter, alnum};
+ghost use Rattle.syntax.specs.Limits.{max-name, max-line, max-depth, top};
 ghost use Rattle.syntax.specs.Readers.{plain, value-from};
-ghost use Rattle.calls.specs.Bounds.{depth-from, open-after};
-ghost use Rattle.text.specs.Words.{class-of, run-end, code-of, name-at, far, numeral-end, negative-at, number-at};
-ghost use Rattle.text.specs.Keywords.{keyword-coded, keyword-at};
+ghost use Rattle.text.specs.Words.{class-of, run-end, code-of, name-at, far, numeral-end, negative-at, number-at, kept-of, time-of};
+ghost use Rattle.text.specs.Keywords.{head-coded, right-coded, WordAt, opened-at, part-at, closes-at, line-open};
 
 // Classes of bytes: letters and digits, digits, and all but spaces and brackets.
 pub enum Class {
@@ -32,58 +32,136 @@ pub struct Number {
     pub next: usize,
 }
 
-// The keywords of the line forms. `Own` is `self`, `All` is `*`.
-pub enum Keyword {
-    Unknown,
-    Stream,
-    Grant,
-    Clock,
-    Row,
-    Clear,
-    Caller,
-    Ask,
-    Line,
-    In,
-    Pick,
-    Keep,
-    Join,
-    Min,
-    Max,
-    Count,
-    Avg,
-    Sum,
-    Read,
-    Of,
-    Show,
-    When,
-    From,
-    To,
-    Window,
-    Roles,
-    Own,
-    And,
-    Or,
-    Not,
-    Eq,
-    Ne,
-    Lt,
-    Le,
-    Gt,
-    Ge,
-    All,
+// A number within 32 bits, or that it is beyond.
+pub struct Kept {
+    pub wide: bool,
+    pub value: i32,
 }
 
-// How many bytes a written line may have.
-pub const LINE: usize = 512;
-// How many of its brackets may be open at once.
-pub const DEPTH: usize = 8;
+// A time, or that a number is none.
+pub struct Time {
+    pub beyond: bool,
+    pub value: u32,
+}
+
+// A word at a place: its letters as one number, 0 for none that can be a keyword.
+pub struct Word {
+    pub code: u64,
+    pub next: usize,
+}
+
+// A line up to its first word: whether it is longer than a line may be, and the place after the word, 0 where it has another.
+pub struct Line {
+    pub long: bool,
+    pub at: usize,
+}
 
 impl Name {
     // How many bytes a name may have.
     pub const BYTES: usize = 8;
+
+    // Returns Name::BYTES, which is the bound of the definitions.
+    pub fn bytes() -> usize
+        ensures { λ r. ⌜ r ≡ max-name ⌝ }
+    {
+        Name::BYTES
+    }
 }
 
-// Whether one of two tests holds.
+impl Time {
+    // The highest time.
+    pub const TOP: u32 = 2147483647;
+
+    // Returns Time::TOP, which is the bound of the definitions.
+    pub fn top() -> u32
+        ensures { λ r. ⌜ r ≡ top ⌝ }
+    {
+        Time::TOP
+    }
+}
+
+impl Word {
+    pub const STREAM: u64 = 0x73747265616d;
+
+    pub const GRANT: u64 = 0x6772616e74;
+
+    pub const CLOCK: u64 = 0x636c6f636b;
+
+    pub const ROW: u64 = 0x726f77;
+
+    pub const CLEAR: u64 = 0x636c656172;
+
+    pub const CALLER: u64 = 0x63616c6c6572;
+
+    pub const READ: u64 = 0x72656164;
+
+    pub const MIN: u64 = 0x6d696e;
+
+    pub const MAX: u64 = 0x6d6178;
+
+    pub const COUNT: u64 = 0x636f756e74;
+
+    pub const AVG: u64 = 0x617667;
+
+    pub const SUM: u64 = 0x73756d;
+
+    pub const OF: u64 = 0x6f66;
+
+    pub const SHOW: u64 = 0x73686f77;
+
+    pub const WHEN: u64 = 0x7768656e;
+
+    pub const FROM: u64 = 0x66726f6d;
+
+    pub const TO: u64 = 0x746f;
+
+    pub const WINDOW: u64 = 0x77696e646f77;
+
+    pub const ROLES: u64 = 0x726f6c6573;
+
+    pub const SELF: u64 = 0x73656c66;
+
+    pub const TIME: u64 = 0x74696d65;
+
+    pub const FIGURE: u64 = 0x666967757265;
+
+    pub const STAR: u64 = 0x2a;
+
+    // Returns a condition's head by the code of its word: 1 to 6 for the comparisons, 7 `and`, 8 `or`, 9 `not`; 0 for none.
+    pub fn head(code: u64) -> u32
+        ensures { λ r. ⌜ r ≡ head-coded code ⌝ }
+    {
+        match code {
+            0x3d => 1,
+            0x2f3d => 2,
+            0x3c => 3,
+            0x3c3d => 4,
+            0x3e => 5,
+            0x3e3d => 6,
+            0x616e64 => 7,
+            0x6f72 => 8,
+            0x6e6f74 => 9,
+            _ => 0,
+        }
+    }
+
+    // Returns a right by the code of its word: 0 for `read`, 1 to 5 for the aggregates; 6 for none.
+    pub fn right(code: u64) -> u32
+        ensures { λ r. ⌜ r ≡ right-coded code ⌝ }
+    {
+        match code {
+            Word::READ => 0,
+            Word::MIN => 1,
+            Word::MAX => 2,
+            Word::COUNT => 3,
+            Word::AVG => 4,
+            Word::SUM => 5,
+            _ => 6,
+        }
+    }
+}
+
+// Returns whether one of two tests holds.
 pub fn either(a: bool, b: bool) -> bool
     ensures { λ r. ⌜ r ≡ (a || b) ⌝ }
 {
@@ -93,14 +171,15 @@ pub fn either(a: bool, b: bool) -> bool
     b
 }
 
-// The byte at a place, and 0 past the end.
+// Returns the byte at a place, 0 past the end.
 pub fn byte(s: &[u8], at: usize) -> u8
     ensures { λ r. ⌜ r ≡ getD (now (s .entry)) at 0 ⌝ }
 {
     if at < s.len() { s[at] } else { 0 }
 }
 
-fn is_digit(b: u8) -> bool
+// A digit.
+fn is_digit(b: u64) -> bool
     ensures { λ r. ⌜ r ≡ digit b ⌝ }
 {
     if b < 48 {
@@ -109,7 +188,8 @@ fn is_digit(b: u8) -> bool
     b <= 57
 }
 
-fn is_letter(b: u8) -> bool
+// Returns whether a byte is a lower-case letter.
+pub fn is_letter(b: u64) -> bool
     ensures { λ r. ⌜ r ≡ letter b ⌝ }
 {
     if b < 97 {
@@ -118,7 +198,8 @@ fn is_letter(b: u8) -> bool
     b <= 122
 }
 
-fn is_alnum(b: u8) -> bool
+// Returns whether a byte is a lower-case letter or a digit.
+pub fn is_alnum(b: u64) -> bool
     ensures { λ r. ⌜ r ≡ alnum b ⌝ }
 {
     if is_letter(b) {
@@ -138,18 +219,18 @@ fn is_plain(b: u8) -> bool
     }
 }
 
-// Whether a byte is of a class.
+// Returns whether a byte is of a class.
 pub fn in_class(b: u8, c: Class) -> bool
     ensures { λ r. ⌜ r ≡ class-of c b ⌝ }
 {
     match c {
-        Class::Alnum => is_alnum(b),
-        Class::Digit => is_digit(b),
+        Class::Alnum => is_alnum(b as u64),
+        Class::Digit => is_digit(b as u64),
         Class::Plain => is_plain(b),
     }
 }
 
-// Where the run of bytes of a class ends that begins at a place.
+// Returns the place after the run of bytes of a class that begins at a place: the place itself where the run is empty.
 pub fn run_end(s: &[u8], at: usize, c: Class) -> usize
     ensures { λ r. ⌜ r ≡ run-end c (now (s .entry)) at ⌝ }
 {
@@ -188,11 +269,11 @@ fn no_name() -> Name
     }
 }
 
-// The name at a place.
+// Returns the name at a place, its number and the place after it; `ok` is false where there is none, and all else 0.
 pub fn name_at(s: &[u8], at: usize) -> Name
     ensures { λ r. ⌜ r ≡ name-at (now (s .entry)) at ⌝ }
 {
-    if !is_letter(byte(s, at)) {
+    if !is_letter(byte(s, at) as u64) {
         return no_name();
     }
     let end = run_end(s, at, Class::Alnum);
@@ -293,7 +374,7 @@ fn negative_at(s: &[u8], at: usize) -> Number
     no_number()
 }
 
-// The number at a place.
+// Returns the number at a place and the place after it; `ok` is false where there is none, and all else 0.
 pub fn number_at(s: &[u8], at: usize) -> Number
     ensures { λ r. ⌜ r ≡ number-at (now (s .entry)) at ⌝ }
 {
@@ -312,164 +393,149 @@ pub fn number_at(s: &[u8], at: usize) -> Number
     }
 }
 
-// The keyword of one byte with a code.
-fn one_byte(code: u64) -> Keyword
-    ensures { λ r. ⌜ r ≡ keyword-coded 1 code ⌝ }
-{
-    match code {
-        0x3d => Keyword::Eq,
-        0x3c => Keyword::Lt,
-        0x3e => Keyword::Gt,
-        0x2a => Keyword::All,
-        _ => Keyword::Unknown,
+impl Number {
+    // The numbers of 32 bits.
+    pub const LEAST: i64 = -2147483648;
+
+    pub const MOST: i64 = 2147483647;
+
+    // Returns a number within 32 bits; `wide` and 0 for one beyond.
+    pub fn kept(self) -> Kept
+        ensures { λ r. ⌜ r ≡ kept-of (self .value) ⌝ }
+    {
+        let v = self.value;
+        if v < Number::LEAST {
+            return Kept {
+                wide: true,
+                value: 0,
+            };
+        }
+        if Number::MOST < v {
+            return Kept {
+                wide: true,
+                value: 0,
+            };
+        }
+        Kept {
+            wide: false,
+            value: v as i32,
+        }
+    }
+
+    // Returns a time; `beyond` and 0 for a number that is none.
+    pub fn time(self) -> Time
+        ensures { λ r. ⌜ r ≡ time-of (self .value) ⌝ }
+    {
+        let v = self.value;
+        if v < 0 {
+            return Time {
+                beyond: true,
+                value: 0,
+            };
+        }
+        if Number::MOST < v {
+            return Time {
+                beyond: true,
+                value: 0,
+            };
+        }
+        Time {
+            beyond: false,
+            value: v as u32,
+        }
     }
 }
 
-// The keyword of two bytes with a code.
-fn two_bytes(code: u64) -> Keyword
-    ensures { λ r. ⌜ r ≡ keyword-coded 2 code ⌝ }
+// Returns the word at a place, up to a space or a bracket, and the place after it; its code is 0 where it can be no keyword.
+pub fn word_at(s: &[u8], at: usize) -> Word
+    ensures { λ r. ⌜ WordAt (now (s .entry)) at r ⌝ }
 {
-    match code {
-        0x696e => Keyword::In,
-        0x6f66 => Keyword::Of,
-        0x746f => Keyword::To,
-        0x6f72 => Keyword::Or,
-        0x2f3d => Keyword::Ne,
-        0x3c3d => Keyword::Le,
-        0x3e3d => Keyword::Ge,
-        _ => Keyword::Unknown,
-    }
-}
-
-// The keyword of three bytes with a code.
-fn three_bytes(code: u64) -> Keyword
-    ensures { λ r. ⌜ r ≡ keyword-coded 3 code ⌝ }
-{
-    match code {
-        0x726f77 => Keyword::Row,
-        0x61736b => Keyword::Ask,
-        0x6d696e => Keyword::Min,
-        0x6d6178 => Keyword::Max,
-        0x617667 => Keyword::Avg,
-        0x73756d => Keyword::Sum,
-        0x616e64 => Keyword::And,
-        0x6e6f74 => Keyword::Not,
-        _ => Keyword::Unknown,
-    }
-}
-
-// The keyword of four bytes with a code.
-fn four_bytes(code: u64) -> Keyword
-    ensures { λ r. ⌜ r ≡ keyword-coded 4 code ⌝ }
-{
-    match code {
-        0x6c696e65 => Keyword::Line,
-        0x7069636b => Keyword::Pick,
-        0x6b656570 => Keyword::Keep,
-        0x6a6f696e => Keyword::Join,
-        0x72656164 => Keyword::Read,
-        0x73686f77 => Keyword::Show,
-        0x7768656e => Keyword::When,
-        0x66726f6d => Keyword::From,
-        0x73656c66 => Keyword::Own,
-        _ => Keyword::Unknown,
-    }
-}
-
-// The keyword of five bytes with a code.
-fn five_bytes(code: u64) -> Keyword
-    ensures { λ r. ⌜ r ≡ keyword-coded 5 code ⌝ }
-{
-    match code {
-        0x6772616e74 => Keyword::Grant,
-        0x636c6f636b => Keyword::Clock,
-        0x636c656172 => Keyword::Clear,
-        0x636f756e74 => Keyword::Count,
-        0x726f6c6573 => Keyword::Roles,
-        _ => Keyword::Unknown,
-    }
-}
-
-// The keyword of six bytes with a code.
-fn six_bytes(code: u64) -> Keyword
-    ensures { λ r. ⌜ r ≡ keyword-coded 6 code ⌝ }
-{
-    match code {
-        0x73747265616d => Keyword::Stream,
-        0x63616c6c6572 => Keyword::Caller,
-        0x77696e646f77 => Keyword::Window,
-        _ => Keyword::Unknown,
-    }
-}
-
-// The keyword of a length and a code.
-fn coded(n: usize, code: u64) -> Keyword
-    ensures { λ r. ⌜ r ≡ keyword-coded n code ⌝ }
-{
-    match n {
-        1 => one_byte(code),
-        2 => two_bytes(code),
-        3 => three_bytes(code),
-        4 => four_bytes(code),
-        5 => five_bytes(code),
-        6 => six_bytes(code),
-        _ => Keyword::Unknown,
-    }
-}
-
-// The keyword at a place.
-pub fn keyword_at(s: &[u8], at: usize) -> Keyword
-    ensures { λ r. ⌜ r ≡ keyword-at (now (s .entry)) at ⌝ }
-{
-    if s.len() <= at {
-        return Keyword::Unknown;
-    }
     let end = run_end(s, at, Class::Plain);
     let n = end - at;
-    if 6 < n {
-        return Keyword::Unknown;
+    if byte(s, at) == 0 {
+        return Word { code: 0, next: end };
+    }
+    if Name::BYTES < n {
+        return Word { code: 0, next: end };
     }
     let code = packed(s, at, n);
-    coded(n, code)
+    Word {
+        code: code,
+        next: end,
+    }
 }
 
-// How many brackets are open after a byte.
-fn opened(b: u8, n: usize) -> usize
-    requires { ⌜ n < 9223372036854775808 ⌝ }
-    ensures { λ r. ⌜ r ≡ open-after b n ⌝ }
+// Returns the place after an opening bracket and the word of a code; 0 means that they do not stand at the place.
+pub fn open_at(s: &[u8], at: usize, code: u64) -> usize
+    ensures { λ r. ⌜ r ≡ opened-at (now (s .entry)) at code ⌝ }
 {
-    match b {
-        40 => n + 1,
-        41 => {
-            if n == 0 {
-                return 0;
-            }
-            n - 1
+    if code == 0 {
+        return 0;
+    }
+    if byte(s, at) != b'(' {
+        return 0;
+    }
+    let w = word_at(s, at + 1);
+    if w.code != code {
+        return 0;
+    }
+    w.next
+}
+
+// Returns the place after a space, an opening bracket and the word of a code; 0 means that they do not stand at the place.
+pub fn part_at(s: &[u8], at: usize, code: u64) -> usize
+    ensures { λ r. ⌜ r ≡ part-at (now (s .entry)) at code ⌝ }
+{
+    if byte(s, at) != b' ' {
+        return 0;
+    }
+    open_at(s, at + 1, code)
+}
+
+// Returns whether a text ends with a closing bracket that stands at a place.
+pub fn closes_at(s: &[u8], at: usize) -> bool
+    ensures { λ r. ⌜ r ≡ closes-at (now (s .entry)) at ⌝ }
+{
+    if s.len() <= at {
+        return false;
+    }
+    if s[at] != b')' {
+        return false;
+    }
+    at + 1 == s.len()
+}
+
+impl Line {
+    // How many bytes a written line may have.
+    pub const BYTES: usize = 512;
+    // How many of its brackets may be open at once.
+    pub const DEPTH: usize = 8;
+
+    // Returns Line::BYTES, which is the bound of the definitions.
+    pub fn bytes() -> usize
+        ensures { λ r. ⌜ r ≡ max-line ⌝ }
+    {
+        Line::BYTES
+    }
+
+    // Returns Line::DEPTH, which is the bound of the definitions.
+    pub fn depth() -> usize
+        ensures { λ r. ⌜ r ≡ max-depth ⌝ }
+    {
+        Line::DEPTH
+    }
+
+    // Returns the place after the first word of a line of a verb; 0 means that it is too long (`long`) or has another.
+    pub fn open(s: &[u8], verb: u64) -> Line
+        ensures { λ r. ⌜ r ≡ line-open (now (s .entry)) verb ⌝ }
+    {
+        if Line::BYTES < s.len() {
+            return Line { long: true, at: 0 };
         }
-        _ => n,
+        let at = open_at(s, 0, verb);
+        Line {
+            long: false,
+            at: at,
+        }
     }
-}
-
-fn larger(a: usize, b: usize) -> usize
-    ensures { λ r. ⌜ r ≡ max a b ⌝ }
-{
-    if a < b {
-        return b;
-    }
-    a
-}
-
-// How many brackets of a text are open at once at the most.
-pub fn depth(s: &[u8]) -> usize
-    ensures { λ r. ⌜ r ≡ depth-from 0 (now (s .entry)) ⌝ }
-{
-    let mut level: usize = 0;
-    let mut deepest: usize = 0;
-    let mut i = 0;
-    while i < s.len() {
-        level = opened(s[i], level);
-        deepest = larger(deepest, level);
-        i += 1;
-    }
-    deepest
 }

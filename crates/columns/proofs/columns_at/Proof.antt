@@ -2,17 +2,17 @@
 use borrow.Author.Needs.{needs}
 use mathlib.Core.Path.{_≡_}
 use Prim.Native.Nat.{_-_}
-use lib.ListN.{length}
+use lib.ListN.{length, take}
 use Rattle.columns.specs.Columns.{columns-at}
 use Rattle.columns.proofs.ColumnLists.{columns-on, columns-ends}
 use Rattle.columns.proofs.columns_at.Statement.{statement}
 use Rattle.columns.proofs.columns_at.Tie as tie
 
 abbrev Inv-loop : tie.InvT-loop
-Inv-loop s at ks form r₀ i₀ r i = columns-at ks form s at ≡ columns-on ks form s r i
+Inv-loop s at names form r₀ own₀ k₀ i₀ r own k i = (length own ≡ 72) × (columns-at names form s at ≡ columns-on names form s r (take k own) i)
 
 abbrev μ-loop : tie.MeasureT-loop
-μ-loop s at ks form r₀ i₀ r i = length s - i
+μ-loop s at names form r₀ own₀ k₀ i₀ r own k i = length s - i
 
 pub columns-at-spec : {M : Type 1} → statement M
 columns-at-spec =
@@ -23,7 +23,7 @@ columns-at-spec =
     {- no-columns-requires -}
     (λ c κs. search needs)
     {- loop-holds -}
-    (λ c. search columns-ends)
+    (λ c. (search needs, search columns-ends))
     {- ends-at-requires -}
     (λ c κs. search needs)
     {- columns-ended-requires -}
@@ -46,14 +46,20 @@ columns-at-spec =
     (λ c. search columns-ends)
     {- term-code-requires -}
     (λ c κs. search needs)
-    {- again-at-requires -}
+    {- slice-aggregate-again -}
+    (λ c. search needs)
+    {- again-requires -}
+    (λ c κs. search needs)
+    {- slice-aggregate-keep -}
+    (λ c. search needs)
+    {- keep-requires -}
     (λ c κs. search needs)
     {- with-column-requires -}
     (λ c κs. search needs)
     {- loop-less -}
     (λ c. search columns-ends)
     {- loop-again -}
-    (λ c. search columns-ends)
+    (λ c. (search needs, search columns-ends))
     {- no-columns-requires-4 -}
     (λ c κs. search needs)
     {- returns-4 -}

@@ -1,6 +1,6 @@
 -- `ends_at`: by the bytes at a place.
 use borrow.Author.Needs.{needs}
-use Rattle.columns.proofs.Ends.{ends-ends}
+use Rattle.columns.proofs.Closing.{ends-ends}
 use Rattle.columns.proofs.ends_at.Statement.{statement}
 use Rattle.columns.proofs.ends_at.Tie as tie
 

@@ -9,10 +9,10 @@ use Rattle.columns.proofs.streams_at.Statement.{statement}
 use Rattle.columns.proofs.streams_at.Tie as tie
 
 abbrev Inv-loop : tie.InvT-loop
-Inv-loop s at ks r₀ seen₀ i₀ r seen i = streams-at ks s at ≡ streams-on ks s r seen i
+Inv-loop s at names r₀ seen₀ i₀ r seen i = streams-at names s at ≡ streams-on names s r seen i
 
 abbrev μ-loop : tie.MeasureT-loop
-μ-loop s at ks r₀ seen₀ i₀ r seen i = length s - i
+μ-loop s at names r₀ seen₀ i₀ r seen i = length s - i
 
 pub streams-at-spec : {M : Type 1} → statement M
 streams-at-spec =
@@ -44,7 +44,7 @@ streams-at-spec =
     (λ c κs. search needs)
     {- returns-3 -}
     (λ c. search streams-ends)
-    {- stream-in-requires -}
+    {- stream-place-requires -}
     (λ c κs. search needs)
     {- shows-requires -}
     (λ c κs. search needs)

@@ -1,6 +1,6 @@
 -- `with_column`: by its fields.
 use borrow.Author.Needs.{needs}
-use Rattle.columns.proofs.ColumnLists.{column-adds}
+use Rattle.columns.proofs.ColumnLists.{column-made}
 use Rattle.columns.proofs.with_column.Statement.{statement}
 use Rattle.columns.proofs.with_column.Tie as tie
 
@@ -17,4 +17,4 @@ with-column-spec =
     {- with-requires -}
     (λ c κs. search needs)
     {- returns -}
-    (λ c. search column-adds))
+    (λ c. search column-made))

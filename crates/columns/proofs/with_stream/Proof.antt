@@ -1,20 +1,13 @@
 -- `with_stream`: by whether there is a place.
 use borrow.Author.Needs.{needs}
 use mathlib.Core.Path.{_≡_}
-use native.Mathlib.Omega.{arith}
 use lib.ListN.{length}
-use Rattle.columns.proofs.StreamLists.{stream-full, stream-adds}
+use Rattle.columns.proofs.StreamLists.{stream-adds}
 use Rattle.columns.proofs.with_stream.Statement.{statement}
 use Rattle.columns.proofs.with_stream.Tie as tie
 
 four : (c : tie.Start) → length (c .args .r .places) ≡ 4
 four c = search needs
-
-returns : tie.Need-returns
-returns c =
-    let a = c .before .before .before .before .before .before .args in
-    stream-full (a .r) (a .long) (a .again) (a .place) (c .before .before .before .before .before .either .ensures) (c .before .before .before .before .either2 .ensures) (c .before .before .before .either3 .ensures)
-    (four (c .before .before .before .before .before .before)) (omega arith)
 
 pub with-stream-spec : {M : Type 1} → statement M
 with-stream-spec =
@@ -22,6 +15,8 @@ with-stream-spec =
     (tie.spec
     {- either-requires -}
     (λ c κs. search needs)
+    {- cast-either -}
+    (λ c. search needs)
     {- either-requires-2 -}
     (λ c κs. search needs)
     {- either-requires-3 -}
@@ -29,12 +24,12 @@ with-stream-spec =
     {- cast-at -}
     (λ c. search needs)
     {- returns -}
-    returns
+    (λ c. let l = four (c .before .before .before .before .before .before) in search stream-adds)
     {- mul-places -}
     (λ c. search needs)
     {- array-write-places -}
     (λ c. search needs)
-    {- add-t15 -}
+    {- add-t10 -}
     (λ c. search needs)
     {- returns-2 -}
     (λ c. search stream-adds))

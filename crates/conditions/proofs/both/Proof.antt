@@ -1,4 +1,3 @@
--- `both`: field by field.
 use borrow.Author.Needs.{needs}
 use Rattle.conditions.proofs.Leaves.{both-ends}
 use Rattle.conditions.proofs.both.Statement.{statement}
@@ -8,9 +7,13 @@ pub both-spec : {M : Type 1} → statement M
 both-spec =
     tie.close
     (tie.spec
-    {- nothing-seen-requires -}
+    {- deep-seen-requires -}
     (λ c κs. search needs)
     {- returns -}
+    (λ c. search both-ends)
+    {- deep-seen-requires-2 -}
+    (λ c κs. search needs)
+    {- returns-2 -}
     (λ c. search both-ends)
     {- either-requires -}
     (λ c κs. search needs)
@@ -20,5 +23,5 @@ both-spec =
     (λ c κs. search needs)
     {- either-requires-4 -}
     (λ c κs. search needs)
-    {- returns-2 -}
+    {- returns-3 -}
     (λ c. search both-ends))

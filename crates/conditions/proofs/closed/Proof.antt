@@ -1,5 +1,5 @@
--- `closed`: one node more, where there is room for it.
 use borrow.Author.Needs.{needs}
+use Rattle.text.proofs.Places.{next-fits}
 use Rattle.conditions.proofs.Leaves.{closed-ends}
 use Rattle.conditions.proofs.closed.Statement.{statement}
 use Rattle.conditions.proofs.closed.Tie as tie
@@ -12,24 +12,22 @@ closed-spec =
     (λ c κs. search needs)
     {- returns -}
     (λ c. search closed-ends)
-    {- byte-end-requires -}
+    {- byte-requires -}
     (λ c κs. search needs)
     {- nothing-seen-requires-2 -}
     (λ c κs. search needs)
     {- returns-2 -}
     (λ c. search closed-ends)
-    {- nothing-seen-requires-3 -}
+    {- add-deep-seen -}
+    (λ c. search next-fits)
+    {- deep-seen-requires -}
     (λ c κs. search needs)
     {- returns-3 -}
     (λ c. search closed-ends)
-    {- add-put-node -}
-    (λ c. search needs)
-    {- cast-put-node -}
-    (λ c. search needs)
-    {- put-node-requires -}
+    {- placed-requires -}
     (λ c κs. search needs)
     {- add-t14 -}
-    (λ c. search needs)
+    (λ c. search next-fits)
     {- same-length -}
     (λ c. search needs)
     {- returns-4 -}

@@ -1,4 +1,3 @@
--- `compared`: one node, where there is room for it.
 use borrow.Author.Needs.{needs}
 use Rattle.conditions.proofs.Leaves.{compared-ends}
 use Rattle.conditions.proofs.compared.Statement.{statement}
@@ -14,15 +13,7 @@ compared-spec =
     (λ c κs. search needs)
     {- returns -}
     (λ c. search compared-ends)
-    {- nothing-seen-requires-2 -}
-    (λ c κs. search needs)
-    {- returns-2 -}
-    (λ c. search compared-ends)
-    {- add-put-node -}
-    (λ c. search needs)
-    {- cast-put-node -}
-    (λ c. search needs)
-    {- put-node-requires -}
+    {- placed-requires -}
     (λ c κs. search needs)
     {- undeclared-requires -}
     (λ c κs. search needs)
@@ -30,9 +21,7 @@ compared-spec =
     (λ c κs. search needs)
     {- with-requires-2 -}
     (λ c κs. search needs)
-    {- add-t16 -}
-    (λ c. search needs)
     {- same-length -}
     (λ c. search needs)
-    {- returns-3 -}
+    {- returns-2 -}
     (λ c. search compared-ends))

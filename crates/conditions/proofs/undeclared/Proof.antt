@@ -1,4 +1,3 @@
--- `undeclared`: by the left term first.
 use Rattle.conditions.proofs.Leaves.{undeclared-ends}
 use Rattle.conditions.proofs.undeclared.Statement.{statement}
 use Rattle.conditions.proofs.undeclared.Tie as tie

@@ -25,10 +25,10 @@ once-spec =
     (tie.spec
     Inv-loop
     μ-loop
-    {- at-most-six-requires -}
+    {- at-most-requires -}
     (λ c κs. search needs)
     {- loop-holds -}
-    (λ c. (search needs, once-start _ _ (six (c .before)) (c .at-most-six .ensures)))
+    (λ c. (search needs, once-start _ _ (six (c .before)) (c .at-most .ensures)))
     {- again-requires -}
     (λ c κs. search needs)
     {- returns -}

@@ -44,7 +44,7 @@ values-at-spec =
     (λ c κs. search needs)
     {- returns-3 -}
     (λ c. search values-ends)
-    {- kept-value-requires -}
+    {- kept-requires -}
     (λ c κs. search needs)
     {- with-value-requires -}
     (λ c κs. search needs)

@@ -7,7 +7,7 @@ use mir.Syntax.{w32}
 use mir.Val.{SFits}
 use borrow.Author.Needs.{needs}
 use borrow.Author.Count.{below-more}
-use Rattle.calls.specs.Bounds.{is-value}
+use Rattle.syntax.specs.Limits.{is-value}
 use Rattle.text.proofs.Values.{fits-value, every-below}
 use Rattle.ledger.proofs.known.Statement.{statement}
 use Rattle.ledger.proofs.known.Tie as tie

@@ -2,7 +2,7 @@ use mathlib.Core.Path.{_≡_, sym, ap, _∙_}
 use Prim.Native.Nat.{_≤_, _-_, _+_}
 use native.Mathlib.Omega.{arith}
 use Rattle.ledger.specs.Records.{times-steady}
-use Rattle.ledger.proofs.Records.{steady-past, steady-fails, steady-done}
+use Rattle.ledger.proofs.Bounds.{steady-past, steady-fails, steady-done}
 use Rattle.ledger.proofs.steady.Statement.{statement}
 use Rattle.ledger.proofs.steady.Tie as tie
 

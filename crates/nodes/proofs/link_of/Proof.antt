@@ -9,7 +9,7 @@ link-of-spec =
     (tie.spec
     {- returns -}
     (λ c. search link-ends)
-    {- node-at-requires -}
+    {- word-requires -}
     (λ c κs. search needs)
     {- cast-b -}
     (λ c. search needs)

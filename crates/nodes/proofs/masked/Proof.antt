@@ -9,7 +9,7 @@ masked-spec =
     (tie.spec
     {- returns -}
     (λ c. search mask-ends)
-    {- shr-result -}
-    (λ c. search needs)
+    {- shows-requires -}
+    (λ c κs. search needs)
     {- returns-2 -}
     (λ c. search mask-ends))

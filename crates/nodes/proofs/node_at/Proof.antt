@@ -1,5 +1,5 @@
 use borrow.Author.Needs.{needs}
-use Rattle.nodes.proofs.Words.{word-ends}
+use Rattle.nodes.proofs.Words.{node-ends}
 use Rattle.nodes.proofs.node_at.Statement.{statement}
 use Rattle.nodes.proofs.node_at.Tie as tie
 
@@ -7,27 +7,31 @@ pub node-at-spec : {M : Type 1} → statement M
 node-at-spec =
     tie.close
     (tie.spec
-    {- empty-requires -}
+    {- unpacked-requires -}
     (λ c κs. search needs)
     {- returns -}
-    (λ c. search word-ends)
-    {- sub-if2 -}
-    (λ c. search needs)
-    {- empty-requires-2 -}
-    (λ c κs. search needs)
-    {- returns-2 -}
-    (λ c. search word-ends)
-    {- sub-at -}
-    (λ c. search needs)
-    {- mul-at -}
-    (λ c. search needs)
+    (λ c. search node-ends)
     {- word-requires -}
     (λ c κs. search needs)
     {- word-requires-2 -}
     (λ c κs. search needs)
+    {- cast-unpacked -}
+    (λ c. search needs)
+    {- unpacked-requires-2 -}
+    (λ c κs. search needs)
+    {- returns-2 -}
+    (λ c. search node-ends)
     {- word-requires-3 -}
     (λ c κs. search needs)
-    {- unpacked-requires -}
+    {- word-requires-4 -}
+    (λ c κs. search needs)
+    {- joined-requires -}
+    (λ c κs. search needs)
+    {- unpacked-requires-3 -}
     (λ c κs. search needs)
     {- returns-3 -}
-    (λ c. search word-ends))
+    (λ c. search node-ends)
+    {- unpacked-requires-4 -}
+    (λ c κs. search needs)
+    {- returns-4 -}
+    (λ c. search node-ends))

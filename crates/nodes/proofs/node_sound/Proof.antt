@@ -1,5 +1,5 @@
 use borrow.Author.Needs.{needs}
-use Rattle.nodes.proofs.Tests.{node-ends}
+use Rattle.nodes.proofs.Tests.{sound-ends}
 use Rattle.nodes.proofs.node_sound.Statement.{statement}
 use Rattle.nodes.proofs.node_sound.Tie as tie
 
@@ -10,14 +10,12 @@ node-sound-spec =
     {- links-well-requires -}
     (λ c κs. search needs)
     {- returns -}
-    (λ c. search node-ends)
-    {- node-at-requires -}
-    (λ c κs. search needs)
+    (λ c. search sound-ends)
     {- compares-requires -}
     (λ c κs. search needs)
     {- returns-2 -}
-    (λ c. search node-ends)
+    (λ c. search sound-ends)
     {- terms-stand-requires -}
     (λ c κs. search needs)
     {- returns-3 -}
-    (λ c. search node-ends))
+    (λ c. search sound-ends))

@@ -1,10 +1,10 @@
 use borrow.Author.Needs.{needs}
-use Rattle.nodes.specs.Storing.{first-word}
+use Rattle.nodes.specs.Storing.{head-word}
 use Rattle.nodes.proofs.packed.Statement.{statement}
 use Rattle.nodes.proofs.packed.Tie as tie
 
 returns : tie.Need-returns
-unfolding first-word
+unfolding head-word
 returns c = search needs
 
 pub packed-spec : {M : Type 1} → statement M

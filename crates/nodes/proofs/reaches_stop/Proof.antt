@@ -1,6 +1,6 @@
+use borrow.Author.Needs.{needs}
 use mathlib.Core.Path.{_≡_, refl}
 use Prim.Native.Nat.{suc}
-use borrow.Author.Needs.{needs}
 use Rattle.nodes.specs.Nodes.{reaches}
 use Rattle.nodes.proofs.Tests.{reaches-ends}
 use Rattle.nodes.proofs.reaches_stop.Statement.{statement}

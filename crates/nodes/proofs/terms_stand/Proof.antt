@@ -17,7 +17,7 @@ terms-stand-spec =
     (λ c. search terms-ends)
     {- returns-3 -}
     (λ c. search terms-ends)
-    {- entry-name-requires -}
+    {- valid-name-requires -}
     (λ c κs. search needs)
     {- returns-4 -}
     (λ c. search terms-ends)

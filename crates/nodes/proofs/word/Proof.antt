@@ -7,14 +7,12 @@ pub word-spec : {M : Type 1} → statement M
 word-spec =
     tie.close
     (tie.spec
+    {- first-requires -}
+    (λ c κs. search needs)
     {- returns -}
     (λ c. search word-ends)
-    {- sub-if2 -}
-    (λ c. search needs)
     {- returns-2 -}
     (λ c. search word-ends)
-    {- add-result -}
-    (λ c. search needs)
     {- mul-result -}
     (λ c. search needs)
     {- shared-slice-read-result -}

@@ -1,6 +1,6 @@
--- `valid_name`: names by their numbers are never too long.
+-- `valid_name`: a name of a number is never too long.
 use borrow.Author.Needs.{needs}
-use Rattle.schema.proofs.Codes.{valid-ends}
+use Rattle.schema.proofs.FreeNames.{valid-code}
 use Rattle.schema.proofs.valid_name.Statement.{statement}
 use Rattle.schema.proofs.valid_name.Tie as tie
 
@@ -11,4 +11,4 @@ valid-name-spec =
     {- is-name-requires -}
     (λ c κs. search needs)
     {- returns -}
-    (λ c. search valid-ends))
+    (λ c. search valid-code))

@@ -3,7 +3,7 @@ use borrow.Author.Needs.{needs}
 use Prim.Native.Nat.{_<_}
 use native.Mathlib.Omega.{arith}
 use lib.ListN.{length}
-use Rattle.items.proofs.Profile.{byte-inside}
+use Rattle.text.proofs.Places.{byte-inside}
 use Rattle.terms.proofs.Comparisons.{test-ends}
 use Rattle.terms.proofs.comparison_at.Statement.{statement}
 use Rattle.terms.proofs.comparison_at.Tie as tie

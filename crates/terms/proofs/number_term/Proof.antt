@@ -14,7 +14,7 @@ number-term-spec =
     (λ c κs. search needs)
     {- returns -}
     (λ c. search number-term-ends)
-    {- kept-value-requires -}
+    {- kept-requires -}
     (λ c κs. search needs)
     {- biased-requires -}
     (λ c κs. search needs)

@@ -10,15 +10,15 @@ operand-at-spec =
     (tie.spec
     {- byte-requires -}
     (λ c κs. search needs)
+    {- cast-is-letter -}
+    (λ c. search needs)
+    {- is-letter-requires -}
+    (λ c κs. search needs)
     {- number-term-requires -}
     (λ c κs. search needs)
     {- returns -}
     (λ c. search operand-ends)
-    {- number-term-requires-2 -}
-    (λ c κs. search needs)
-    {- returns-2 -}
-    (λ c. search operand-ends)
     {- ref-term-requires -}
     (λ c κs. search needs)
-    {- returns-3 -}
+    {- returns-2 -}
     (λ c. search operand-ends))

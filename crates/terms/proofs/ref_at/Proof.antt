@@ -1,8 +1,8 @@
 -- `ref_at`: by its first name and the byte after it.
 use borrow.Author.Needs.{needs}
 use native.Mathlib.Omega.{arith}
-use Rattle.items.proofs.Profile.{byte-inside}
-use Rattle.terms.proofs.Columns.{ref-ends}
+use Rattle.text.proofs.Places.{byte-inside}
+use Rattle.terms.proofs.References.{ref-ends}
 use Rattle.terms.proofs.ref_at.Statement.{statement}
 use Rattle.terms.proofs.ref_at.Tie as tie
 

@@ -10,6 +10,8 @@ name-at-spec =
     (tie.spec
     {- byte-requires -}
     (λ c κs. search needs)
+    {- cast-is-letter -}
+    (λ c. search needs)
     {- is-letter-requires -}
     (λ c κs. search needs)
     {- no-name-requires -}

@@ -7,7 +7,7 @@ use borrow.Author.Tests.{not-true, not-false}
 use Rattle.lists.specs.Lists.{every, count-from}
 use Rattle.ledger.specs.Records.{stream-steady, streams-steady}
 use Rattle.lists.proofs.Counting.{every-past, every-fails, every-done}
-use Rattle.ledger.proofs.Records.{count-le, stream-tested}
+use Rattle.ledger.proofs.Bounds.{count-le, stream-tested}
 use Rattle.ledger.proofs.Ledger.streams_steady.Statement.{statement}
 use Rattle.ledger.proofs.Ledger.streams_steady.Tie as tie
 

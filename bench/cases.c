@@ -1,0 +1,174 @@
+/* The calls at typical and at their worst inputs. On x86: cases N runs case N, whose call alone is inside measured(). On the chip: all cases, one after another. */
+#include "chip.h"
+#ifdef CHIP
+void put(const char *s); void put_u(uint32_t x); void paint(void); uint32_t used(void);
+__attribute__((noinline)) void mark_on(void) { __asm__ volatile("nop"); }
+__attribute__((noinline)) void mark_off(void) { __asm__ volatile("nop"); }
+#else
+#include <stdio.h>
+#include <stdlib.h>
+#endif
+
+enum { LINE = 512, NAMES = 28, PLACES = 512, VALUES = 3072, WORDS = 24 * 95 };
+static uint64_t names[NAMES];
+static uint32_t times[PLACES], words[WORDS];
+static int32_t values[VALUES];
+static struct ledger ledger;
+static struct granted granted;
+static char line[LINE + 1];
+static unsigned size;
+
+static void add(const char *s) { while (*s && size < LINE) line[size++] = *s++; line[size] = 0; }
+static void set(const char *s) { size = 0; add(s); }
+static unsigned count(const char *s) { unsigned n = 0; while (s[n]) n++; return n; }
+/* a head, as many items as fit, and a tail */
+static void fill(const char *head, const char *item, const char *tail) {
+    set(head);
+    while (size + count(item) + count(tail) <= LINE) add(item);
+    add(tail);
+}
+static const uint8_t *text(void) { return (const uint8_t *)line; }
+static void full_record(void) {
+    for (int s = 0; s < 4; s++) ledger.rows[s] = s ? 128 : 127;
+    ledger.clock = 9;
+    for (int i = 0; i < PLACES; i++) times[i] = i % 128 / 16;
+}
+
+static void deep(void) {
+    int k = 0;
+    set("(grant a min (of a) (show *) (when ");
+    while (size + 4 + k + 1 + 9 + 2 <= LINE) { add("(or "); k++; }
+    add("(= a.a 1)");
+    while (k--) add(")");
+    add("))");
+}
+static void tail(void) {
+    set("(grant a min (of a) (show *) (when");
+    while (size + 10 + 37 <= LINE) add(" (= a.a 1)");
+    add(" (or (or (or (or (or (= a.a 1))))))");
+    add("))");
+}
+static void deep_alone(void) {
+    int k = 0;
+    set("");
+    while (size + 4 + k + 1 + 9 <= LINE) { add("(or "); k++; }
+    add("(= a.a 1)");
+    while (k--) add(")");
+}
+static void entries(void) {
+    char item[] = " self.aa";
+    set("(grant a min (of a) (show");
+    for (int i = 0; size + 8 + 2 <= LINE; i++) { item[6] = 'a' + i / 26; item[7] = 'a' + i % 26; add(item); }
+    add("))");
+}
+
+struct sample { const char *label; void (*make)(void); int call; };
+enum { NONE, GRANT, CONDITION, SOUND, SCHEMA, DECLARE, ROW, ROW_LINE, ROWS, CLOCK, CLOCK_LINE, CLEAR_LINE, CALLER };
+static void typical(void) { set("(grant fitter read (of test) (show test.unit test.volts) (when (= test.lot self.lot)))"); }
+static void no_line(void) { set(""); }
+static void wide(void) { fill("(grant a min (of a) (show *) (when", " (= a.a 1)", "))"); }
+static void comb(void) { fill("(grant a min (of a) (show *) (when", " (or (or (or (or (or (= a.a 1))))))", "))"); }
+static void last_name(void) { fill("(grant a min (of ready) (show *) (when", " (= ready.ms ready.ms)", "))"); }
+static void columns(void) { fill("(grant a min (of a) (show", " a.a", "))"); }
+static void last_columns(void) { fill("(grant a min (of ready) (show", " ready.ms", "))"); }
+static void streams(void) { fill("(grant a min (of", " a", ") (show *))"); }
+static void digits(void) { fill("(grant a min (of a) (show *) (from ", "9", "))"); }
+static void stream_line(void) { set("(stream last lot unit volts)"); }
+static void stream_columns(void) { fill("(stream last", " a", ")"); }
+static void row_line(void) { full_record(); set("(row test 7 1 30)"); }
+static void row_values(void) { full_record(); fill("(row test", " 1", ")"); }
+static void row_call(void) { full_record(); }
+static void clock_line(void) { set("(clock 12345)"); }
+static void clock_digits(void) { fill("(clock ", "9", ")"); }
+static void clear_line(void) { set("(clear)"); }
+static void caller_line(void) { set("(caller (roles fitter) (self lot 7))"); }
+static void caller_roles(void) { fill("(caller (roles", " a", "))"); }
+static void caller_entries(void) { fill("(caller (roles)", " (self a 1)", ")"); }
+
+static const struct sample samples[] = {
+    { "nothing", no_line, NONE },
+    { "grant line, typical (86 bytes, one condition)", typical, GRANT },
+    { "grant line, many comparisons", wide, GRANT },
+    { "grant line, combs of `or`", comb, GRANT },
+    { "grant line, comparisons and five nested `or`", tail, GRANT },
+    { "grant line, 102 nested `or` (refused)", deep, GRANT },
+    { "grant line, comparisons of a late column", last_name, GRANT },
+    { "grant line, many columns (refused)", columns, GRANT },
+    { "grant line, many columns of a late stream (refused)", last_columns, GRANT },
+    { "grant line, many entries shown (refused)", entries, GRANT },
+    { "grant line, many streams (refused)", streams, GRANT },
+    { "grant line, a long number (refused)", digits, GRANT },
+    { "a condition, 102 nested `or`", deep_alone, CONDITION },
+    { "Grant::sound, typical", typical, SOUND },
+    { "Grant::sound, many comparisons", wide, SOUND },
+    { "schema::sound, four streams", no_line, SCHEMA },
+    { "stream line", stream_line, DECLARE },
+    { "stream line, many columns (refused)", stream_columns, DECLARE },
+    { "row call, 511 rows", row_call, ROW },
+    { "row line, 511 rows", row_line, ROW_LINE },
+    { "row line, many values (refused)", row_values, ROW_LINE },
+    { "ledger::sound, 511 rows", row_call, ROWS },
+    { "clock call", no_line, CLOCK },
+    { "clock line", clock_line, CLOCK_LINE },
+    { "clock line, a long number (refused)", clock_digits, CLOCK_LINE },
+    { "clear line", clear_line, CLEAR_LINE },
+    { "caller line", caller_line, CALLER },
+    { "caller line, many roles (refused)", caller_roles, CALLER },
+    { "caller line, many entries (refused)", caller_entries, CALLER },
+};
+enum { SAMPLES = sizeof samples / sizeof *samples };
+
+static void declare(const char *s) { set(s); x_declare(names, NAMES, text(), size); }
+static void prepare(int k) {
+    static const struct ledger fresh;
+    for (int i = 0; i < NAMES; i++) names[i] = 0;
+    ledger = fresh;
+    declare("(stream test lot unit volts)");
+    declare("(stream a a)");
+    declare("(stream pack lot label unit crate shift line)");
+    if (samples[k].call != DECLARE) declare("(stream ready lot unit ms)");
+    samples[k].make();
+    if (samples[k].call == SOUND) granted = x_grant(names, NAMES, 0, text(), size, words, WORDS);
+}
+__attribute__((noinline)) uint32_t measured(int call) {
+    static const int32_t three[3] = { 7, 1, 30 };
+    switch (call) {
+    case GRANT: return x_grant(names, NAMES, 23, text(), size, words, WORDS).number;
+    case CONDITION: return x_cond(text(), size, 0, names, NAMES, words, WORDS);
+    case SOUND: return x_sound(granted.grant, names, NAMES, words, 95);
+    case SCHEMA: return x_schema(names, NAMES);
+    case DECLARE: return x_declare(names, NAMES, text(), size);
+    case ROW: return x_row(ledger, names, NAMES, 0, three, 3, times, PLACES, values, VALUES).number;
+    case ROW_LINE: return x_row_line(ledger, names, NAMES, text(), size, times, PLACES, values, VALUES).number;
+    case ROWS: return x_rows(ledger, names, NAMES, times, PLACES, values, VALUES);
+    case CLOCK: return x_clock(ledger, 5).number;
+    case CLOCK_LINE: return x_clock_line(ledger, text(), size).number;
+    case CLEAR_LINE: return x_clear_line(ledger, text(), size).number;
+    case CALLER: return x_caller(text(), size);
+    default: return 0;
+    }
+}
+
+#ifdef CHIP
+int main(void) {
+    for (int k = 0; k < SAMPLES; k++) {
+        prepare(k);
+        paint();
+        mark_on();
+        uint32_t r = measured(samples[k].call);
+        mark_off();
+        uint32_t u = used();
+        put("#"); put_u(k); put("|"); put(samples[k].label); put("|"); put_u(r); put("|"); put_u(u); put("\n");
+    }
+    return 0;
+}
+#else
+int main(int n, char **a) {
+    if (n < 2) { printf("%d\n", SAMPLES); return 0; }
+    int k = atoi(a[1]);
+    prepare(k);
+    uint32_t r = measured(samples[k].call);
+    printf("%s|%u|%u\n", samples[k].label, size, r);
+    return 0;
+}
+#endif

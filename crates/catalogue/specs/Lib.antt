@@ -1,3 +1,0 @@
-pub mod Granting
-pub mod Reading
-pub mod Catalogue

@@ -1,0 +1,14 @@
+pub mod Tests
+pub mod Parts
+pub mod Times
+pub mod Whens
+pub mod Lines
+pub mod Copies
+pub mod Folds
+pub mod Bounds
+pub mod Known
+pub mod Placing
+pub mod Flags
+pub mod Calls
+pub mod Meaning
+pub mod Steps

@@ -1,0 +1,4 @@
+pub mod Clocks
+pub mod Rows
+pub mod Calls
+pub mod RowCalls

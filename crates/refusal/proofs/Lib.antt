@@ -1,0 +1,5 @@
+pub mod Firsts
+pub mod Passing
+pub mod Verdicts
+pub mod Order
+pub mod Passed

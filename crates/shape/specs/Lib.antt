@@ -1,4 +1,0 @@
-pub mod Ends
-pub mod Words
-pub mod Items
-pub mod Firsts

@@ -1,4 +1,0 @@
-pub mod Reading
-pub mod Tests
-pub mod Naming
-pub mod Ends
