@@ -1,4 +1,4 @@
-/* The functions of chip.rt. On the chip a length is 64 bits wide, as the module is made for a 64-bit machine. */
+/* The functions of chip-calls.txt. On the chip a length is 64 bits wide, as the module is made for a 64-bit machine. */
 #include <stdbool.h>
 #include <stdint.h>
 typedef uint64_t len_t;
