@@ -134,7 +134,7 @@ __attribute__((noinline)) uint32_t measured(int call) {
     static const int32_t three[3] = { 7, 1, 30 };
     switch (call) {
     case GRANT: return x_grant(names, NAMES, 23, text(), size, words, WORDS).number;
-    case CONDITION: return x_cond(text(), size, 0, names, NAMES, words, WORDS);
+    case CONDITION: return x_cond(text(), size, 0, names, NAMES, words, WORDS, 7);
     case SOUND: return x_sound(granted.grant, names, NAMES, words, 95);
     case SCHEMA: return x_schema(names, NAMES);
     case DECLARE: return x_declare(names, NAMES, text(), size);

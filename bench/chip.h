@@ -17,4 +17,4 @@ bool x_rows(struct ledger l, const uint64_t *names, len_t n, const uint32_t *tim
 uint32_t x_caller(const uint8_t *line, len_t n);
 struct granted x_grant(const uint64_t *names, len_t n, len_t count, const uint8_t *line, len_t l, uint32_t *words, len_t w);
 bool x_sound(struct grant g, const uint64_t *names, len_t n, const uint32_t *words, len_t w);
-bool x_cond(const uint8_t *line, len_t l, len_t at, const uint64_t *names, len_t n, uint32_t *words, len_t w);
+bool x_cond(const uint8_t *line, len_t l, len_t at, const uint64_t *names, len_t n, uint32_t *words, len_t w, uint32_t level);

@@ -5,5 +5,6 @@ pub mod Order
 pub mod Accepted
 pub mod Steps
 pub mod Valid
+pub mod Widths
 pub mod Stored
 pub mod Interference

@@ -95,7 +95,7 @@ open-any d p q (all-cons {x = g} {xs = gs} s ss) h =
     (search parts)) (search parts))
     (open-any d p q ss (search parts))
 
-pub side-free : (q : Query ℕ) → T (side q) → T (no-aggregate q)
+pub side-free : {S : Type 0} (q : Query S) → T (side q) → T (no-aggregate q)
 unfolding side no-aggregate
 side-free (source s) w = tt
 side-free (pick c q) w = side-free q w

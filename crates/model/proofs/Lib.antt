@@ -13,7 +13,10 @@ pub mod Keeps
 pub mod Widths
 pub mod Rowwise
 pub mod OneRow
+pub mod Tables
 pub mod Forms
+pub mod Flat
+pub mod Ground
 pub mod Questions
 pub mod RouteKinds
 pub mod Found

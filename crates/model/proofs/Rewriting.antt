@@ -10,7 +10,7 @@ use Rattle.lists.proofs.Laws.{and-both, or-cases, parts, All, all-any, select-a
 use Rattle.syntax.specs.Grammar.{Op, eq, ne, lt, le, gt, ge, Fn, Cond, test, all, any, neg, Entry}
 use Rattle.model.specs.Conditions.{true-of, all-true, conds-of, map-cond}
 use Rattle.model.specs.Queries.{Col, columns-of, Term, column, time, number, self, Compare, Query, source, pick, keep, join, aggregate, sources, picks, Grant, Caller, Row, Table, Record}
-use Rattle.model.specs.Meaning.{value, term-value, compares, compare-holds, holds, picked, kept, pairs, equality, aggregated, meaning, plain}
+use Rattle.model.specs.Meaning.{value, term-value, compares, compare-holds, holds, picked, kept, pairs, equality, aggregated, meaning, table-of, plain}
 use Rattle.model.specs.Grants.{fill-term, fill-compare, fill, limits, whole, limited, shown-of, view}
 use Rattle.model.specs.Checks.{side, allowed, sized}
 use Rattle.model.specs.Routes.{is-eq, is-col, is-equality, equated, covers, bare, Source, Route, Numbered, picked-by, seen, single, keeping, over-view, readable, summing, summed, routes}
@@ -30,6 +30,22 @@ module _ {A : Type 0} (p : A → Bool) where
   unfolding true-of conds-of every
   all-every c [] = and-true (true-of p c)
   all-every c (d ∷ cs) = ap (λ b. true-of p c && b) (all-every d cs)
+
+pub limited-none : (t : Table) → limited [] t ≡ t
+unfolding limited every
+limited-none t = λ i. record { cols = t .cols; rows = select-all (λ r. true) (λ r. tt) (t .rows) i }
+
+pub limited-all : (c : Cond Compare) (cs : List (Cond Compare)) (t : Table) → picked (all (conds-of c cs)) t ≡ limited (c ∷ cs) t
+unfolding picked limited
+limited-all c cs t = λ i. record { cols = t .cols; rows = select (same i) (t .rows) }
+  where
+    same : _≡_ {A = Row → Bool} (λ r. holds (t .cols) r (all (conds-of c cs))) (λ r. every (holds (t .cols) r) (c ∷ cs))
+    same = fun-ext (λ r. unfold holds true-of every in all-every (compare-holds (t .cols) r) c cs)
+
+pub limited-under : (k : ℕ) (tab : ℕ → Table) (cs : List (Cond Compare)) (q : Query ℕ) → meaning k tab (under cs q) ≡ limited cs (meaning k tab q)
+unfolding under meaning
+limited-under k tab [] q = sym (limited-none (meaning k tab q))
+limited-under k tab (c ∷ cs) q = limited-all c cs (meaning k tab q)
 
 -- ---- a condition of the grant that is the query's equality
 
@@ -75,9 +91,9 @@ module _ (p : List Entry) (ds : List Col) (r : Row) where
       (λ u. eq-holds a b c u (search parts))
       (λ u. some-holds a b ws more u (search parts))
 
--- ---- a side is one stream
+-- ---- a side is one source
 
-unfoldable pub stream : Query ℕ → ℕ
+unfoldable pub stream : {S : Type 0} → Query S → S
 stream (source s) = s
 stream (pick c q) = stream q
 stream (keep cs q) = stream q
@@ -92,7 +108,7 @@ side-bare (keep cs q) h = side-bare q h
 side-bare (join a b q r) h = absurd h
 side-bare (aggregate f c size offset q) h = absurd h
 
-pub side-sources : (q : Query ℕ) → T (side q) → sources q ≡ stream q ∷ []
+pub side-sources : {S : Type 0} (q : Query S) → T (side q) → sources q ≡ stream q ∷ []
 unfolding side sources stream
 side-sources (source s) h = refl
 side-sources (pick c q) h = side-sources q h
@@ -103,14 +119,6 @@ side-sources (aggregate f c size offset q) h = absurd h
 -- ---- a view is what its line defines
 
 module _ (x : Record) (who : Caller) where
-  limited-meaning : (cs : List (Cond Compare)) (q : Query ℕ) → plain x (under cs q) ≡ limited cs (plain x q)
-  unfolding plain under meaning picked limited
-  limited-meaning [] q = λ i. record { cols = (plain x q) .cols; rows = sym (select-all (λ r. every (holds ((plain x q) .cols) r) []) (λ r. unfold every in tt) ((plain x q) .rows)) i }
-  limited-meaning (c ∷ cs) q = λ i. record { cols = (plain x q) .cols; rows = select (same i) ((plain x q) .rows) }
-    where
-      same : _≡_ {A = Row → Bool} (λ r. holds ((plain x q) .cols) r (all (conds-of c cs))) (λ r. every (holds ((plain x q) .cols) r) (c ∷ cs))
-      same = fun-ext (λ r. unfold holds true-of every in all-every (compare-holds ((plain x q) .cols) r) c cs)
-
   -- the equality asked first changes nothing under the grant's conditions
   absorbed : (g : Grant) (a b : Col) (t : Table) → T (some? (is-equality a b) (g .when)) → limited (limits who g) (picked (equality a b) t) ≡ limited (limits who g) t
   unfolding limited picked limits
@@ -144,7 +152,7 @@ module _ (x : Record) (who : Caller) where
   same-seen : (q : Query ℕ) (n : Numbered) → T (allowed (columns-of (x .schema)) q) → T (covers q (n .grant)) → Same (seen q n)
   unfolding plain seen expand defined meaning view
   same-seen q n w h =
-      ap (kept (shown-of (x .schema) (n .grant))) (limited-meaning (limits who (n .grant)) (bare q) ∙ whole-plain (n .grant) q w h)
+      ap (kept (shown-of (x .schema) (n .grant))) (limited-under (x .clock) (table-of x) (limits who (n .grant)) (bare q) ∙ whole-plain (n .grant) q w h)
 
   same-pick : (c : Cond Compare) (q : Query Source) → Same q → Same (pick c q)
   unfolding plain expand meaning

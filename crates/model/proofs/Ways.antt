@@ -30,7 +30,7 @@ header-picks hs [] q = refl
 header-picks hs (p ∷ ps) q = header-picks hs ps q
 
 -- a side's picks are such as may stand in a query
-pub side-pickable : (hs : ℕ → List Col) (q : Query ℕ) → T (side q) → T (allowed hs q) → T (every pickable (picks q))
+pub side-pickable : {S : Type 0} (hs : S → List Col) (q : Query S) → T (side q) → T (allowed hs q) → T (every pickable (picks q))
 unfolding side allowed picks every
 side-pickable hs (source s) w h = tt
 side-pickable hs (pick c q) w h = and-both (pickable c) (every pickable (picks q)) (search parts) (side-pickable hs q w (search parts))

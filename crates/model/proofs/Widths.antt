@@ -25,7 +25,7 @@ kept-wide : (cs : List Col) (t : Table) → Wide (kept cs t)
 unfolding kept kept-row
 kept-wide cs t = all-map {P = λ r. Unit {0}} (kept-row (t .cols) cs) (λ r h. length-map cs (value (t .cols) (r .values))) (all-any (t .rows))
 
-pairs-wide : (t u : Table) → Wide t → Wide u → Wide (pairs t u)
+pub pairs-wide : (t u : Table) → Wide t → Wide u → Wide (pairs t u)
 unfolding pairs both
 pairs-wide t u h k =
     all-gather {P = λ x. length (x .values) ≡ length (t .cols)}
