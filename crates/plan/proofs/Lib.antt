@@ -1,0 +1,5 @@
+pub mod Steps
+pub mod Limits
+pub mod Tables
+pub mod Headers
+pub mod Meaning

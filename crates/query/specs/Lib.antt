@@ -1,0 +1,3 @@
+pub mod Forms
+pub mod Tables
+pub mod Shapes

@@ -1,0 +1,6 @@
+pub mod Turns
+pub mod Shown
+pub mod SideBySide
+pub mod OnPair
+pub mod OneStream
+pub mod Granting

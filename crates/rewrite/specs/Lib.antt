@@ -1,0 +1,3 @@
+pub mod Rewrites
+pub mod Parts
+pub mod Routed

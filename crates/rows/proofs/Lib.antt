@@ -1,0 +1,4 @@
+pub mod Masks
+pub mod Bits
+pub mod Words
+pub mod Loops

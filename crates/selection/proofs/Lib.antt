@@ -1,0 +1,8 @@
+pub mod Cells
+pub mod Comparing
+pub mod Sides
+pub mod Relating
+pub mod Evaluating
+pub mod Views
+pub mod Limits
+pub mod Shown

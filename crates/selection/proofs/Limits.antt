@@ -1,0 +1,268 @@
+-- Rows within a first and a last time, and whether memory is lent for a scope.
+use mathlib.Core.Path.{_≡_, refl, sym, ap, ap₂, _∙_}
+use mathlib.Core.List.{List, [], _∷_, _++_, map}
+use mathlib.Core.Bool.{Bool, true, false, _&&_, _||_, not, cond}
+use mathlib.Core.Option.{Option, none, some}
+use Prim.Native.Nat.{ℕ, zero, suc, _+_, _*_, _-_, _<_, _≤_, min, max}
+use native.Mathlib.Decide.{decLt}
+use native.Mathlib.Omega.{arith}
+use lib.IntN.{ℤ, pos}
+use lib.Dec.{T, leb, ltb, eqb, leb→le, ltb→lt}
+use lib.ListN.{length, getD}
+use mir.Syntax.{w32}
+use mir.Val.{Fits}
+use borrow.Author.Tests.{ne-eqb, le-leb, lt-leb, lt-ltb, le-ltb, ltb-false, not-true, not-false}
+use Rattle.lists.specs.Lists.{every}
+use Rattle.lists.proofs.Laws.{true-T, and-l, and-r, parts}
+use Rattle.syntax.specs.Grammar.{Cond, ge, le}
+use Rattle.syntax.specs.Limits.{max-streams, max-rows, top}
+use Rattle.model.specs.Queries.{Col, Row, Compare}
+use Rattle.model.specs.Conditions.{true-of}
+use Rattle.model.specs.Meaning.{term-value, compares, compare-holds, holds}
+use Rattle.model.specs.Grants.{limit}
+use Rattle.ledger.specs.Records.{places-size, values-size}
+use Rattle.grant.specs.Grants.{no-time, limit-of}
+use Rattle.rows.specs.declared.Rows.{Rows}
+use Rattle.rows.specs.Masks.{one, rows-of, no-rows}
+use Rattle.rows.proofs.Masks.{rows-alike, rows-none, rows-shift}
+use Rattle.selection.specs.declared.Scope.{Scope}
+use Rattle.selection.specs.Scopes.{times-fit, scope-fits, scope-columns, scope-row, meets, time-limits, timely}
+use Rattle.selection.specs.Evaluating.{left-time, time-at, Lent, in-span, timed, past, low-of, high-of}
+use Rattle.selection.proofs.Sides.{row-time}
+
+-- ---- memory
+
+module _ (sc : Scope) (ts : List ℕ) where
+  pub fit-stream : max-streams ≤ sc .stream → false ≡ times-fit sc ts
+  unfolding times-fit
+  fit-stream h = rw (le-ltb (sc .stream) max-streams h)
+
+  pub fit-rows : sc .stream < max-streams → 128 < sc .rows → false ≡ times-fit sc ts
+  unfolding times-fit
+  fit-rows h k = rw (lt-ltb (sc .stream) max-streams (omega arith), lt-leb (sc .rows) max-rows k)
+
+  pub fit-times : sc .stream < max-streams → sc .rows ≤ 128 → leb 512 (length ts) ≡ times-fit sc ts
+  unfolding times-fit
+  fit-times h k = rw (lt-ltb (sc .stream) max-streams (omega arith), le-leb (sc .rows) max-rows k)
+
+  module _ (vs : List ℤ) {b : Bool} (e : b ≡ times-fit sc ts) where
+    pub fit-none : not b ≡ true → false ≡ scope-fits sc ts vs
+    unfolding scope-fits
+    fit-none h = rw (sym e ∙ not-true b h)
+
+    pub fit-values : not b ≡ false → leb 3072 (length vs) ≡ scope-fits sc ts vs
+    unfolding scope-fits
+    fit-values h = rw (sym e ∙ not-false b h)
+
+  pub times-parts : times-fit sc ts ≡ true → (sc .stream < max-streams) × (sc .rows ≤ max-rows) × (places-size ≤ length ts)
+  unfolding times-fit
+  times-parts e =
+      let t = true-T (ltb (sc .stream) max-streams && leb (sc .rows) max-rows && leb places-size (length ts)) e in
+      (ltb→lt (sc .stream) max-streams (search parts), leb→le (sc .rows) max-rows (search parts), leb→le places-size (length ts) (search parts))
+
+  pub fits-lent : (vs : List ℤ) {b : Bool} → b ≡ scope-fits sc ts vs → not b ≡ false → Lent sc ts vs
+  unfolding scope-fits
+  fits-lent vs {b} e h =
+      let t = true-T (times-fit sc ts && leb values-size (length vs)) (sym e ∙ not-false b h) in
+      let p = times-parts (and-first (times-fit sc ts) (leb values-size (length vs)) (sym e ∙ not-false b h)) in
+      record { stream = p .0; rows = p .1; times = p .2; values = leb→le values-size (length vs) (search parts) }
+    where
+      and-first : (a b : Bool) → (a && b) ≡ true → a ≡ true
+      and-first true b e = refl
+      and-first false b e = e
+
+module _ (sc : Scope) (ts : List ℕ) {b : Bool} (e : b ≡ times-fit sc ts) (h : not b ≡ false) where
+  pub fit-places : places-size ≤ length ts
+  fit-places = times-parts sc ts (sym e ∙ not-false b h) .2
+
+  pub fit-start : Fits w32 (sc .stream * 128)
+  fit-start = let p = times-parts sc ts (sym e ∙ not-false b h) .0 in record { fits = omega arith }
+
+  pub fit-low : sc .stream * 128 ≤ 384
+  fit-low = let p = times-parts sc ts (sym e ∙ not-false b h) .0 in omega arith
+
+  pub fit-room : sc .rows ≤ length ts - sc .stream * 128
+  fit-room = let p = times-parts sc ts (sym e ∙ not-false b h) in let q = p .0 in let r = p .1 in let s = p .2 in omega arith
+
+pub ruleset fit-rooms = (fit-places, fit-start, fit-low, fit-room)
+
+pub ruleset fit-ends = (fit-stream, fit-rows, fit-times, fit-none, fit-values)
+
+-- ---- one time
+
+module _ (t low high : ℕ) where
+  pub time-early : t < low → 0 ≡ one (in-span low high t)
+  unfolding in-span
+  time-early h = rw (lt-leb low t h)
+
+  pub time-late : low ≤ t → high < t → t < 4294967296 → 0 ≡ one (in-span low high t)
+  unfolding in-span
+  time-late h k l = rw (le-leb low t h, ne-eqb high 4294967295 (λ z. omega arith), lt-leb t high k)
+
+  pub time-within : low ≤ t → t ≤ high → 1 ≡ one (in-span low high t)
+  unfolding in-span
+  time-within h k = rw (le-leb low t h, le-leb t high k) (ap one (sym (or-true (eqb high 4294967295))))
+    where
+      or-true : (b : Bool) → (b || true) ≡ true
+      or-true true = refl
+      or-true false = refl
+
+pub time-read : (ts : List ℕ) (low high at : ℕ) {b t : ℕ} → t ≡ getD ts at 0 → b ≡ one (in-span low high t) → b ≡ one (timed ts low high at)
+unfolding timed
+time-read ts low high at e f = f ∙ ap (λ (x : ℕ). one (in-span low high x)) e
+
+pub ruleset time-ends = (time-early, time-late, time-within)
+
+pub ruleset time-reads = (time-read)
+
+module _ (from left : ℕ) where
+  pub low-open : top < from → 0 ≡ low-of from left
+  unfolding low-of
+  low-open h = rw (lt-leb from top h)
+
+  pub low-met : from ≤ top → from ≤ left → 0 ≡ low-of from left
+  unfolding low-of
+  low-met h k = rw (le-leb from top h, le-leb from left k)
+
+  pub low-some : from ≤ top → left < from → from ≡ low-of from left
+  unfolding low-of
+  low-some h k = rw (le-leb from top h, lt-leb from left k)
+
+pub high-some : (n : ℕ) → n < top → n ≡ high-of n
+unfolding high-of
+high-some n h = rw (lt-ltb n top h)
+
+pub high-none : (n : ℕ) → top ≤ n → 4294967295 ≡ high-of n
+unfolding high-of
+high-none n h = rw (le-ltb n top h)
+
+pub ruleset limit-ends = (low-open, low-met, low-some, high-some, high-none)
+
+-- ---- the conditions of a first and a last time
+
+and-true : (b : Bool) → (b && true) ≡ b
+and-true true = refl
+and-true false = refl
+
+module _ (ds : List Col) (r : Row) (n : ℕ) where
+  first-limit : every (holds ds r) (limit ge (limit-of n)) ≡ cond (leb n top) (leb n (r .at)) true
+  unfolding limit limit-of every holds true-of compare-holds compares term-value
+  first-limit = go (leb n top)
+    where
+      go : (b : Bool) → every (holds ds r) (limit ge (cond b (some n) none)) ≡ cond b (leb n (r .at)) true
+      go true = and-true (leb n (r .at))
+      go false = refl
+
+  last-limit : every (holds ds r) (limit le (limit-of n)) ≡ cond (leb n top) (leb (r .at) n) true
+  unfolding limit limit-of every holds true-of compare-holds compares term-value
+  last-limit = go (leb n top)
+    where
+      go : (b : Bool) → every (holds ds r) (limit le (cond b (some n) none)) ≡ cond b (leb (r .at) n) true
+      go true = and-true (leb (r .at) n)
+      go false = refl
+
+pub every-join : {A : Type 0} (p : A → Bool) (xs ys : List A) → every p (xs ++ ys) ≡ (every p xs && every p ys)
+unfolding every
+every-join p [] ys = refl
+every-join p (x ∷ xs) ys = ap (λ b. p x && b) (every-join p xs ys) ∙ and-assoc (p x) (every p xs) (every p ys)
+  where
+    and-assoc : (a b c : Bool) → (a && (b && c)) ≡ ((a && b) && c)
+    and-assoc true b c = refl
+    and-assoc false b c = refl
+
+-- what they ask of a time
+unfoldable pub in-limits : ℕ → ℕ → ℕ → Bool
+in-limits from to t = cond (leb from top) (leb from t) true && cond (leb to top) (leb t to) true
+
+pub limits-ask : (ds : List Col) (r : Row) (from to : ℕ) → every (holds ds r) (time-limits from to) ≡ in-limits from to (r .at)
+unfolding time-limits in-limits
+limits-ask ds r from to = every-join (holds ds r) (limit ge (limit-of from)) (limit le (limit-of to)) ∙ ap₂ _&&_ (first-limit ds r from) (last-limit ds r to)
+
+-- the time of a row beside the left one
+module _ (from to left t : ℕ) where
+  first-met : cond (leb from top) (leb from (min (max left t) top)) true ≡ leb (low-of from left) t
+  unfolding low-of
+  first-met = go (decLt top from) (decLt left from) (decLt t from)
+    where
+      go : Dec (top < from) → Dec (left < from) → Dec (t < from) → cond (leb from top) (leb from (min (max left t) top)) true ≡ leb (cond (leb from top) (cond (leb from left) 0 from) 0) t
+      go (yes a) b c = rw (lt-leb from top a) (sym (le-leb 0 t (omega arith)))
+      go (no a) (yes b) (yes c) = rw (le-leb from top (omega arith), lt-leb from left b, lt-leb from t c) (lt-leb from (min (max left t) top) (omega arith))
+      go (no a) (yes b) (no c) = rw (le-leb from top (omega arith), lt-leb from left b, le-leb from t (omega arith)) (le-leb from (min (max left t) top) (omega arith))
+      go (no a) (no b) c = rw (le-leb from top (omega arith), le-leb from left (omega arith), le-leb 0 t (omega arith)) (le-leb from (min (max left t) top) (omega arith))
+
+  last-met : past to left ≡ false → cond (leb to top) (leb (min (max left t) top) to) true ≡ (eqb (high-of to) no-time || leb t (high-of to))
+  unfolding high-of past
+  last-met h = go (decLt to top) (decLt top to) (decLt to t)
+    where
+      go : Dec (to < top) → Dec (top < to) → Dec (to < t) → cond (leb to top) (leb (min (max left t) top) to) true ≡ (eqb (cond (ltb to top) to no-time) no-time || leb t (cond (ltb to top) to no-time))
+      go (yes a) b (yes c) = rw (le-leb to top (omega arith), lt-ltb to top a, ne-eqb to no-time (λ z. omega arith), lt-leb t to c) (lt-leb (min (max left t) top) to (omega arith))
+      go (yes a) b (no c) = let g : left ≤ to = ltb-false to left (rw (lt-ltb to top a) at h) in rw (le-leb to top (omega arith), lt-ltb to top a, ne-eqb to no-time (λ z. omega arith), le-leb t to (omega arith)) (le-leb (min (max left t) top) to (omega arith))
+      go (no a) (yes b) c = rw (lt-leb to top b, le-ltb to top (omega arith))
+      go (no a) (no b) c = rw (le-leb to top (omega arith), le-ltb to top (omega arith)) (le-leb (min (max left t) top) to (omega arith))
+
+  never-met : past to left ≡ true → cond (leb to top) (leb (min (max left t) top) to) true ≡ false
+  unfolding past
+  never-met h =
+      let u = true-T (ltb to top && ltb to left) h in
+      let a = ltb→lt to top (and-l (ltb to top) (ltb to left) u) in
+      let b = ltb→lt to left (and-r (ltb to top) (ltb to left) u) in
+      rw (le-leb to top (omega arith)) (lt-leb (min (max left t) top) to (omega arith))
+
+module _ (to left : ℕ) where
+  pub late-never : top ≤ to → false ≡ past to left
+  unfolding past
+  late-never h = rw (le-ltb to top h)
+
+  pub late-some : to < top → ltb to left ≡ past to left
+  unfolding past
+  late-some h = rw (lt-ltb to top h)
+
+pub ruleset late-ends = (late-never, late-some)
+
+and-none : (a : Bool) → (a && false) ≡ false
+and-none true = refl
+and-none false = refl
+
+-- ---- the rows of a scope
+
+module _ (sc : Scope) (ts : List ℕ) (from to : ℕ) where
+  row-ask : (vs : List ℤ) (i : ℕ) → meets sc ts vs (time-limits from to) i ≡ in-limits from to (time-at sc ts i)
+  unfolding meets
+  row-ask vs i = limits-ask (scope-columns sc) (scope-row sc ts vs i) from to ∙ ap (in-limits from to) (row-time sc vs ts i)
+
+  -- whatever the values are
+  pub limits-any : (us vs : List ℤ) (i : ℕ) → meets sc ts us (time-limits from to) i ≡ meets sc ts vs (time-limits from to) i
+  limits-any us vs i = row-ask us i ∙ sym (row-ask vs i)
+
+  module _ {b : Bool} (e : b ≡ times-fit sc ts) where
+    pub within-short : {x : Rows} → not b ≡ true → x ≡ no-rows → x ≡ timely sc ts from to
+    unfolding timely
+    within-short h f = rw (sym e ∙ not-true b h) f
+
+    module _ {left : ℕ} {d : Bool} (el : left ≡ left-time sc ts) (ed : d ≡ past to left) (h : not b ≡ false) where
+      late-is : (v : Bool) → d ≡ v → past to (left-time sc ts) ≡ v
+      late-is v f = ap (past to) (sym el) ∙ sym ed ∙ f
+
+      pub within-none : {x : Rows} → d ≡ true → x ≡ no-rows → x ≡ timely sc ts from to
+      unfolding timely in-limits time-at
+      within-none {x} l f =
+          rw (sym e ∙ not-false b h)
+          (f ∙ rows-none 0 (sc .rows) ∙ rows-alike (λ i. false) (meets sc ts [] (time-limits from to)) 0 (sc .rows) (λ i c d. sym (row-ask [] i ∙ late i)))
+        where
+          late : (i : ℕ) → in-limits from to (min (max (left-time sc ts) (getD ts (sc .stream * max-rows + i) 0)) top) ≡ false
+          late i =
+              ap (λ c. cond (leb from top) (leb from (min (max (left-time sc ts) (getD ts (sc .stream * max-rows + i) 0)) top)) true && c) (never-met from to (left-time sc ts) (getD ts (sc .stream * max-rows + i) 0) (late-is true l))
+              ∙ and-none (cond (leb from top) (leb from (min (max (left-time sc ts) (getD ts (sc .stream * max-rows + i) 0)) top)) true)
+
+      pub within-some : {low high : ℕ} {x : Rows} → d ≡ false → low ≡ low-of from left → high ≡ high-of to → x ≡ rows-of (timed ts low high) (sc .stream * 128) (sc .rows) → x ≡ timely sc ts from to
+      unfolding timely timed in-span in-limits time-at
+      within-some {low} {high} {x} l g eh f =
+          rw (sym e ∙ not-false b h)
+          (f ∙ sym (rows-shift (meets sc ts [] (time-limits from to)) (timed ts low high) (sc .stream * 128) (sc .rows) (λ i. row-ask [] i ∙ near i)))
+        where
+          near : (i : ℕ) → in-limits from to (min (max (left-time sc ts) (getD ts (sc .stream * max-rows + i) 0)) top) ≡ timed ts low high (sc .stream * 128 + i)
+          near i =
+              let t = getD ts (sc .stream * max-rows + i) 0 in
+              ap₂ _&&_ (first-met from to (left-time sc ts) t ∙ ap (λ (k : ℕ). leb k t) (ap (low-of from) (sym el) ∙ sym g)) (last-met from to (left-time sc ts) t (late-is false l) ∙ ap (λ (k : ℕ). eqb k no-time || leb t k) (sym eh))
+
+pub ruleset within-ends = (within-short, within-none, within-some)

@@ -1,0 +1,785 @@
+// The rows that conditions select, for all rows of a stream at once.
+ghost use mathlib.Core.Path.{_≡_};
+ghost use mathlib.Core.List.{[], _∷_, map};
+ghost use Prim.Native.Nat.{_≤_, _<_, _+_, _*_, _-_, _/_, _%_, min, max};
+ghost use lib.Dec.{T};
+ghost use lib.IntN.{pos};
+ghost use lib.ListN.{length, getD};
+ghost use lib.Signed.{ltZ};
+ghost use Rattle.syntax.specs.Grammar.{test};
+ghost use Rattle.syntax.specs.Limits.{max-streams, max-columns, max-rows, top};
+ghost use Rattle.model.specs.Queries.{column, col};
+ghost use Rattle.model.specs.Grants.{entry-value, fill-term, fill};
+ghost use Rattle.text.specs.Words.{name-of};
+ghost use Rattle.ledger.specs.Records.{places-size, values-size};
+ghost use Rattle.terms.specs.Terms.{number-code};
+ghost use Rattle.nodes.specs.Nodes.{unbiased, coded-term, node-of, node-at, node-compare, link, conditions-of};
+ghost use Rattle.rows.specs.Masks.{one, bits, rows-of};
+ghost use Rattle.selection.specs.Scopes.{times-fit, scope-fits, profile-in, cond-at, selected, selected-all, timely};
+ghost use Rattle.selection.specs.Evaluating.{sameZ, agree, precede, relate, strip, Strip, side-at, column-end, Room, left-time, Clock, side-value, Stands, Lent, left-named, wide, narrow, Taken, Leads, passing, list-passing, list-at, start-of, joined-of, in-span, timed, past, low-of, high-of};
+use grant::Grant;
+use ledger::Ledger;
+use nodes::Node;
+use rows::Rows;
+use terms::Term;
+use text::Time;
+
+// The rows that are asked about: those of a stream, by the numbers of its columns and rows. Where `fixed` is one of the lent places, each stands beside
+// the row there, which is one of the stream `other` and has `breadth` columns.
+pub struct Scope {
+    pub stream: u32,
+    pub width: u32,
+    pub rows: u32,
+    pub fixed: u32,
+    pub other: u32,
+    pub breadth: u32,
+}
+
+impl Scope {
+    // No left row.
+    pub const NONE: u32 = 4294967295;
+
+    // Streams, columns of a stream, rows of a stream, and places for rows.
+    const STREAMS: u32 = 4;
+
+    const COLUMNS: u32 = 6;
+
+    const ROWS: u32 = 128;
+
+    const PLACES: u32 = 512;
+}
+
+// A side of a comparison: a column that begins at a place of the values, the time, or a value.
+struct Side {
+    kind: u32,
+    at: u32,
+    value: i32,
+}
+
+impl Side {
+    const VALUE: u32 = 0;
+
+    const COLUMN: u32 = 1;
+
+    const TIME: u32 = 2;
+}
+
+struct Cell {
+    v: i32,
+}
+
+// ---- numbers at steps through a list, two for each row
+
+fn value_at(a: &[i32], i: u32) -> Cell
+    requires { ⌜ i < length (now a) ⌝ }
+    ensures { λ r. ⌜ r .v ≡ getD (now (a .entry)) i (pos 0) ⌝ }
+{
+    Cell { v: a[i as usize] }
+}
+
+// Whether two numbers are the same, as a bit.
+fn same_bit(a: &[i32], i: u32, b: &[i32], j: u32) -> u32
+    requires { ⌜ (i < length (now a)) × (j < length (now b)) ⌝ }
+    ensures { λ r. ⌜ r ≡ one (sameZ (getD (now (a .entry)) i (pos 0)) (getD (now (b .entry)) j (pos 0))) ⌝ }
+{
+    let x = value_at(a, i);
+    let y = value_at(b, j);
+    if x.v == y.v {
+        return 1;
+    }
+    0
+}
+
+// Whether one number is below another, as a bit.
+fn less_bit(a: &[i32], i: u32, b: &[i32], j: u32) -> u32
+    requires { ⌜ (i < length (now a)) × (j < length (now b)) ⌝ }
+    ensures { λ r. ⌜ r ≡ one (ltZ (getD (now (a .entry)) i (pos 0)) (getD (now (b .entry)) j (pos 0))) ⌝ }
+{
+    let x = value_at(a, i);
+    let y = value_at(b, j);
+    if x.v < y.v {
+        return 1;
+    }
+    0
+}
+
+// Of at most 32 rows from one on, those with the same numbers.
+fn same_word(a: &[i32], p: u32, s: u32, b: &[i32], q: u32, t: u32, from: u32, n: u32) -> u32
+    requires { ⌜ (n ≤ 32) × (from ≤ 96) × Strip (now a) p s from n × Strip (now b) q t from n ⌝ }
+    ensures { λ x. ⌜ x ≡ bits (agree (strip (now (a .entry)) p s) (strip (now (b .entry)) q t)) from n ⌝ }
+{
+    let mut m: u32 = 0;
+    let mut i = n;
+    while 0 < i {
+        i -= 1;
+        m = m * 2 + same_bit(a, p + (from + i) * s, b, q + (from + i) * t);
+    }
+    m
+}
+
+// Of at most 32 rows from one on, those with the first number below the second.
+fn less_word(a: &[i32], p: u32, s: u32, b: &[i32], q: u32, t: u32, from: u32, n: u32) -> u32
+    requires { ⌜ (n ≤ 32) × (from ≤ 96) × Strip (now a) p s from n × Strip (now b) q t from n ⌝ }
+    ensures { λ x. ⌜ x ≡ bits (precede (strip (now (a .entry)) p s) (strip (now (b .entry)) q t)) from n ⌝ }
+{
+    let mut m: u32 = 0;
+    let mut i = n;
+    while 0 < i {
+        i -= 1;
+        m = m * 2 + less_bit(a, p + (from + i) * s, b, q + (from + i) * t);
+    }
+    m
+}
+
+// Of at most 128 rows, those with the same numbers.
+fn same_rows(a: &[i32], p: u32, s: u32, b: &[i32], q: u32, t: u32, n: u32) -> Rows
+    requires { ⌜ Strip (now a) p s 0 n × Strip (now b) q t 0 n ⌝ }
+    ensures { λ x. ⌜ x ≡ rows-of (agree (strip (now (a .entry)) p s) (strip (now (b .entry)) q t)) 0 n ⌝ }
+{
+    Rows {
+        a: same_word(a, p, s, b, q, t, 0, rows::part(n, 0)),
+        b: same_word(a, p, s, b, q, t, 32, rows::part(n, 32)),
+        c: same_word(a, p, s, b, q, t, 64, rows::part(n, 64)),
+        d: same_word(a, p, s, b, q, t, 96, rows::part(n, 96)),
+    }
+}
+
+// Of at most 128 rows, those with the first number below the second.
+fn less_rows(a: &[i32], p: u32, s: u32, b: &[i32], q: u32, t: u32, n: u32) -> Rows
+    requires { ⌜ Strip (now a) p s 0 n × Strip (now b) q t 0 n ⌝ }
+    ensures { λ x. ⌜ x ≡ rows-of (precede (strip (now (a .entry)) p s) (strip (now (b .entry)) q t)) 0 n ⌝ }
+{
+    Rows {
+        a: less_word(a, p, s, b, q, t, 0, rows::part(n, 0)),
+        b: less_word(a, p, s, b, q, t, 32, rows::part(n, 32)),
+        c: less_word(a, p, s, b, q, t, 64, rows::part(n, 64)),
+        d: less_word(a, p, s, b, q, t, 96, rows::part(n, 96)),
+    }
+}
+
+// Of at most 128 rows, those where the two numbers compare so; 1 to 5 are `=` `/=` `<` `<=` `>`, any other is `>=`.
+fn related(head: u32, a: &[i32], p: u32, s: u32, b: &[i32], q: u32, t: u32, n: u32) -> Rows
+    requires { ⌜ Strip (now a) p s 0 n × Strip (now b) q t 0 n ⌝ }
+    ensures { λ x. ⌜ x ≡ rows-of (relate head (strip (now (a .entry)) p s) (strip (now (b .entry)) q t)) 0 n ⌝ }
+{
+    if head == 1 {
+        return same_rows(a, p, s, b, q, t, n);
+    }
+    if head == 2 {
+        return Rows::first(n).flip(same_rows(a, p, s, b, q, t, n));
+    }
+    if head == 3 {
+        return less_rows(a, p, s, b, q, t, n);
+    }
+    if head == 4 {
+        return Rows::first(n).flip(less_rows(b, q, t, a, p, s, n));
+    }
+    if head == 5 {
+        return less_rows(b, q, t, a, p, s, n);
+    }
+    Rows::first(n).flip(less_rows(a, p, s, b, q, t, n))
+}
+
+// ---- two sides compared
+
+// A side's value as a list of one.
+fn single(x: Side) -> [i32; 1]
+    ensures { λ r. ⌜ r ≡ x .value ∷ [] ⌝ }
+{
+    [x.value]
+}
+
+// Of at most 128 rows, those where the numbers of a list compare so with a side.
+fn against(
+    head: u32,
+    a: &[i32],
+    p: u32,
+    s: u32,
+    r: Side,
+    clock: &[i32],
+    values: &[i32],
+    n: u32,
+) -> Rows
+    requires { ⌜ Strip (now a) p s 0 n × Room r n (now clock) (now values) ⌝ }
+    ensures { λ x. ⌜ x ≡ rows-of (relate head (strip (now (a .entry)) p s) (side-at r (now (clock .entry)) (now (values .entry)))) 0 n ⌝ }
+{
+    if r.kind == Side::COLUMN {
+        return related(head, a, p, s, values, r.at, Scope::COLUMNS, n);
+    }
+    if r.kind == Side::TIME {
+        return related(head, a, p, s, clock, 0, 1, n);
+    }
+    let b = single(r);
+    related(head, a, p, s, &b, 0, 0, n)
+}
+
+// Of at most 128 rows, those where two sides compare so; the times stand in a list.
+fn sided(head: u32, l: Side, r: Side, clock: &[i32], values: &[i32], n: u32) -> Rows
+    requires { ⌜ Room l n (now clock) (now values) × Room r n (now clock) (now values) ⌝ }
+    ensures { λ x. ⌜ x ≡ rows-of (relate head (side-at l (now (clock .entry)) (now (values .entry))) (side-at r (now (clock .entry)) (now (values .entry)))) 0 n ⌝ }
+{
+    if l.kind == Side::COLUMN {
+        return against(head, values, l.at, Scope::COLUMNS, r, clock, values, n);
+    }
+    if l.kind == Side::TIME {
+        return against(head, clock, 0, 1, r, clock, values, n);
+    }
+    let a = single(l);
+    against(head, &a, 0, 0, r, clock, values, n)
+}
+
+// The later of two times, at most the highest.
+fn later(s: u32, t: u32) -> u32
+    ensures { λ r. ⌜ (r ≡ min (max s t) top) × (r < 2147483648) ⌝ }
+{
+    if Time::TOP <= s {
+        return Time::TOP;
+    }
+    if Time::TOP <= t {
+        return Time::TOP;
+    }
+    if s < t {
+        return t;
+    }
+    s
+}
+
+// The times of n places from one on, each the later of it and another.
+fn put_times(clock: &mut [i32], times: &[u32], from: u32, low: u32, n: u32)
+    requires { ⌜ (n ≤ max-rows) × (max-rows ≤ length (now clock)) × (from + n ≤ length (now times)) × (from ≤ 384) ⌝ }
+    ensures { λ _. ⌜ Clock low from n (now (times .entry)) (now (clock .exit)) ⌝ }
+{
+    let mut i: u32 = 0;
+    while i < n {
+        clock[i as usize] = later(low, times[(from + i) as usize]) as i32;
+        i += 1;
+    }
+}
+
+// The time of the left row, 0 where there is none.
+fn left_time(sc: Scope, times: &[u32]) -> u32
+    requires { ⌜ places-size ≤ length (now times) ⌝ }
+    ensures { λ r. ⌜ r ≡ left-time sc (now (times .entry)) ⌝ }
+{
+    let at = sc.fixed;
+    if at < Scope::PLACES {
+        return times[at as usize];
+    }
+    0
+}
+
+// The rows where two sides compare so, of which one may be the time.
+fn compared_timed(head: u32, l: Side, r: Side, sc: Scope, times: &[u32], values: &[i32]) -> Rows
+    requires { ⌜ Lent sc (now times) (now values) × (l .at < column-end) × (r .at < column-end) ⌝ }
+    ensures { λ x. ⌜ x ≡ rows-of (relate head (side-value l sc (now (times .entry)) (now (values .entry))) (side-value r sc (now (times .entry)) (now (values .entry)))) 0 (sc .rows) ⌝ }
+{
+    let mut clock: [i32; Ledger::ROWS] = [0; Ledger::ROWS];
+    let low = left_time(sc, times);
+    put_times(&mut clock, times, sc.stream * Scope::ROWS, low, sc.rows);
+    sided(head, l, r, &clock, values, sc.rows)
+}
+
+// The rows where two sides compare so.
+fn compared(head: u32, l: Side, r: Side, sc: Scope, times: &[u32], values: &[i32]) -> Rows
+    requires { ⌜ Lent sc (now times) (now values) × (l .at < column-end) × (r .at < column-end) ⌝ }
+    ensures { λ x. ⌜ x ≡ rows-of (relate head (side-value l sc (now (times .entry)) (now (values .entry))) (side-value r sc (now (times .entry)) (now (values .entry)))) 0 (sc .rows) ⌝ }
+{
+    if l.kind == Side::TIME {
+        return compared_timed(head, l, r, sc, times, values);
+    }
+    if r.kind == Side::TIME {
+        return compared_timed(head, l, r, sc, times, values);
+    }
+    sided(head, l, r, values, values, sc.rows)
+}
+
+// ---- the sides of a comparison
+
+// Whether a column by its stream and number is one of the left row.
+fn left_names(sc: Scope, s: u32, c: u32) -> bool
+    ensures { λ r. ⌜ r ≡ left-named sc s c ⌝ }
+{
+    if Scope::PLACES <= sc.fixed {
+        return false;
+    }
+    if s != sc.other {
+        return false;
+    }
+    c < sc.breadth
+}
+
+// A column by its code: of the left row its value, one of the stream's, or nothing there.
+fn column_side(code: u32, sc: Scope, values: &[i32]) -> Side
+    requires { ⌜ (code < 24) × (sc .stream < max-streams) × (values-size ≤ length (now values)) ⌝ }
+    ensures { λ r. ⌜ Stands sc (now (values .entry)) (column (col (code / max-columns) (code % max-columns))) r ⌝ }
+{
+    let s = code / Scope::COLUMNS;
+    let c = code % Scope::COLUMNS;
+    if left_names(sc, s, c) {
+        let x = value_at(values, sc.fixed * Scope::COLUMNS + c);
+        return Side {
+            kind: Side::VALUE,
+            at: 0,
+            value: x.v,
+        };
+    }
+    if s != sc.stream {
+        return Side {
+            kind: Side::VALUE,
+            at: 0,
+            value: 0,
+        };
+    }
+    if sc.width <= c {
+        return Side {
+            kind: Side::VALUE,
+            at: 0,
+            value: 0,
+        };
+    }
+    Side {
+        kind: Side::COLUMN,
+        at: sc.stream * Scope::ROWS * Scope::COLUMNS + c,
+        value: 0,
+    }
+}
+
+// A number, of which the lowest is stored as 0.
+fn number_side(value: u64) -> Side
+    requires { ⌜ value < 4294967296 ⌝ }
+    ensures { λ r. ⌜ (r .kind ≡ 0) × (r .at ≡ 0) × (r .value ≡ unbiased value) ⌝ }
+{
+    if value < 2147483648 {
+        return Side {
+            kind: Side::VALUE,
+            at: 0,
+            value: -1 - ((2147483647 - value) as i32),
+        };
+    }
+    Side {
+        kind: Side::VALUE,
+        at: 0,
+        value: (value - 2147483648) as i32,
+    }
+}
+
+// The value of a profile entry, or 0 where there is none of that name.
+fn entry_side(value: u64, profile: &[u64]) -> Side
+    ensures { λ r. ⌜ (r .kind ≡ 0) × (r .at ≡ 0) × (r .value ≡ entry-value (profile-in (now (profile .entry))) (name-of value)) ⌝ }
+{
+    let n = profile.len() / 2;
+    let mut i: usize = 0;
+    while i < n {
+        if profile[i * 2] == value {
+            return number_side(profile[i * 2 + 1] % 4294967296);
+        }
+        i += 1;
+    }
+    Side {
+        kind: Side::VALUE,
+        at: 0,
+        value: 0,
+    }
+}
+
+// What stands for a side by its code, and by the node's value where the code is that of a number or of a profile entry.
+fn side_of(code: u32, value: u64, sc: Scope, profile: &[u64], values: &[i32]) -> Side
+    requires { ⌜ (sc .stream < max-streams) × (values-size ≤ length (now values)) × (code ≡ 26 → value < 4294967296) ⌝ }
+    ensures { λ r. ⌜ Stands sc (now (values .entry)) (fill-term (profile-in (now (profile .entry))) (coded-term code value)) r ⌝ }
+{
+    if code < Term::TIME {
+        return column_side(code, sc, values);
+    }
+    if code == Term::TIME {
+        return Side {
+            kind: Side::TIME,
+            at: 0,
+            value: 0,
+        };
+    }
+    if code == Term::FIGURE {
+        return Side {
+            kind: Side::VALUE,
+            at: 0,
+            value: 0,
+        };
+    }
+    if code == Term::NUMBER {
+        return number_side(value);
+    }
+    entry_side(value, profile)
+}
+
+// A number of more than 32 bits and a profile entry: the number is above it, as 1 is above 0.
+fn outranks(head: u32, n: u32) -> Rows
+    ensures { λ r. ⌜ r ≡ rows-of (relate head (λ i. pos 1) (λ i. pos 0)) 0 n ⌝ }
+{
+    let a: [i32; 1] = [1];
+    let b: [i32; 1] = [0];
+    related(head, &a, 0, 0, &b, 0, 0, n)
+}
+
+// The number on a comparison's left is one of more than 32 bits: then a profile entry is on its right.
+fn is_wide(n: Node) -> bool
+    ensures { λ r. ⌜ r ≡ wide n ⌝ }
+{
+    if n.left != Term::NUMBER {
+        return false;
+    }
+    4294967295 < n.value
+}
+
+// The rows that a comparison holds of.
+fn compare_node(n: Node, sc: Scope, profile: &[u64], times: &[u32], values: &[i32]) -> Rows
+    requires { ⌜ Lent sc (now times) (now values) × T (narrow n) ⌝ }
+    ensures { λ r. ⌜ r ≡ passing sc (now (times .entry)) (now (values .entry)) (now (profile .entry)) (test (node-compare n)) ⌝ }
+{
+    if is_wide(n) {
+        return outranks(n.head, sc.rows);
+    }
+    let l = side_of(n.left, n.value, sc, profile, values);
+    let r = side_of(n.right, n.value, sc, profile, values);
+    compared(n.head, l, r, sc, times, values)
+}
+
+// ---- nodes
+
+// The word at a place, or 0 where there is none.
+fn word(words: &[u32], i: u32) -> u32
+    ensures { λ r. ⌜ r ≡ getD (now (words .entry)) i 0 ⌝ }
+{
+    if words.len() <= i as usize {
+        return 0;
+    }
+    words[i as usize]
+}
+
+// Some places before another, or the first.
+fn back(k: u32, d: u32) -> u32
+    ensures { λ r. ⌜ r ≡ k - d ⌝ }
+{
+    if k < d {
+        return 0;
+    }
+    k - d
+}
+
+// A value of its two halves.
+fn halves(low: u32, high: u32) -> u64
+    ensures { λ r. ⌜ r ≡ low + high * 4294967296 ⌝ }
+{
+    low as u64 + high as u64 * 4294967296
+}
+
+// A node of its head's word and its value.
+fn unpacked(w: u32, value: u64) -> Node
+    ensures { λ r. ⌜ r ≡ node-of w value ⌝ }
+{
+    Node {
+        head: w % 256,
+        left: w / 256 % 256,
+        right: w / 65536 % 256,
+        before: w / 16777216,
+        value: value,
+    }
+}
+
+// The node that ends at a place, whatever is lent.
+fn node_of(words: &[u32], k: u32) -> Node
+    ensures { λ r. ⌜ Taken (now (words .entry)) k r ⌝ }
+{
+    if k == 0 {
+        return unpacked(0, 0);
+    }
+    let w = word(words, k - 1);
+    let right = w / 65536 % 256;
+    if right == Term::NUMBER {
+        return unpacked(w, word(words, back(k, 2)) as u64);
+    }
+    if right == Term::ENTRY {
+        return unpacked(w, halves(word(words, back(k, 3)), word(words, back(k, 2))));
+    }
+    unpacked(w, 0)
+}
+
+// The head of the node that ends at a place.
+fn head_of(words: &[u32], k: u32) -> u32
+    ensures { λ r. ⌜ r ≡ node-at (now (words .entry)) k .head ⌝ }
+{
+    if k == 0 {
+        return 0;
+    }
+    word(words, k - 1) % 256
+}
+
+// How many words stand before those of the condition that ends at a place.
+fn link_at(words: &[u32], k: u32) -> u32
+    ensures { λ r. ⌜ r ≡ link (now (words .entry)) k ⌝ }
+{
+    if k == 0 {
+        return 0;
+    }
+    let b = word(words, k - 1) / 16777216;
+    if k - 1 < b {
+        return k - 1;
+    }
+    b
+}
+
+// Where the first condition ends of those that end at place j and before it, down to a stop; 0 where there is none.
+fn first_of(words: &[u32], stop: u32, j: u32) -> u32
+    ensures { λ r. ⌜ Leads (now (words .entry)) stop j r ⌝ }
+{
+    if j <= stop {
+        return 0;
+    }
+    let mut e = j;
+    let mut b = link_at(words, j);
+    while stop < b {
+        e = b;
+        b = link_at(words, e);
+    }
+    e
+}
+
+// The rows that the comparison holds of that ends at a place.
+fn compare_at(
+    words: &[u32],
+    k: u32,
+    sc: Scope,
+    profile: &[u64],
+    times: &[u32],
+    values: &[i32],
+) -> Rows
+    requires { ⌜ Lent sc (now times) (now values) ⌝ }
+    ensures { λ r. ⌜ r ≡ passing sc (now (times .entry)) (now (values .entry)) (now (profile .entry)) (test (node-compare (node-at (now (words .entry)) k))) ⌝ }
+{
+    compare_node(node_of(words, k), sc, profile, times, values)
+}
+
+// ---- conditions and lists of them, which call each other on falling places
+
+// What a list of no conditions holds of: `and` all rows, `or` none.
+fn started(any: bool, n: u32) -> Rows
+    ensures { λ r. ⌜ r ≡ start-of any n ⌝ }
+{
+    if any {
+        return Rows::none();
+    }
+    Rows::first(n)
+}
+
+fn joined(any: bool, x: Rows, m: Rows) -> Rows
+    ensures { λ r. ⌜ r ≡ joined-of any x m ⌝ }
+{
+    if any {
+        return x.either(m);
+    }
+    x.both(m)
+}
+
+// The rows that the condition holds of that ends at place k.
+fn eval(words: &[u32], k: u32, sc: Scope, profile: &[u64], times: &[u32], values: &[i32]) -> Rows
+    requires { ⌜ Lent sc (now times) (now values) ⌝ }
+    ensures { λ r. ⌜ r ≡ passing sc (now (times .entry)) (now (values .entry)) (now (profile .entry)) (cond-at (now (words .entry)) k) ⌝ }
+{
+    let head = head_of(words, k);
+    if head < Node::AND {
+        return compare_at(words, k, sc, profile, times, values);
+    }
+    if Node::NOT < head {
+        return compare_at(words, k, sc, profile, times, values);
+    }
+    let stop = link_at(words, k);
+    if head == Node::NOT {
+        let e = first_of(words, stop, k - 1);
+        return Rows::first(sc.rows).flip(eval(words, e, sc, profile, times, values));
+    }
+    if k - 1 <= stop {
+        return eval(words, 0, sc, profile, times, values);
+    }
+    list(
+        words,
+        stop,
+        k - 1,
+        head == Node::OR,
+        sc,
+        profile,
+        times,
+        values,
+    )
+}
+
+// The rows that all or any hold of the conditions that end at place j and before it, down to a stop.
+fn list(
+    words: &[u32],
+    stop: u32,
+    j: u32,
+    any: bool,
+    sc: Scope,
+    profile: &[u64],
+    times: &[u32],
+    values: &[i32],
+) -> Rows
+    requires { ⌜ Lent sc (now times) (now values) ⌝ }
+    ensures { λ r. ⌜ r ≡ list-passing any sc (now (times .entry)) (now (values .entry)) (now (profile .entry)) (list-at (now (words .entry)) stop j) ⌝ }
+{
+    let mut m = started(any, sc.rows);
+    let mut at = j;
+    while stop < at {
+        let x = eval(words, at, sc, profile, times, values);
+        m = joined(any, x, m);
+        at = link_at(words, at);
+    }
+    m
+}
+
+// ---- the calls
+
+// The stream is one of four with at most 128 rows, and times are lent for all.
+fn times_fit(sc: Scope, times: &[u32]) -> bool
+    ensures { λ r. ⌜ r ≡ times-fit sc (now (times .entry)) ⌝ }
+{
+    if Scope::STREAMS <= sc.stream {
+        return false;
+    }
+    if Scope::ROWS < sc.rows {
+        return false;
+    }
+    Ledger::PLACES <= times.len()
+}
+
+// And values are.
+fn fits(sc: Scope, times: &[u32], values: &[i32]) -> bool
+    ensures { λ r. ⌜ r ≡ scope-fits sc (now (times .entry)) (now (values .entry)) ⌝ }
+{
+    if !times_fit(sc, times) {
+        return false;
+    }
+    Ledger::VALUES <= values.len()
+}
+
+// Returns the rows of a scope that the condition selects whose words end at a place, with the caller's values put in; none where memory is short.
+pub fn condition(
+    words: &[u32],
+    k: u32,
+    scope: Scope,
+    profile: &[u64],
+    times: &[u32],
+    values: &[i32],
+) -> Rows
+    ensures { λ r. ⌜ r ≡ selected scope (now (times .entry)) (now (values .entry)) (fill (profile-in (now (profile .entry))) (cond-at (now (words .entry)) k)) ⌝ }
+{
+    if !fits(scope, times, values) {
+        return Rows::none();
+    }
+    eval(words, k, scope, profile, times, values)
+}
+
+// Returns the rows of a scope that all conditions of the first n words select, with the caller's values put in; none where memory is short.
+pub fn conditions(
+    words: &[u32],
+    n: u32,
+    scope: Scope,
+    profile: &[u64],
+    times: &[u32],
+    values: &[i32],
+) -> Rows
+    ensures { λ r. ⌜ r ≡ selected-all scope (now (times .entry)) (now (values .entry)) (map (fill (profile-in (now (profile .entry)))) (conditions-of (now (words .entry)) n)) ⌝ }
+{
+    if !fits(scope, times, values) {
+        return Rows::none();
+    }
+    list(words, 0, n, false, scope, profile, times, values)
+}
+
+// ---- times
+
+// Whether a time is within two, as a bit.
+fn time_bit(t: u32, low: u32, high: u32) -> u32
+    ensures { λ r. ⌜ r ≡ one (in-span low high t) ⌝ }
+{
+    if t < low {
+        return 0;
+    }
+    if high < t {
+        return 0;
+    }
+    1
+}
+
+// Of at most 32 places from one on, those with such a time.
+fn time_word(times: &[u32], low: u32, high: u32, from: u32, n: u32) -> u32
+    requires { ⌜ (n ≤ 32) × (from ≤ 480) × (n ≤ length (now times) - from) ⌝ }
+    ensures { λ r. ⌜ r ≡ bits (timed (now (times .entry)) low high) from n ⌝ }
+{
+    let mut m: u32 = 0;
+    let mut i = n;
+    while 0 < i {
+        i -= 1;
+        m = m * 2 + time_bit(times[(from + i) as usize], low, high);
+    }
+    m
+}
+
+// Of at most 128 places from one on, those with such a time.
+fn time_rows(times: &[u32], low: u32, high: u32, from: u32, n: u32) -> Rows
+    requires { ⌜ (from ≤ 384) × (n ≤ length (now times) - from) ⌝ }
+    ensures { λ r. ⌜ r ≡ rows-of (timed (now (times .entry)) low high) from n ⌝ }
+{
+    Rows {
+        a: time_word(times, low, high, from, rows::part(n, 0)),
+        b: time_word(times, low, high, from + 32, rows::part(n, 32)),
+        c: time_word(times, low, high, from + 64, rows::part(n, 64)),
+        d: time_word(times, low, high, from + 96, rows::part(n, 96)),
+    }
+}
+
+// The first time that is asked of a row beside one of another time.
+fn low_time(from: u32, left: u32) -> u32
+    ensures { λ r. ⌜ r ≡ low-of from left ⌝ }
+{
+    if Time::TOP < from {
+        return 0;
+    }
+    if from <= left {
+        return 0;
+    }
+    from
+}
+
+// The last time that is asked of a row.
+fn high_time(to: u32) -> u32
+    ensures { λ r. ⌜ r ≡ high-of to ⌝ }
+{
+    if to < Time::TOP {
+        return to;
+    }
+    Grant::NONE
+}
+
+// A time is past the last one that is asked.
+fn too_late(to: u32, left: u32) -> bool
+    ensures { λ r. ⌜ r ≡ past to left ⌝ }
+{
+    if Time::TOP <= to {
+        return false;
+    }
+    to < left
+}
+
+// Returns the rows of a scope whose time is within two, of which each may be no limit; none where memory is short.
+pub fn within(from: u32, to: u32, scope: Scope, times: &[u32]) -> Rows
+    ensures { λ r. ⌜ r ≡ timely scope (now (times .entry)) from to ⌝ }
+{
+    if !times_fit(scope, times) {
+        return Rows::none();
+    }
+    let left = left_time(scope, times);
+    if too_late(to, left) {
+        return Rows::none();
+    }
+    let low = low_time(from, left);
+    let high = high_time(to);
+    time_rows(times, low, high, scope.stream * Scope::ROWS, scope.rows)
+}
