@@ -22,6 +22,7 @@ use Rattle.text.proofs.Views.{left-drop}
 use Rattle.text.proofs.Fuel.{any-cond-leaves, any-conds-leaves}
 use Rattle.terms.specs.Terms.{comparison-at}
 use Rattle.nodes.specs.Storing.{size, store}
+use Rattle.nodes.proofs.Depths.{depth-some}
 use Rattle.conditions.specs.declared.Seen.{Seen}
 use Rattle.conditions.specs.declared.Headed.{Headed}
 use Rattle.conditions.specs.Seeing.{head-at, nodes-of, nothing-seen, deep-seen}
@@ -54,13 +55,6 @@ pub space-next : (s : Bytes) (p : ℕ) {x : ℕ} → x ≡ getD s p 0 → x ≡ 
 space-next s p e z l = let i = byte-inside s p e z (omega arith) in record { fits = omega arith }
 
 -- ---- where no bracket may be opened
-
-depth-some : (c : Cond Test) → 1 ≤ cond-depth c
-unfolding cond-depth
-depth-some (test t) = omega arith
-depth-some (all cs) = omega arith
-depth-some (any cs) = omega arith
-depth-some (neg c) = omega arith
 
 module _ (ks : List ℕ) (s : Bytes) (b level at : ℕ) (ws : List ℕ) where
   skipped-is : level ≡ 0 → (o : Option (Read (Cond Test))) → any-cond (drop at s) ≡ o → skipped-seen s at ≡ told ks (one ks) s b level o

@@ -1,13 +1,13 @@
 -- The conditions of a list one after another: what is read so far, and what is still to be read.
 use mathlib.Core.Path.{_≡_, refl, sym, ap, ap₂, _∙_}
 use mathlib.Core.List.{List, [], _∷_, _++_, map, map-append}
-use mathlib.Core.Bool.{Bool, true, false, _&&_, _||_, not, cond}
+use mathlib.Core.Bool.{Bool, true, false, _&&_, _||_, not, cond, and-true}
 use mathlib.Core.Option.{Option, none, some}
 use Prim.Native.Nat.{ℕ, _+_, _-_, _≤_, _<_, min, max}
 use native.Mathlib.Omega.{arith}
 use lib.Dec.{leb, eqb}
 use lib.ListN.{length, drop, getD, length-append, length-drop, drop-of-length-le}
-use borrow.Author.Tests.{ne-eqb, le-leb, lt-leb, leb-true, leb-false, not-true, not-false}
+use borrow.Author.Tests.{ne-eqb, not-true, not-false}
 use Rattle.lists.specs.Lists.{every, some?, gather}
 use Rattle.lists.proofs.Laws.{append-nil, gather-append}
 use Rattle.syntax.specs.Grammar.{Bytes, Test, Cond, Conds, last, more}
@@ -24,6 +24,7 @@ use Rattle.masks.specs.Masks.{mask-of}
 use Rattle.nodes.specs.declared.Node.{Node}
 use Rattle.nodes.specs.Storing.{size, sizes, store, store-all, list-size, store-list}
 use Rattle.nodes.proofs.Sizes.{size-append, store-append}
+use Rattle.nodes.proofs.Depths.{every-snoc, leb-max}
 use Rattle.conditions.specs.declared.Seen.{Seen}
 use Rattle.conditions.specs.Seeing.{test-node, nodes-of, nothing-seen, deep-seen, begun, seen-of}
 use Rattle.conditions.specs.Steps.{counted, both-seen, one, many, told, put-read, CondIn, CondsIn}
@@ -69,14 +70,6 @@ tests-list (more c cs) = ap (λ ts. tests c ++ ts) (tests-list cs)
 -- no condition of a list is too deep
 abbrev pub shallow : ℕ → List (Cond Test) → Bool
 shallow level cs = every (λ c. leb (cond-depth c) level) cs
-
-leb-max : (a b n : ℕ) → (leb a n && leb b n) ≡ leb (max a b) n
-leb-max a b n = by-test (leb a n) (λ p. by-test (leb b n) (λ q. let x = leb-true a n p in let y = leb-true b n q in rw (p, q) (sym (le-leb (max a b) n (omega arith)))) (λ q. let y = leb-false b n q in rw (p, q) (sym (lt-leb (max a b) n (omega arith)))))
-    (λ p. let x = leb-false a n p in rw p (sym (lt-leb (max a b) n (omega arith))))
-
-and-true : (a : Bool) → (a && true) ≡ a
-and-true true = refl
-and-true false = refl
 
 pub depth-list : (level : ℕ) (cs : Conds Test) → shallow level (list-of cs) ≡ leb (conds-depth cs) level
 unfolding list-of every cond-depth
@@ -151,15 +144,6 @@ going-over [] s p h = conds-step (drop p s) ∙ rw (drop-of-length-le s h)
 going-over (d ∷ ds) s p h = rw (drop-of-length-le s h)
 
 -- ---- one more condition
-
-every-snoc : {A : Type 0} (p : A → Bool) (xs : List A) (x : A) → every p (xs ++ (x ∷ [])) ≡ (every p xs && p x)
-unfolding every
-every-snoc p [] x = and-true (p x)
-every-snoc p (y ∷ xs) x = ap (λ b. p y && b) (every-snoc p xs x) ∙ go (p y)
-  where
-    go : (b : Bool) → (b && (every p xs && p x)) ≡ ((b && every p xs) && p x)
-    go true = refl
-    go false = refl
 
 gather-snoc : (ds : List (Cond Test)) (c : Cond Test) → gather tests (ds ++ (c ∷ [])) ≡ gather tests ds ++ tests c
 unfolding gather

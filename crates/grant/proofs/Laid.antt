@@ -14,9 +14,9 @@ use Rattle.syntax.specs.Grammar.{Cond, test}
 use Rattle.model.specs.Conditions.{tests, tests-of, conds-of}
 use Rattle.model.specs.Queries.{Compare}
 use Rattle.nodes.specs.declared.Node.{Node}
-use Rattle.nodes.specs.Nodes.{value-at, node-of, no-node, node-at, node-words, node-compare, link, some-conds, first-cond, headed, cond-in, list-in, conditions-of, comparing, reaches, linked, terms-sound, node-sound, all-sound, nodes-sound}
+use Rattle.nodes.specs.Nodes.{value-at, node-of, no-node, node-at, node-words, node-compare, link, some-conds, first-cond, headed, cond-in, list-in, conditions-of, comparing, reaches, linked, terms-sound, node-sound, all-sound, shallow-conds, nodes-sound}
 use Rattle.nodes.proofs.Puts.{words-some}
-use Rattle.nodes.proofs.Reaching.{link-falls, list-step, list-stop, reaches-step, reaches-stop, reaches-fuel, cond-of, list-before, list-on, list-off, cond-on}
+use Rattle.nodes.proofs.Reaching.{link-falls, list-step, list-stop, reaches-step, reaches-stop, reaches-fuel, cond-of, list-before, list-off, list-last, cond-on}
 use Rattle.grant.specs.Grants.{linked-from, laid-out}
 use Rattle.grant.proofs.Compared.{compare-fit, terms-are, every-both-lists, cond-fit, conditions-are}
 
@@ -147,21 +147,6 @@ module _ (ws : List ℕ) where
       go true e = refl
       go false e = ap on e
 
-  -- ---- lists
-
-  list-append : (f stop j : ℕ) (cs : List (Cond Compare)) → list-in f ws stop j cs ≡ list-in f ws stop j [] ++ cs
-  list-append zero stop j cs = unfold cond-in in refl
-  list-append (suc f) stop j cs = go (decLt stop j) (list-append f stop (link ws j))
-    where
-      go : Dec (stop < j) → ((cs : List (Cond Compare)) → list-in f ws stop (link ws j) cs ≡ list-in f ws stop (link ws j) [] ++ cs) → list-in (suc f) ws stop j cs ≡ list-in (suc f) ws stop j [] ++ cs
-      go (yes h) i =
-          let c = cond-in f ws j in
-          list-step ws f stop j cs h ∙ i (c ∷ cs) ∙ sym (ap (λ l. l ++ cs) (list-step ws f stop j [] h ∙ i (c ∷ [])) ∙ append-assoc (list-in f ws stop (link ws j) []) (c ∷ []) cs)
-      go (no h) i = list-stop ws f stop j cs (omega arith) ∙ sym (ap (λ l. l ++ cs) (list-stop ws f stop j [] (omega arith)))
-
-  list-last : (stop j : ℕ) → stop < j → list-before ws stop j [] ≡ list-before ws stop (link ws j) [] ++ (cond-of ws j ∷ [])
-  list-last stop j h = list-on ws stop j [] h ∙ list-append (2 * link ws j + 1) stop (link ws j) (cond-of ws j ∷ [])
-
   -- ---- what stands between two places
 
   module _ (mask : ℕ) where
@@ -235,18 +220,18 @@ module _ (ws : List ℕ) where
             b = node-at ws k .before
 
             go : Dec (node-at ws k .head < 9) → tests (headed (node-at ws k) (list-before ws b (k - 1) [])) ≡ gather tests (list-before ws b (k - 1) [])
-            go (yes m) = headed-list (node-at ws k) (list-before ws b (k - 1) []) (rw (list-last b (k - 1) up) (omega (arith, length-append (list-before ws b (link ws (k - 1)) []) (cond-of ws (k - 1) ∷ [])))) low m
+            go (yes m) = headed-list (node-at ws k) (list-before ws b (k - 1) []) (rw (list-last ws b (k - 1) up) (omega (arith, length-append (list-before ws b (link ws (k - 1)) []) (cond-of ws (k - 1) ∷ [])))) low m
             go (no m) =
                 or-cases (ltb (node-at ws k .head) 9) (eqb (link ws (k - 1)) b) t (λ a. let x = ltb→lt (node-at ws k .head) 9 a in absurd (omega arith))
                 (λ a. let e = eqb→eq (link ws (k - 1)) b a in
-                let s : list-before ws b (k - 1) [] ≡ cond-of ws (k - 1) ∷ [] = list-last b (k - 1) up ∙ ap (λ l. l ++ (cond-of ws (k - 1) ∷ [])) (list-off ws b (link ws (k - 1)) [] (omega arith)) in
+                let s : list-before ws b (k - 1) [] ≡ cond-of ws (k - 1) ∷ [] = list-last ws b (k - 1) up ∙ ap (λ l. l ++ (cond-of ws (k - 1) ∷ [])) (list-off ws b (link ws (k - 1)) [] (omega arith)) in
                 rw s (headed-one (node-at ws k) (cond-of ws (k - 1)) (omega arith)))
 
     list-join : (stop i j : ℕ) → stop < j → link ws j ≡ i → Between stop i (list-before ws stop i []) → Between i j (cond-of ws j ∷ []) → Between stop j (list-before ws stop j [])
     list-join stop i j h e x y =
         let a = every (compare-fit mask) (gather tests (list-before ws stop i [])) in
         let b = every (compare-fit mask) (gather tests (cond-of ws j ∷ [])) in
-        let s : list-before ws stop j [] ≡ list-before ws stop i [] ++ (cond-of ws j ∷ []) = list-last stop j h ∙ ap (λ i. list-before ws stop i [] ++ (cond-of ws j ∷ [])) e in
+        let s : list-before ws stop j [] ≡ list-before ws stop i [] ++ (cond-of ws j ∷ []) = list-last ws stop j h ∙ ap (λ i. list-before ws stop i [] ++ (cond-of ws j ∷ [])) e in
         let g : every (compare-fit mask) (gather tests (list-before ws stop j [])) ≡ (a && b) =
         ap (λ l. every (compare-fit mask) (gather tests l)) s ∙ ap (every (compare-fit mask)) (gather-append tests (list-before ws stop i []) (cond-of ws j ∷ []))
         ∙ every-both-lists (compare-fit mask) (gather tests (list-before ws stop i [])) (gather tests (cond-of ws j ∷ [])) in
@@ -304,15 +289,20 @@ nodes-are mask ws n =
     rw (sound-walk ws mask (suc n) n ∙ walk-both ws (linked-at ws) (fit-at ws mask) (suc n) n, linked-walk ws (suc n) n)
     (go (back ws (linked-at ws) n) (reaches (suc n) ws 0 n) refl refl)
   where
-    go : (a r : Bool) → back ws (linked-at ws) n ≡ a → reaches (suc n) ws 0 n ≡ r → ((a && back ws (fit-at ws mask) n) && r) ≡ ((a && r) && every (cond-fit mask) (conditions-of ws n))
-    go true true e f = lone (back ws (fit-at ws mask) n) ∙ laid-fits ws mask n (rw e tt) f
-      where
-        lone : (x : Bool) → (x && true) ≡ x
-        lone true = refl
-        lone false = refl
-    go true false e f = none (back ws (fit-at ws mask) n)
-      where
-        none : (x : Bool) → (x && false) ≡ false
-        none true = refl
-        none false = refl
+    shallow : Bool
+    shallow = shallow-conds (conditions-of ws n)
+
+    turned : (x y : Bool) → ((x && true) && y) ≡ (y && x)
+    turned true true = refl
+    turned true false = refl
+    turned false true = refl
+    turned false false = refl
+
+    none : (x : Bool) → (x && false) ≡ false
+    none true = refl
+    none false = refl
+
+    go : (a r : Bool) → back ws (linked-at ws) n ≡ a → reaches (suc n) ws 0 n ≡ r → (((a && back ws (fit-at ws mask) n) && r) && shallow) ≡ (((a && r) && shallow) && every (cond-fit mask) (conditions-of ws n))
+    go true true e f = turned (back ws (fit-at ws mask) n) shallow ∙ ap (λ x. shallow && x) (laid-fits ws mask n (rw e tt) f)
+    go true false e f = ap (λ x. x && shallow) (none (back ws (fit-at ws mask) n))
     go false r e f = refl

@@ -15,7 +15,7 @@ use Rattle.calls.specs.Validity.{valid-name}
 use Rattle.text.specs.Words.{name-of}
 use Rattle.schema.specs.Schemas.{streams-in, width-in, schema-of}
 use Rattle.masks.specs.Masks.{mask-of, inside}
-use Rattle.nodes.specs.Nodes.{node-words, node-at, conditions-of, reaches, linked, column-in, nodes-sound}
+use Rattle.nodes.specs.Nodes.{node-words, node-at, conditions-of, reaches, linked, column-in, shallow-conds, nodes-sound}
 use Rattle.grant.specs.declared.Grant.{Grant}
 
 -- words lent for the conditions of one grant
@@ -101,14 +101,15 @@ unfoldable pub linked-from : ℕ → List ℕ → ℕ → Bool
 linked-from zero ws k = true
 linked-from (suc f) ws k = elim (eqb k 0) [ true ↦ true | false ↦ linked ws k (node-at ws k) && linked-from f ws (k - node-words (node-at ws k)) ]
 
--- the first n words are laid out as those of a stored list of conditions, whatever these compare
+-- the first n words are laid out as those of a stored list of conditions, whatever these compare, none of which nests too deep
 unfoldable pub laid-out : List ℕ → ℕ → Bool
-laid-out ws n = linked-from (suc n) ws n && reaches (suc n) ws 0 n
+laid-out ws n = linked-from (suc n) ws n && reaches (suc n) ws 0 n && shallow-conds (conditions-of ws n)
 
 -- What passes 12 beside a valid grant. Some numbers stand for a valid grant and are refused all the same: a right above 5 (it would be `sum`), a time above
--- the highest that is not the number for none (it would be no limit), a bit that is no column of the grant's streams (it would show nothing), and words
--- that are not those of a stored list (their links would be cut to fit). No call makes such numbers, so they were damaged or never made, and a reading of
--- them that is only as good as another must open nothing. What is past the counted streams, and words past those of the conditions, are free.
+-- the highest that is not the number for none (it would be no limit), a bit that is no column of the grant's streams (it would show nothing), words
+-- that are not those of a stored list (their links would be cut to fit), and conditions that nest deeper than those of a line (evaluation has stack for
+-- these). No call makes such numbers, so they were damaged or never made, and a reading of them that is only as good as another must open nothing.
+-- What is past the counted streams, and words past those of the conditions, are free.
 unfoldable pub grant-tidy : List ℕ → Grant → List ℕ → Bool
 grant-tidy ns g ws =
     leb (g .right) 5 && limit-sound (g .from) && limit-sound (g .to) && inside (g .shown) (streams-mask ns (streams-of g))

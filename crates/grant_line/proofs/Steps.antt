@@ -17,10 +17,10 @@ use Rattle.refusal.specs.declared.Refusal.the-variants.{Lent}
 use Rattle.refusal.proofs.Verdicts.{not-accepted, verdict-none, stops}
 use Rattle.refusal.proofs.Passing.{pass-rest, pass-test, passes-first, first-skip}
 use Rattle.lists.specs.Lists.{every, empty?, gather}
-use Rattle.lists.proofs.Laws.{and-l, and-r, and-both, parts, T-true, every-both}
+use Rattle.lists.proofs.Laws.{and-l, and-r, and-both, parts, true-T, T-true, every-map, every-both}
 use Rattle.syntax.specs.Grammar as G
 use Rattle.syntax.specs.Grammar.{Bytes, Cond, body?, cond?, grant?}
-use Rattle.syntax.specs.Limits.{shallow, natural}
+use Rattle.syntax.specs.Limits.{shallow, cond-depth, natural}
 use Rattle.syntax.specs.Readers.{parse-as}
 use Rattle.syntax.proofs.Lines.{parsed-printed}
 use Rattle.syntax.proofs.Depths.{grant-shallow}
@@ -54,7 +54,8 @@ use Rattle.nodes.specs.Storing.{store-list}
 use Rattle.nodes.proofs.Sizes.{length-store-list}
 use Rattle.nodes.proofs.Reaching.{Same, list-same, nodes-same}
 use Rattle.nodes.proofs.Stored.{stored-list, stored-sound}
-use Rattle.conditions.specs.Seeing.{nodes-of, seen-of}
+use Rattle.nodes.proofs.Depths.{map-depth}
+use Rattle.conditions.specs.Seeing.{test-node, nodes-of, seen-of}
 use Rattle.conditions.proofs.Capacity.{grant-room}
 use Rattle.conditions.proofs.Storable.{nodes-fit}
 use Rattle.grant.specs.declared.Grant.{Grant}
@@ -310,10 +311,14 @@ module _ (ns : List ℕ) (count : ℕ) (bs : Bytes) (ws ws′ : List ℕ) (r : G
           (λ c u v. and-both (grantable c && valid-cond c) (every (column-in mask) (cond-cols c)) (and-both (grantable c) (valid-cond c) (and-l (grantable c) _ u) v)
           (subst T (sym (within-theirs ns numbers declared-numbers (cond-cols c))) (and-r (grantable c) _ u))) conds conds-placed conds-valid
 
+      nodes-flat : T (every (λ c. leb (cond-depth c) 6) (map (nodes-of ns) (g .when)))
+      unfolding nodes-of
+      nodes-flat = every-map (λ c. leb (cond-depth c) 6) (λ c. leb (cond-depth c) 6) (nodes-of ns) (λ c t. rw (map-depth (test-node ns) c) t) (g .when) (true-T (flat-enough g) flat)
+
       stored-may : T (nodes-sound mask stored (grant-size ns g))
       stored-may =
           stored-sound (map (nodes-of ns) (g .when)) (replicate 95 0) (nodes-fit ns (g .when) when-good) (let h = fits in omega arith) (let h = fits in let e = length-replicate {A = ℕ} 95 0 in omega arith) mask
-          (nodes-back ns accepted-lent numbers declared-numbers (g .when) tests-stand conds-fit)
+          (nodes-back ns accepted-lent numbers declared-numbers (g .when) tests-stand conds-fit) nodes-flat
 
       laid : T (laid-out (words-in ws′ count) (grant-size ns g))
       laid =

@@ -18,6 +18,7 @@ use Rattle.items.specs.Items.{code-short}
 use Rattle.columns.specs.Columns.{no-streams, streams-read, columns-read}
 use Rattle.columns.specs.declared.Streams.{Streams}
 use Rattle.columns.specs.declared.Columns.{Columns}
+use Rattle.nodes.specs.Nodes.{max-nesting}
 use Rattle.conditions.specs.Seeing.{list-seen, list-stored}
 use Rattle.conditions.specs.declared.Seen.{Seen}
 use Rattle.grant.specs.Grants.{no-time}
@@ -95,7 +96,7 @@ star-at s at = star-read s (read-word itself (bytes "*" ∷ []) (drop at s))
 -- ---- its conditions: brackets of the line and of this part are open, so six may be opened
 
 abbrev pub when-level : ℕ
-when-level = 6
+when-level = max-nesting
 
 -- none where that part is absent
 unfoldable pub read-whens : Reader (List (Cond Test))

@@ -17,6 +17,7 @@ use columns::Columns;
 use columns::Streams;
 use conditions::Seen;
 use grant::Grant;
+use nodes::Node;
 use refusal::Checks;
 use refusal::Refusal;
 use refusal::Verdict;
@@ -243,7 +244,7 @@ fn when_at(s: &[u8], at: usize, names: &[u64], words: &mut [u32]) -> Seen
         return conditions::begun(at, 0);
     }
     // The brackets of the line and of this part are open.
-    let i = conditions::read_list(s, p, names, words, Line::DEPTH as u32 - 2);
+    let i = conditions::read_list(s, p, names, words, Node::NESTING as u32);
     if !i.ok {
         return conditions::nothing_seen();
     }

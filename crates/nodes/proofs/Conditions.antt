@@ -19,7 +19,7 @@ use Rattle.syntax.specs.Limits.{is-value}
 use Rattle.calls.specs.Validity.{valid-name, valid-term, valid-cond}
 use Rattle.text.specs.Words.{name-of}
 use Rattle.nodes.specs.declared.Node.{Node}
-use Rattle.nodes.specs.Nodes.{node-words, node-at, unbiased, coded-term, node-compare, link, some-conds, first-cond, headed, cond-in, list-in, conditions-of, comparing, reaches, linked, in-mask, column-in, terms-sound, node-sound, all-sound, nodes-sound}
+use Rattle.nodes.specs.Nodes.{node-words, node-at, unbiased, coded-term, node-compare, link, some-conds, first-cond, headed, cond-in, list-in, conditions-of, comparing, reaches, linked, in-mask, column-in, terms-sound, node-sound, all-sound, shallow-conds, nodes-sound}
 use Rattle.nodes.proofs.Words.{words-plain}
 use Rattle.nodes.proofs.Puts.{words-some}
 use Rattle.nodes.proofs.Reaching.{link-falls, list-step, list-stop, reaches-step, reaches-stop}
@@ -186,19 +186,20 @@ link-below : (ws : List ℕ) (k : ℕ) → suc (node-at ws k .before) < k → li
 unfolding link
 link-below ws k h = omega arith
 
-link-inner : (ws : List ℕ) (k : ℕ) → suc (node-at ws k .before) < k → link ws k ≡ node-at ws k .before
+pub link-inner : (ws : List ℕ) (k : ℕ) → suc (node-at ws k .before) < k → link ws k ≡ node-at ws k .before
 unfolding link
 link-inner ws k h = omega arith
 
 -- ---- the walk back passes every place that links lead to
 
 -- what soundness says of a node that has conditions inside
-record Inner (ws : List ℕ) (k : ℕ) (n : Node) : Type 0 where
-  right : n .right ≡ 0
-  low : 7 ≤ n .head
-  high : n .head ≤ 9
-  up : suc (n .before) < k
-  down : T (reaches k ws (n .before) (k - 1))
+pub record Inner (ws : List ℕ) (k : ℕ) (n : Node) : Type 0 where
+  pub right : n .right ≡ 0
+  pub low : 7 ≤ n .head
+  pub high : n .head ≤ 9
+  pub up : suc (n .before) < k
+  pub down : T (reaches k ws (n .before) (k - 1))
+  pub one : 9 ≤ n .head → link ws (k - 1) ≡ n .before
 
 module _ (mask : ℕ) (ws : List ℕ) (k : ℕ) (n : Node) (s : T (node-sound mask ws k n)) where
   sound-test : T (comparing n) → (n .before + node-words n ≡ k) × T (terms-sound mask n)
@@ -212,7 +213,15 @@ module _ (mask : ℕ) (ws : List ℕ) (k : ℕ) (n : Node) (s : T (node-sound ma
   unfolding node-sound linked
   sound-inner e =
       let t : T ((eqb (n .right) 0 && leb 7 (n .head) && leb (n .head) 9 && ltb (suc (n .before)) k && reaches k ws (n .before) (k - 1) && (ltb (n .head) 9 || eqb (link ws (k - 1)) (n .before))) && true) = rw e at s in
-      record { right = eqb→eq (n .right) 0 (search parts depth 9); low = leb→le 7 (n .head) (search parts depth 9); high = leb→le (n .head) 9 (search parts depth 9); up = ltb→lt (suc (n .before)) k (search parts depth 9); down = search parts depth 9 }
+      record {
+        right = eqb→eq (n .right) 0 (search parts depth 9);
+        low = leb→le 7 (n .head) (search parts depth 9);
+        high = leb→le (n .head) 9 (search parts depth 9);
+        up = ltb→lt (suc (n .before)) k (search parts depth 9);
+        down = search parts depth 9;
+        one = λ h.
+            or-cases (ltb (n .head) 9) (eqb (link ws (k - 1)) (n .before)) (search parts depth 9) (λ a. let l = ltb→lt (n .head) 9 a in absurd (omega arith)) (λ a. eqb→eq (link ws (k - 1)) (n .before) a);
+      }
 
 module _ (mask : ℕ) (ws : List ℕ) where
   node-passed : (k : ℕ) → 0 < k → Passes mask ws k → T (node-sound mask ws k (node-at ws k))
@@ -222,7 +231,7 @@ module _ (mask : ℕ) (ws : List ℕ) where
   before-passed k h p = rw (all-before mask ws k h (T-true (node-sound mask ws k (node-at ws k)) (node-passed k h p))) at p
 
   -- a test of a node, or a list inside it
-  by-node : {X : Type 0} (k : ℕ) → 0 < k → Passes mask ws k → (T (comparing (node-at ws k)) → T (terms-sound mask (node-at ws k)) → Passes mask ws (link ws k) → X)
+  pub by-node : {X : Type 0} (k : ℕ) → 0 < k → Passes mask ws k → (T (comparing (node-at ws k)) → T (terms-sound mask (node-at ws k)) → Passes mask ws (link ws k) → X)
       → (Inner ws k (node-at ws k) → Passes mask ws (k - 1) → X) → X
   unfolding link
   by-node {X} k h p f g = go (comparing (node-at ws k)) refl
@@ -237,6 +246,16 @@ module _ (mask : ℕ) (ws : List ℕ) where
           let r = i .right in
           let m : k - node-words (node-at ws k) ≡ k - 1 = let w = words-plain (node-at ws k) (λ z. omega arith) (λ z. omega arith) in omega arith in
           g i (rw m at (before-passed k h p))
+
+  pub before-falls : (k : ℕ) → 0 < k → Passes mask ws k → node-at ws k .before < k
+  before-falls k h p = go (comparing (node-at ws k)) refl
+    where
+      go : (x : Bool) → comparing (node-at ws k) ≡ x → node-at ws k .before < k
+      go true e =
+          let t = sound-test mask ws k (node-at ws k) (node-passed k h p) (rw e tt) .0 in
+          let w = words-some (node-at ws k) in
+          omega arith
+      go false e = let u = sound-inner mask ws k (node-at ws k) (node-passed k h p) e .up in omega arith
 
   -- links from a place whose walk is sound lead to such places, down to a stop that they reach
   reach-passed : (f stop j : ℕ) → ((i : ℕ) → 0 < i → i ≤ j → Passes mask ws i → Passes mask ws (link ws i)) → T (reaches f ws stop j) → Passes mask ws j → Passes mask ws stop
@@ -292,3 +311,8 @@ pub sound-conditions : (mask : ℕ) (ws : List ℕ) (n : ℕ) → T (nodes-sound
 unfolding nodes-sound conditions-of
 sound-conditions mask ws n t =
     every-weaken (cond-sound mask) _ (granted mask) (list-in (2 * n + 1) ws 0 n []) (list-holds mask ws (2 * n + 1) 0 n [] (omega arith) (search parts) (none-sound mask))
+
+-- and none of them nests too deep
+pub sound-shallow : (mask : ℕ) (ws : List ℕ) (n : ℕ) → T (nodes-sound mask ws n) → T (shallow-conds (conditions-of ws n))
+unfolding nodes-sound
+sound-shallow mask ws n t = search parts

@@ -4,5 +4,7 @@ pub mod Reaching
 pub mod Links
 pub mod Tests
 pub mod Sizes
+pub mod Depths
 pub mod Stored
 pub mod Conditions
+pub mod Nesting

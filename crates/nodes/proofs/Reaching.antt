@@ -11,7 +11,7 @@ use borrow.Author.Tests.{eq-eqb, lt-ltb, le-ltb}
 use Rattle.lists.proofs.Laws.{append-nil}
 use Rattle.syntax.specs.Grammar.{Cond}
 use Rattle.model.specs.Queries.{Compare}
-use Rattle.nodes.specs.Nodes.{value-at, node-at, node-words, link, headed, cond-in, list-in, reaches, linked, node-sound, all-sound, nodes-sound}
+use Rattle.nodes.specs.Nodes.{value-at, node-at, node-words, link, headed, cond-in, list-in, conditions-of, reaches, linked, node-sound, all-sound, nodes-sound}
 
 pub link-falls : (ws : List ℕ) (k : ℕ) → link ws k ≤ k - 1
 unfolding link
@@ -83,6 +83,20 @@ module _ (ws : List ℕ) where
 
   pub list-off : (stop j : ℕ) (cs : List (Cond Compare)) → j ≤ stop → list-before stop j cs ≡ cs
   list-off stop j cs h = let e : 2 * j + 1 ≡ suc (2 * j) = omega arith in ap (λ (f : ℕ). list-in f ws stop j cs) e ∙ list-stop ws (2 * j) stop j cs h
+
+  list-append : (f stop j : ℕ) (cs : List (Cond Compare)) → list-in f ws stop j cs ≡ list-in f ws stop j [] ++ cs
+  list-append zero stop j cs = unfold cond-in in refl
+  list-append (suc f) stop j cs = go (decLt stop j) (list-append f stop (link ws j))
+    where
+      go : Dec (stop < j) → ((cs : List (Cond Compare)) → list-in f ws stop (link ws j) cs ≡ list-in f ws stop (link ws j) [] ++ cs) → list-in (suc f) ws stop j cs ≡ list-in (suc f) ws stop j [] ++ cs
+      go (yes h) i =
+          let c = cond-in f ws j in
+          list-step ws f stop j cs h ∙ i (c ∷ cs) ∙ sym (ap (λ l. l ++ cs) (list-step ws f stop j [] h ∙ i (c ∷ [])) ∙ append-assoc (list-in f ws stop (link ws j) []) (c ∷ []) cs)
+      go (no h) i = list-stop ws f stop j cs (omega arith) ∙ sym (ap (λ l. l ++ cs) (list-stop ws f stop j [] (omega arith)))
+
+  -- by its last condition
+  pub list-last : (stop j : ℕ) → stop < j → list-before stop j [] ≡ list-before stop (link ws j) [] ++ (cond-of j ∷ [])
+  list-last stop j h = list-on stop j [] h ∙ list-append (2 * link ws j + 1) stop (link ws j) (cond-of j ∷ [])
 
   pub cond-on : (k : ℕ) → 0 < k → cond-of k ≡ headed (node-at ws k) (list-before (link ws k) (k - 1) [])
   unfolding cond-in
@@ -164,8 +178,8 @@ module _ (vs ws : List ℕ) where
       go false e = e
 
   pub nodes-same : (mask n : ℕ) → Same vs ws n → nodes-sound mask vs n ≡ nodes-sound mask ws n
-  unfolding nodes-sound
-  nodes-same mask n h = rw (all-same (suc n) mask n h, reaches-same (suc n) 0 n h)
+  unfolding nodes-sound conditions-of
+  nodes-same mask n h = rw (all-same (suc n) mask n h, reaches-same (suc n) 0 n h, list-same (2 * n + 1) 0 n [] h)
 
 -- ---- chains
 

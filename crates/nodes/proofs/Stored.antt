@@ -1,24 +1,26 @@
 -- Conditions that are stored are there, and sound where their comparisons are.
 use mathlib.Core.Path.{_≡_, refl, sym, ap, ap₂, _∙_}
 use mathlib.Core.List.{List, [], _∷_, map}
-use mathlib.Core.Bool.{true, _||_}
+use mathlib.Core.Bool.{true, _&&_, _||_}
 use Prim.Native.Nat.{ℕ, zero, suc, _+_, _*_, _-_, _≤_, _<_}
 use native.Mathlib.Omega.{arith}
-use lib.Dec.{T, eqb, ltb, eqb-refl, leb→le, ltb→lt}
+use lib.Dec.{T, eqb, leb, ltb, eqb-refl, leb→le, ltb→lt}
 use lib.ListN.{length, take}
 use borrow.Author.Tests.{ne-eqb, lt-ltb, le-leb, lt-leb}
 use Rattle.lists.specs.Lists.{every}
 use Rattle.lists.proofs.Laws.{and-both, parts, append-nil, every-append-l, every-append-r, T-true}
 use Rattle.syntax.specs.Grammar.{Cond, test, all, any, neg, Conds, last, more}
+use Rattle.syntax.specs.Limits.{cond-depth}
 use Rattle.model.specs.Conditions.{tests, tests-of, map-cond, map-conds, conds-of}
 use Rattle.model.specs.Queries.{Compare}
 use Rattle.nodes.specs.declared.Node.{Node}
-use Rattle.nodes.specs.Nodes.{node-words, node-at, link, node-compare, some-conds, first-cond, headed, cond-in, list-in, conditions-of, comparing, reaches, linked, terms-sound, node-sound, all-sound, nodes-sound}
+use Rattle.nodes.specs.Nodes.{node-words, node-at, link, node-compare, some-conds, first-cond, headed, cond-in, list-in, conditions-of, comparing, reaches, linked, terms-sound, node-sound, all-sound, max-nesting, nodes-sound}
 use Rattle.nodes.specs.Storing.{put-node, value-fits, fits, conds-list, size, sizes, compared, inner-node, store, store-all, list-size, store-list}
 use Rattle.nodes.proofs.Puts.{Narrow, words-some, node-put, put-outside}
 use Rattle.nodes.proofs.Reaching.{Same, Stands, Chain, chain-end, chain-more, chain-list, chain-reaches, chain-join, chain-same, link-same, all-same, nodes-same}
 use Rattle.nodes.proofs.Tests.{all-before}
 use Rattle.nodes.proofs.Sizes.{size-some, sizes-some, length-store, length-all, compared-words, same-all, same-list, take-same}
+use Rattle.nodes.proofs.Depths.{shallow-map}
 
 -- ---- one condition, whose words are those after the first b up to place k
 
@@ -310,15 +312,18 @@ module _ (cs : List (Cond Node)) (ws : List ℕ) (h : T (every (λ c. every fits
   unfolding all-sound
   none-left mask vs = tt
 
-  -- and may be lent
-  pub stored-sound : (mask : ℕ) → T (every (λ c. every (terms-sound mask) (tests c)) cs) → T (nodes-sound mask (store-list cs 0 ws) (list-size cs))
-  unfolding nodes-sound
-  stored-sound mask t =
-      let ws′ = store-list cs 0 ws in
-      let n = list-size cs in
-      and-both (all-sound (suc n) mask ws′ n) (reaches (suc n) ws′ 0 n) (from-none .sound mask t (none-left mask ws′)) (rw (chain-reaches (from-none .chain) (suc n) (omega arith)) tt)
+  -- and may be lent, where none of them nests too deep
+  module _ (mask : ℕ) (t : T (every (λ c. every (terms-sound mask) (tests c)) cs)) (d : T (every (λ c. leb (cond-depth c) max-nesting) cs)) where
+    pub stored-sound : T (nodes-sound mask (store-list cs 0 ws) (list-size cs))
+    unfolding nodes-sound
+    stored-sound =
+        let ws′ = store-list cs 0 ws in
+        let n = list-size cs in
+        and-both (all-sound (suc n) mask ws′ n && reaches (suc n) ws′ 0 n) _
+        (and-both (all-sound (suc n) mask ws′ n) (reaches (suc n) ws′ 0 n) (from-none .sound mask t (none-left mask ws′)) (rw (chain-reaches (from-none .chain) (suc n) (omega arith)) tt))
+        (rw (stored-list, shallow-map node-compare cs) d)
 
-  -- so words that may not be lent are not those of any conditions over the mask
-  pub sound-stored : (mask n : ℕ) → T (every (λ c. every (terms-sound mask) (tests c)) cs) → n ≡ list-size cs → take n ws ≡ take n (store-list cs 0 ws) → nodes-sound mask ws n ≡ true
-  sound-stored mask n t e k =
-      nodes-same ws (store-list cs 0 ws) mask n (take-same ws (store-list cs 0 ws) n k) ∙ ap (nodes-sound mask (store-list cs 0 ws)) e ∙ T-true (nodes-sound mask (store-list cs 0 ws) (list-size cs)) (stored-sound mask t)
+    -- so words that may not be lent are not those of any such conditions over the mask
+    pub sound-stored : (n : ℕ) → n ≡ list-size cs → take n ws ≡ take n (store-list cs 0 ws) → nodes-sound mask ws n ≡ true
+    sound-stored n e k =
+        nodes-same ws (store-list cs 0 ws) mask n (take-same ws (store-list cs 0 ws) n k) ∙ ap (nodes-sound mask (store-list cs 0 ws)) e ∙ T-true (nodes-sound mask (store-list cs 0 ws) (list-size cs)) stored-sound

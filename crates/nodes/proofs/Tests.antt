@@ -5,14 +5,15 @@ use mathlib.Core.Bool.{Bool, true, false, _&&_, _||_, not}
 use Prim.Native.Nat.{ℕ, zero, suc, _+_, _-_, _/_, _≤_, _<_}
 use native.Mathlib.Decide.{decLt}
 use native.Mathlib.Omega.{arith}
-use lib.Dec.{eqb, leb, ltb}
+use lib.Dec.{T, eqb, leb, ltb}
 use lib.ListN.{getD}
 use borrow.Author.Tests.{eq-eqb, ne-eqb, lt-ltb, le-ltb, le-leb, lt-leb, not-true, not-false}
+use Rattle.lists.proofs.Laws.{true-T}
 use Rattle.calls.specs.Validity.{valid-name}
 use Rattle.text.specs.Words.{name-of}
 use Rattle.masks.specs.Masks.{bit?}
 use Rattle.nodes.specs.declared.Node.{Node}
-use Rattle.nodes.specs.Nodes.{node-of, node-at, node-words, link, comparing, reaches, linked, in-mask, terms-sound, node-sound, all-sound, nodes-sound}
+use Rattle.nodes.specs.Nodes.{node-of, node-at, node-words, link, comparing, reaches, linked, in-mask, terms-sound, node-sound, conditions-of, all-sound, shallow-conds, nodes-sound}
 use Rattle.nodes.proofs.Puts.{words-some}
 use Rattle.nodes.proofs.Reaching.{link-falls, reaches-step, reaches-stop, reaches-fuel}
 
@@ -240,8 +241,16 @@ module _ (mask : ℕ) (ws : List ℕ) (n : ℕ) {x : Bool} (p : x ≡ all-sound 
   unfolding nodes-sound
   nodes-stop f = rw (sym p ∙ not-true x f)
 
-  pub nodes-end : {r : Bool} → not x ≡ false → r ≡ reaches (suc n) ws 0 n → r ≡ nodes-sound mask ws n
-  unfolding nodes-sound
-  nodes-end f e = rw (sym p ∙ not-false x f) e
+  module _ (f : not x ≡ false) {y : Bool} (q : y ≡ reaches (suc n) ws 0 n) where
+    pub nodes-astray : not y ≡ true → false ≡ nodes-sound mask ws n
+    unfolding nodes-sound
+    nodes-astray g = rw (sym p ∙ not-false x f, sym q ∙ not-true y g)
 
-pub ruleset nodes-ends = (nodes-stop, nodes-end)
+    pub nodes-end : not y ≡ false → {r : Bool} → ((m : ℕ) → T (all-sound (suc n) m ws n) → T (reaches (suc n) ws 0 n) → r ≡ shallow-conds (conditions-of ws n)) → r ≡ nodes-sound mask ws n
+    unfolding nodes-sound
+    nodes-end g e =
+        let a = sym p ∙ not-false x f in
+        let b = sym q ∙ not-false y g in
+        rw (a, b) (e mask (true-T (all-sound (suc n) mask ws n) a) (true-T (reaches (suc n) ws 0 n) b))
+
+pub ruleset nodes-ends = (nodes-stop, nodes-astray, nodes-end)

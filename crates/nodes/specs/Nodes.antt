@@ -8,8 +8,9 @@ use Prim.Native.Nat.{ℕ, zero, suc, _+_, _*_, _-_, _/_, _%_, min}
 use lib.IntN.{ℤ, pos, negsuc}
 use lib.Dec.{leb, ltb, eqb}
 use lib.ListN.{getD}
+use Rattle.lists.specs.Lists.{every}
 use Rattle.syntax.specs.Grammar.{Op, eq, ne, lt, le, gt, ge, Cond, test, all, any, neg, Conds, last}
-use Rattle.syntax.specs.Limits.{max-columns}
+use Rattle.syntax.specs.Limits.{max-columns, max-depth, cond-depth}
 use Rattle.model.specs.Conditions.{conds-of}
 use Rattle.model.specs.Queries.{Col, col, figure, Term, column, time, number, self, Compare}
 use Rattle.calls.specs.Validity.{valid-name}
@@ -130,6 +131,14 @@ all-sound zero mask ws k = true
 all-sound (suc f) mask ws k =
     elim (eqb k 0) [ true ↦ true | false ↦ node-sound mask ws k (node-at ws k) && all-sound f mask ws (k - node-words (node-at ws k)) ]
 
--- the first n words are those of a list of conditions over the columns of a mask
+-- how deep a condition of a grant may nest, a comparison by itself being 1: in a line its own bracket and that of `when` are open around it
+abbrev pub max-nesting : ℕ
+max-nesting = max-depth - 2
+
+-- none nests deeper
+unfoldable pub shallow-conds : List (Cond Compare) → Bool
+shallow-conds cs = every (λ c. leb (cond-depth c) max-nesting) cs
+
+-- the first n words are those of a list of conditions over the columns of a mask, none of which nests too deep
 unfoldable pub nodes-sound : ℕ → List ℕ → ℕ → Bool
-nodes-sound mask ws n = all-sound (suc n) mask ws n && reaches (suc n) ws 0 n
+nodes-sound mask ws n = all-sound (suc n) mask ws n && reaches (suc n) ws 0 n && shallow-conds (conditions-of ws n)

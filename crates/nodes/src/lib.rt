@@ -1,10 +1,12 @@
 // Conditions as nodes in words, one to three words a node: neither a recursion nor a table of grants carries them by value.
 ghost use mathlib.Core.Path.{_≡_};
-ghost use Prim.Native.Nat.{suc, _+_, _*_, _-_, _≤_};
+ghost use Prim.Native.Nat.{ℕ, suc, _+_, _*_, _-_, _≤_};
+ghost use lib.Dec.{T};
 ghost use lib.ListN.{length, getD};
-ghost use Rattle.nodes.specs.Nodes.{no-node, node-of, node-at, node-words, link, comparing, reaches, linked, in-mask, terms-sound, node-sound, all-sound, nodes-sound};
+ghost use Rattle.nodes.specs.Nodes.{no-node, node-of, node-at, node-words, link, conditions-of, comparing, reaches, linked, in-mask, terms-sound, node-sound, all-sound, max-nesting, shallow-conds, nodes-sound};
 ghost use Rattle.nodes.specs.Storing.{head-word, put-value, put-node};
 use terms::Term;
+use text::Line;
 
 // A comparison (heads 1 to 6: `=` `/=` `<` `<=` `>` `>=`) with the codes of its terms, or a condition of conditions (7 `and`, 8 `or`, 9 `not`).
 // `before` is how many words stand before those of this condition. `value` is a number or the name of a profile entry.
@@ -23,6 +25,15 @@ impl Node {
     pub const OR: u32 = 8;
 
     pub const NOT: u32 = 9;
+    // How deep a condition of a grant may nest: in a line its own bracket and that of `when` are open around it.
+    pub const NESTING: usize = Line::DEPTH - 2;
+
+    // Returns Node::NESTING, which is the bound of the definitions.
+    pub fn nesting() -> usize
+        ensures { λ r. ⌜ r ≡ max-nesting ⌝ }
+    {
+        Node::NESTING
+    }
 }
 
 // The word some places before another, or 0 where there is none.
@@ -261,12 +272,55 @@ fn all_sound(words: &[u32], n: usize, mask: u32) -> bool
     true
 }
 
-// Returns whether the first n words may be lent (refusal 12): they are those of a list of conditions over the columns of a mask.
+// A link as a place.
+fn place(before: u32) -> usize
+    ensures { λ r. ⌜ r ≡ before ⌝ }
+{
+    before as usize
+}
+
+// No condition nests too deep, where every node is sound and the last links lead down to the first: from the last node back to the first,
+// with how many words stand before each condition that the node is inside of, the outermost in place 1.
+fn nests_well(words: &[u32], n: usize) -> bool
+    ensures { λ r. ⌜ ((mask : ℕ) → T (all-sound (suc n) mask (now (words .entry)) n) → T (reaches (suc n) (now (words .entry)) 0 n) → r ≡ shallow-conds (conditions-of (now (words .entry)) n)) ⌝ }
+{
+    let mut around = [0u32; Node::NESTING];
+    let mut depth: usize = 0;
+    let mut k = n;
+    while 0 < k {
+        if k <= place(around[depth]) {
+            depth -= 1;
+            continue;
+        }
+        let node = unpacked(word(words, k, 1), 0);
+        let b = place(node.before);
+        if k <= b {
+            return false;
+        }
+        if node.head < Node::AND {
+            k = b;
+            continue;
+        }
+        depth += 1;
+        if depth == Node::NESTING {
+            return false;
+        }
+        around[depth] = node.before;
+        k -= 1;
+    }
+    true
+}
+
+// Returns whether the first n words may be lent (refusal 12): they are those of a list of conditions over the columns of a mask, none of which
+// nests too deep.
 pub fn nodes_sound(words: &[u32], n: usize, mask: u32) -> bool
     ensures { λ r. ⌜ r ≡ nodes-sound mask (now (words .entry)) n ⌝ }
 {
     if !all_sound(words, n, mask) {
         return false;
     }
-    reaches_stop(words, 0, n)
+    if !reaches_stop(words, 0, n) {
+        return false;
+    }
+    nests_well(words, n)
 }

@@ -15,8 +15,6 @@ when-at-spec =
     (λ c. search when-ends)
     {- cast-read-list -}
     (λ c. search needs)
-    {- sub-read-list -}
-    (λ c. search needs)
     {- read-list-requires -}
     (λ c κs. search needs)
     {- nothing-seen-requires -}

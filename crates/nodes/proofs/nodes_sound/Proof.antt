@@ -14,4 +14,8 @@ nodes-sound-spec =
     {- reaches-stop-requires -}
     (λ c κs. search needs)
     {- returns-2 -}
+    (λ c. search nodes-ends)
+    {- nests-well-requires -}
+    (λ c κs. search needs)
+    {- returns-3 -}
     (λ c. search nodes-ends))
