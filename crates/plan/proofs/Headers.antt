@@ -69,6 +69,7 @@ distinct-few (x ∷ xs) ys d h =
   where
     inside : (e : Col) → T (has xs e) → T (has ys e)
     inside e t = has-within e ys xs (search parts) t
+
     other : (e : Col) → T (has xs e) → T (not (same-col e x))
     other e t = apart-from x e xs (search parts) t
 

@@ -3,3 +3,7 @@ pub mod Limits
 pub mod Tables
 pub mod Headers
 pub mod Meaning
+pub mod Regular
+pub mod Rewriter
+pub mod Picks
+pub mod Rewritten

@@ -40,7 +40,7 @@ unfolding limited
 same-swap cs ds t =
     ap (λ rs. record { cols = t .cols; rows = rs })
     (select-same (λ r. every (holds (t .cols) r) (cs ++ ds)) (λ r. every (holds (t .cols) r) (ds ++ cs))
-      (λ r. every-cat (holds (t .cols) r) cs ds ∙ and-comm (every (holds (t .cols) r) cs) (every (holds (t .cols) r) ds) ∙ sym (every-cat (holds (t .cols) r) ds cs)) (t .rows))
+    (λ r. every-cat (holds (t .cols) r) cs ds ∙ and-comm (every (holds (t .cols) r) cs) (every (holds (t .cols) r) ds) ∙ sym (every-cat (holds (t .cols) r) ds cs)) (t .rows))
 
 append-assoc : {A : Type 0} (xs ys zs : List A) → (xs ++ ys) ++ zs ≡ xs ++ (ys ++ zs)
 append-assoc [] ys zs = refl

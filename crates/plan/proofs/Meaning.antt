@@ -47,7 +47,7 @@ pub data Kind (f : Form) : Type 0 where
   k-aggregate : f .kind ≡ 4 → Kind f
   k-under : 5 ≤ f .kind → Kind f
 
-kind-of : (f : Form) → Kind f
+pub kind-of : (f : Form) → Kind f
 kind-of f = go (f .kind) refl
   where
     go : (n : ℕ) → f .kind ≡ n → Kind f
@@ -79,7 +79,7 @@ module _ (w : Words) (f : Form) (qs : List (Query ℕ)) where
   unfolding with-form
   form-aggregate e = rw e refl
 
-  form-under : 5 ≤ f .kind → with-form w f qs ≡ under (view-limits w (view-of f)) (outer qs) ∷ inner qs
+  pub form-under : 5 ≤ f .kind → with-form w f qs ≡ under (view-limits w (view-of f)) (outer qs) ∷ inner qs
   unfolding with-form limits-at view-limits view-of
   form-under h =
       rw (ne-eqb (f .kind) 0 (λ e. omega arith), ne-eqb (f .kind) 1 (λ e. omega arith), ne-eqb (f .kind) 2 (λ e. omega arith), ne-eqb (f .kind) 3 (λ e. omega arith), ne-eqb (f .kind) 4 (λ e. omega arith)) refl

@@ -88,9 +88,26 @@ module _ (f : Form) (p : Plan) where
   pub pick-stored :
       p .count < 12
       → record {
-        left = p .left; right = p .right; joined = p .joined; first = p .first; second = p .second; order = p .order; other = p .other;
-        number = p .number; column = p .column; size = p .size; offset = p .offset; start = p .start; rights = p .rights; lefts = p .lefts; uppers = p .uppers;
-        count = p .count + 1; picks = set (p .picks) (p .count) (f .first); view = p .view; lview = p .lview; rview = p .rview;
+        left = p .left;
+        right = p .right;
+        joined = p .joined;
+        first = p .first;
+        second = p .second;
+        order = p .order;
+        other = p .other;
+        number = p .number;
+        column = p .column;
+        size = p .size;
+        offset = p .offset;
+        start = p .start;
+        rights = p .rights;
+        lefts = p .lefts;
+        uppers = p .uppers;
+        count = p .count + 1;
+        picks = set (p .picks) (p .count) (f .first);
+        view = p .view;
+        lview = p .lview;
+        rview = p .rview;
       }
       ≡ with-pick f p
   unfolding with-pick

@@ -300,7 +300,7 @@ module _ (clock : ℕ) (tab : ℕ → Table) (w : Words) where
         go true j =
             unfold with-aggregate pair-conds right-conds picks-in in inner-joined tab w figured j
             ∙ (ap₂ (λ e m. limited ((picks-in w p (p .lefts) e ++ view-limits w (p .view)) ++ (link tab w p ∷ [])) (pairs (limited m (tab (p .left))) (limited (right-conds w p) (tab (p .right)))))
-              ends (left-of-joined w figured j ∙ sym (left-of-joined w p j))
+            ends (left-of-joined w figured j ∙ sym (left-of-joined w p j))
             ∙ sym (inner-joined tab w p j))
         go false j =
             unfold with-aggregate picks-in in inner-alone tab w figured j

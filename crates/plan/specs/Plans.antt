@@ -40,8 +40,26 @@ view-limits w v =
 unfoldable pub no-plan : Plan
 no-plan =
     record {
-      left = 0; right = 0; joined = false; first = 0; second = 0; order = 0; other = 0; number = 0; column = 0; size = 0; offset = 0;
-      start = 0; rights = 0; lefts = 0; uppers = 0; count = 0; picks = replicate max-forms 0; view = no-view; lview = no-view; rview = no-view;
+      left = 0;
+      right = 0;
+      joined = false;
+      first = 0;
+      second = 0;
+      order = 0;
+      other = 0;
+      number = 0;
+      column = 0;
+      size = 0;
+      offset = 0;
+      start = 0;
+      rights = 0;
+      lefts = 0;
+      uppers = 0;
+      count = 0;
+      picks = replicate max-forms 0;
+      view = no-view;
+      lview = no-view;
+      rview = no-view;
     }
 
 -- all columns of a stream
@@ -52,55 +70,156 @@ stream-order ns s = order-of (map (λ c. s * max-columns + c) (count-from 0 (wid
 unfoldable pub with-rows : List ℕ → Form → Plan → Plan
 with-rows ns f p =
     record {
-      left = f .first; right = p .left; joined = false; first = 0; second = 0; order = stream-order ns (f .first); other = p .order;
-      number = 0; column = 0; size = 0; offset = 0; start = p .rights; rights = p .count; lefts = 0; uppers = 0; count = p .count;
-      picks = p .picks; view = no-view; lview = no-view; rview = p .view;
+      left = f .first;
+      right = p .left;
+      joined = false;
+      first = 0;
+      second = 0;
+      order = stream-order ns (f .first);
+      other = p .order;
+      number = 0;
+      column = 0;
+      size = 0;
+      offset = 0;
+      start = p .rights;
+      rights = p .count;
+      lefts = 0;
+      uppers = 0;
+      count = p .count;
+      picks = p .picks;
+      view = no-view;
+      lview = no-view;
+      rview = p .view;
     }
 
 -- a condition more
 unfoldable pub with-pick : Form → Plan → Plan
 with-pick f p =
     record {
-      left = p .left; right = p .right; joined = p .joined; first = p .first; second = p .second; order = p .order; other = p .other;
-      number = p .number; column = p .column; size = p .size; offset = p .offset; start = p .start; rights = p .rights; lefts = p .lefts; uppers = p .uppers;
-      count = cond (ltb (p .count) max-forms) (suc (p .count)) (p .count); picks = cond (ltb (p .count) max-forms) (set (p .picks) (p .count) (f .first)) (p .picks);
-      view = p .view; lview = p .lview; rview = p .rview;
+      left = p .left;
+      right = p .right;
+      joined = p .joined;
+      first = p .first;
+      second = p .second;
+      order = p .order;
+      other = p .other;
+      number = p .number;
+      column = p .column;
+      size = p .size;
+      offset = p .offset;
+      start = p .start;
+      rights = p .rights;
+      lefts = p .lefts;
+      uppers = p .uppers;
+      count = cond (ltb (p .count) max-forms) (suc (p .count)) (p .count);
+      picks = cond (ltb (p .count) max-forms) (set (p .picks) (p .count) (f .first)) (p .picks);
+      view = p .view;
+      lview = p .lview;
+      rview = p .rview;
     }
 
 -- other columns
 unfoldable pub with-keep : Form → Plan → Plan
 with-keep f p =
     record {
-      left = p .left; right = p .right; joined = p .joined; first = p .first; second = p .second; order = f .columns; other = p .other;
-      number = p .number; column = p .column; size = p .size; offset = p .offset; start = p .start; rights = p .rights; lefts = p .lefts; uppers = p .uppers;
-      count = p .count; picks = p .picks; view = p .view; lview = p .lview; rview = p .rview;
+      left = p .left;
+      right = p .right;
+      joined = p .joined;
+      first = p .first;
+      second = p .second;
+      order = f .columns;
+      other = p .other;
+      number = p .number;
+      column = p .column;
+      size = p .size;
+      offset = p .offset;
+      start = p .start;
+      rights = p .rights;
+      lefts = p .lefts;
+      uppers = p .uppers;
+      count = p .count;
+      picks = p .picks;
+      view = p .view;
+      lview = p .lview;
+      rview = p .rview;
     }
 
 -- two sides made one
 unfoldable pub with-join : Form → Plan → Plan
 with-join f p =
     record {
-      left = p .left; right = p .right; joined = true; first = f .first; second = f .second; order = order-from (p .order) (codes-in (p .other)); other = p .other;
-      number = 0; column = 0; size = 0; offset = 0; start = p .start; rights = p .rights; lefts = p .count; uppers = 0;
-      count = p .count; picks = p .picks; view = no-view; lview = p .view; rview = p .rview;
+      left = p .left;
+      right = p .right;
+      joined = true;
+      first = f .first;
+      second = f .second;
+      order = order-from (p .order) (codes-in (p .other));
+      other = p .other;
+      number = 0;
+      column = 0;
+      size = 0;
+      offset = 0;
+      start = p .start;
+      rights = p .rights;
+      lefts = p .count;
+      uppers = 0;
+      count = p .count;
+      picks = p .picks;
+      view = no-view;
+      lview = p .view;
+      rview = p .rview;
     }
 
 -- the conditions that follow are asked of its figures
 unfoldable pub with-aggregate : Form → Plan → Plan
 with-aggregate f p =
     record {
-      left = p .left; right = p .right; joined = p .joined; first = p .first; second = p .second; order = p .order; other = p .other;
-      number = f .first; column = f .second; size = f .third; offset = f .fourth; start = p .start; rights = p .rights; lefts = p .lefts; uppers = p .count;
-      count = p .count; picks = p .picks; view = p .view; lview = p .lview; rview = p .rview;
+      left = p .left;
+      right = p .right;
+      joined = p .joined;
+      first = p .first;
+      second = p .second;
+      order = p .order;
+      other = p .other;
+      number = f .first;
+      column = f .second;
+      size = f .third;
+      offset = f .fourth;
+      start = p .start;
+      rights = p .rights;
+      lefts = p .lefts;
+      uppers = p .count;
+      count = p .count;
+      picks = p .picks;
+      view = p .view;
+      lview = p .lview;
+      rview = p .rview;
     }
 
 -- other views
 unfoldable pub viewed : Plan → View → View → Plan
 viewed p v l =
     record {
-      left = p .left; right = p .right; joined = p .joined; first = p .first; second = p .second; order = p .order; other = p .other;
-      number = p .number; column = p .column; size = p .size; offset = p .offset; start = p .start; rights = p .rights; lefts = p .lefts; uppers = p .uppers;
-      count = p .count; picks = p .picks; view = v; lview = l; rview = p .rview;
+      left = p .left;
+      right = p .right;
+      joined = p .joined;
+      first = p .first;
+      second = p .second;
+      order = p .order;
+      other = p .other;
+      number = p .number;
+      column = p .column;
+      size = p .size;
+      offset = p .offset;
+      start = p .start;
+      rights = p .rights;
+      lefts = p .lefts;
+      uppers = p .uppers;
+      count = p .count;
+      picks = p .picks;
+      view = v;
+      lview = l;
+      rview = p .rview;
     }
 
 -- a grant's view
@@ -152,7 +271,7 @@ unfoldable pub inner-table : (ℕ → Table) → Words → Plan → Table
 inner-table tab w p =
     cond (p .joined)
     (limited (pair-conds w p ++ (equality (coded-col (p .first)) (coded-col (p .second)) ∷ []))
-      (pairs (limited (left-conds w p) (tab (p .left))) (limited (right-conds w p) (tab (p .right)))))
+    (pairs (limited (left-conds w p) (tab (p .left))) (limited (right-conds w p) (tab (p .right)))))
     (limited (left-conds w p) (tab (p .left)))
 
 -- the figures of these rows that meet the conditions above the aggregate
@@ -191,3 +310,7 @@ regular w ns (f ∷ fs) = form-regular w ns f fs && regular w ns fs
 unfoldable pub pick-count : List Form → ℕ
 pick-count [] = 0
 pick-count (f ∷ fs) = cond (eqb (f .kind) pick-form) (suc (pick-count fs)) (pick-count fs)
+
+-- a form that is an aggregate has its number
+unfoldable pub has-number : Form → Bool
+has-number f = cond (eqb (f .kind) aggregate-form) (not (eqb (f .first) 0)) true

@@ -121,15 +121,15 @@ module _ {w : Words} where
 -- ---- forms above a join, by their kind
 
 module _ (ns : List ℕ) (g : Granted) (f : Form) (fs : List Form) where
-  pair-same : {k : ℕ} → f .kind ≡ k → eqb k join-form ≡ false → eqb k keep-form ≡ false → pair-forms ns g (f ∷ fs) ≡ f ∷ pair-forms ns g fs
+  pub pair-same : {k : ℕ} → f .kind ≡ k → eqb k join-form ≡ false → eqb k keep-form ≡ false → pair-forms ns g (f ∷ fs) ≡ f ∷ pair-forms ns g fs
   unfolding pair-forms cut-form
   pair-same e i j = rw (ap (λ (k : ℕ). eqb k 3) e ∙ i, ap (λ (k : ℕ). eqb k 2) e ∙ j)
 
-  pair-kept : f .kind ≡ keep-form → pair-forms ns g (f ∷ fs) ≡ keep-of (order-within (g .shown) (f .columns)) ∷ pair-forms ns g fs
+  pub pair-kept : f .kind ≡ keep-form → pair-forms ns g (f ∷ fs) ≡ keep-of (order-within (g .shown) (f .columns)) ∷ pair-forms ns g fs
   unfolding pair-forms cut-form
   pair-kept e = rw (ap (λ (k : ℕ). eqb k 3) e, ap (λ (k : ℕ). eqb k 2) e)
 
-  pair-joined : f .kind ≡ join-form → pair-forms ns g (f ∷ fs) ≡ joined-forms ns g f fs
+  pub pair-joined : f .kind ≡ join-form → pair-forms ns g (f ∷ fs) ≡ joined-forms ns g f fs
   unfolding pair-forms
   pair-joined e = rw (ap (λ (k : ℕ). eqb k 3) e)
 
@@ -284,7 +284,7 @@ joined-long ns g f {q} {r} {fs} {hs} l m h k =
     let z = length-append fs hs in
     rw (rest-after l h hs) (omega arith)
 
-pair-long : {w : Words} (ns : List ℕ) (g : Granted) {q : M.Query ℕ} {fs : List Form} → Laid w q fs → (hs : ℕ → List Col) → T (allowed hs q) → length (pair-forms ns g fs) ≤ length fs + 3
+pub pair-long : {w : Words} (ns : List ℕ) (g : Granted) {q : M.Query ℕ} {fs : List Form} → Laid w q fs → (hs : ℕ → List Col) → T (allowed hs q) → length (pair-forms ns g fs) ≤ length fs + 3
 unfolding allowed
 pair-long ns g (laid-rows f e) hs t = rw (pair-same ns g f [] e refl refl) (unfold pair-forms in omega arith)
 pair-long ns g (laid-pick f {fs} e l) hs t = let i = pair-long ns g l hs (search parts) in rw (pair-same ns g f fs e refl refl) (omega arith)

@@ -46,18 +46,18 @@ summed-one : (d : Schema) (n : Numbered) (q : M.Query ℕ) → T (side q) → su
 unfolding summed single seen bare
 summed-one d n q h = rw (side-sources q h, side-bare q h)
 
-not-free : (b : Bool) → T b → T (not b) → ⊥
+pub not-free : (b : Bool) → T b → T (not b) → ⊥
 not-free true t u = u
 not-free false t u = t
 
 -- ---- forms above, by their kind
 
 module _ (ns : List ℕ) (g : Granted) (f : Form) (fs : List Form) where
-  sum-same : {k : ℕ} → f .kind ≡ k → eqb k aggregate-form ≡ false → sum-forms ns g (f ∷ fs) ≡ f ∷ sum-forms ns g fs
+  pub sum-same : {k : ℕ} → f .kind ≡ k → eqb k aggregate-form ≡ false → sum-forms ns g (f ∷ fs) ≡ f ∷ sum-forms ns g fs
   unfolding sum-forms
   sum-same e i = rw (ap (λ (k : ℕ). eqb k 4) e ∙ i)
 
-  sum-seen : f .kind ≡ aggregate-form → sum-forms ns g (f ∷ fs) ≡ f ∷ seen-forms ns g (side-stream fs)
+  pub sum-seen : f .kind ≡ aggregate-form → sum-forms ns g (f ∷ fs) ≡ f ∷ seen-forms ns g (side-stream fs)
   unfolding sum-forms
   sum-seen e = rw (ap (λ (k : ℕ). eqb k 4) e)
 
@@ -93,7 +93,7 @@ some-forms (laid-keep f e l) = omega arith
 some-forms (laid-join f e l m) = omega arith
 some-forms (laid-aggregate f e l) = omega arith
 
-sum-long : {w : Words} (ns : List ℕ) (g : Granted) {q : M.Query ℕ} {fs : List Form} → Laid w q fs → (hs : ℕ → List Col) → T (allowed hs q) → T (not (no-aggregate q)) → length (sum-forms ns g fs) ≤ length fs + 2
+pub sum-long : {w : Words} (ns : List ℕ) (g : Granted) {q : M.Query ℕ} {fs : List Form} → Laid w q fs → (hs : ℕ → List Col) → T (allowed hs q) → T (not (no-aggregate q)) → length (sum-forms ns g fs) ≤ length fs + 2
 unfolding allowed no-aggregate seen-forms
 sum-long ns g (laid-rows f e) hs t u = absurd u
 sum-long ns g (laid-pick f {fs} e l) hs t u = let i = sum-long ns g l hs (search parts) u in rw (sum-same ns g f fs e refl) (omega arith)

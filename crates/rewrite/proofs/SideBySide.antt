@@ -77,15 +77,15 @@ module _ (w : Words) (qs : List (M.Query ℕ)) where
 -- ---- a form, by its kind
 
 module _ (ns : List ℕ) (mask : ℕ) (g h : Granted) (f : Form) (fs : List Form) where
-  cut-rows : f .kind ≡ rows-form → cut-forms ns mask g h (f ∷ fs) ≡ seen-forms ns g f ++ cut-forms ns mask h h fs
+  pub cut-rows : f .kind ≡ rows-form → cut-forms ns mask g h (f ∷ fs) ≡ seen-forms ns g f ++ cut-forms ns mask h h fs
   unfolding cut-forms
   cut-rows e = rw (ap (λ (k : ℕ). eqb k 0) e)
 
-  cut-same : {k : ℕ} → f .kind ≡ k → eqb k rows-form ≡ false → eqb k keep-form ≡ false → cut-forms ns mask g h (f ∷ fs) ≡ f ∷ cut-forms ns mask g h fs
+  pub cut-same : {k : ℕ} → f .kind ≡ k → eqb k rows-form ≡ false → eqb k keep-form ≡ false → cut-forms ns mask g h (f ∷ fs) ≡ f ∷ cut-forms ns mask g h fs
   unfolding cut-forms cut-form
   cut-same e i j = rw (ap (λ (k : ℕ). eqb k 0) e ∙ i, ap (λ (k : ℕ). eqb k 2) e ∙ j)
 
-  cut-kept : f .kind ≡ keep-form → cut-forms ns mask g h (f ∷ fs) ≡ keep-of (order-within mask (f .columns)) ∷ cut-forms ns mask g h fs
+  pub cut-kept : f .kind ≡ keep-form → cut-forms ns mask g h (f ∷ fs) ≡ keep-of (order-within mask (f .columns)) ∷ cut-forms ns mask g h fs
   unfolding cut-forms cut-form
   cut-kept e = rw (ap (λ (k : ℕ). eqb k 0) e, ap (λ (k : ℕ). eqb k 2) e)
 
@@ -183,7 +183,7 @@ module _ (ns : List ℕ) (w : Words) (mask : ℕ) (g : Granted) (n : Numbered) (
 
 -- ---- how many forms they are
 
-cut-long : {w : Words} {q : M.Query ℕ} {fs : List Form} → Laid w q fs → (ns : List ℕ) (mask : ℕ) (g h : Granted) (gs : List Form) → length (cut-forms ns mask g h (fs ++ gs)) ≡ length fs + 2 * length (sources q) + length (cut-forms ns mask h h gs)
+pub cut-long : {w : Words} {q : M.Query ℕ} {fs : List Form} → Laid w q fs → (ns : List ℕ) (mask : ℕ) (g h : Granted) (gs : List Form) → length (cut-forms ns mask g h (fs ++ gs)) ≡ length fs + 2 * length (sources q) + length (cut-forms ns mask h h gs)
 unfolding sources seen-forms
 cut-long (laid-rows f e) ns mask g h gs = rw (cut-rows ns mask g h f gs e) (omega arith)
 cut-long (laid-pick f {fs} e l) ns mask g h gs = let i = cut-long l ns mask g h gs in rw (cut-same ns mask g h f (fs ++ gs) e refl refl) (omega arith)

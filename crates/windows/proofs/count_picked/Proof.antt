@@ -1,0 +1,143 @@
+use mathlib.Core.Path.{_≡_, refl, ap}
+use Prim.Native.Nat.{ℕ, suc, _+_, _-_, _≤_}
+use native.Mathlib.Omega.{arith}
+use lib.ListN.{length}
+use Rattle.windows.specs.Events.{fn-of, events-from}
+use Rattle.windows.specs.Windows.{Sought, answers, ahead}
+use Rattle.windows.specs.Lent.{picked-rows}
+use Rattle.windows.proofs.Skips.{held-below, held-next, ahead-falls}
+use Rattle.windows.proofs.Picks.{rows-left, rows-all, rows-none, left-counted, counted-few}
+use Rattle.windows.proofs.count_picked.Statement.{statement}
+use Rattle.windows.proofs.count_picked.Tie as tie
+
+abbrev Inv-loop : tie.InvT-loop
+Inv-loop f w times counts parts words picks room rows₀ p₀ rows p =
+    (k : ℕ) × Sought w times k p × (rows ≤ k) × (rows ≤ suc room)
+    × (rows + length (rows-left w (fn-of f) times counts parts words picks k) ≡ length (picked-rows words picks (answers w (fn-of f) (events-from times counts parts 0))))
+
+abbrev μ-loop : tie.MeasureT-loop
+μ-loop f w times counts parts words picks room rows₀ p₀ rows p = ahead w p
+
+next-requires : tie.Need-next-requires Inv-loop μ-loop
+next-requires c κs =
+    let s = c .before .before .before .before in
+    (s .pre .0, s .pre .1, s .pre .2 .events, omega arith, omega arith, λ m h. absurd (omega arith))
+
+loop-holds : tie.Need-loop-holds Inv-loop μ-loop
+loop-holds c =
+    let a = c .before .before .before .before .before .args in
+    let e = ap length (rows-all (a .w) (fn-of (a .f)) (a .times .now) (a .counts .now) (a .parts .now) (a .words .now) (a .picks .now)) in
+    (0, c .next .ensures, omega arith, omega arith, omega arith)
+
+returns : tie.Need-returns Inv-loop μ-loop
+returns c =
+    let l = c .before .before .loop in
+    let r = l .inv .3 in
+    let e = l .inv .4 in
+    omega arith
+
+mul-end : tie.Need-mul-end Inv-loop μ-loop
+mul-end c =
+    let s = c .before .before .before .before .before .before .before .before .before .before in
+    let a = s .args in
+    let l = c .before .before .before .before .loop in
+    let t = c .before .before .before .loop-test .taken in
+    let h = l .inv .1 .holds t in
+    omega (arith, h .ended, s .pre .0 .clock)
+
+add-end : tie.Need-add-end Inv-loop μ-loop
+add-end c =
+    let s = c .before .before .before .before .before .before .before .before .before .before .before in
+    let a = s .args in
+    let l = c .before .before .before .before .before .loop in
+    let t = c .before .before .before .before .loop-test .taken in
+    let h = l .inv .1 .holds t in
+    omega (arith, h .ended, s .pre .0 .clock)
+
+answer-at-requires : tie.Need-answer-at-requires Inv-loop μ-loop
+answer-at-requires c κs =
+    let s = c .before .before .before .before .before .before .before .before .before .before .before in
+    let a = s .args in
+    let l = c .before .before .before .before .before .loop in
+    let t = c .before .before .before .before .loop-test .taken in
+    let h = l .inv .1 .holds t in
+    (s .pre .1 .order, s .pre .2, h .within)
+
+counted-requires : tie.Need-counted-requires Inv-loop μ-loop
+counted-requires c κs =
+    let s = c .before .before .before .before .before .before .before .before .before .before .before .before in
+    let a = s .args in
+    let l = c .before .before .before .before .before .before .loop in
+    let t = c .before .before .before .before .before .loop-test .taken in
+    let q = l .inv .2 in
+    omega (arith, l .inv .1 .from t, held-below (a .w) (a .times .now) (l .p .window) (l .p .event) (s .pre .0 .offset) (l .inv .1 .holds t), s .pre .0 .clock)
+
+add-next : tie.Need-add-next Inv-loop μ-loop
+add-next c =
+    let s = c .before .before .before .before .before .before .before .before .before .before .before .before .before .before in
+    let a = s .args in
+    let l = c .before .before .before .before .before .before .before .before .loop in
+    let t = c .before .before .before .before .before .before .before .loop-test .taken in
+    omega (arith, held-below (a .w) (a .times .now) (l .p .window) (l .p .event) (s .pre .0 .offset) (l .inv .1 .holds t), s .pre .0 .clock)
+
+next-requires-2 : tie.Need-next-requires-2 Inv-loop μ-loop
+next-requires-2 c κs =
+    let s = c .before .before .before .before .before .before .before .before .before .before .before .before .before .before in
+    let a = s .args in
+    let l = c .before .before .before .before .before .before .before .before .loop in
+    let t = c .before .before .before .before .before .before .before .loop-test .taken in
+    let n = held-next (a .w) (a .times .now) (l .p .window) (l .p .event) (l .inv .1 .holds t) in
+    (s .pre .0, s .pre .1, s .pre .2 .events, n .0, n .1, n .2)
+
+loop-less : tie.Need-loop-less Inv-loop μ-loop
+loop-less c =
+    let s = c .before .before .before .before .before .before .before .before .before .before .before .before .before .before .before in
+    let a = s .args in
+    let l = c .before .before .before .before .before .before .before .before .before .loop in
+    let t = c .before .before .before .before .before .before .before .before .loop-test .taken in
+    ahead-falls (a .w) (a .times .now) (l .inv .0) (l .p) (c .next2 .result) (s .pre .0 .offset) (l .inv .1) t (c .next2 .ensures)
+
+loop-again : tie.Need-loop-again Inv-loop μ-loop
+loop-again c =
+    let s = c .before .before .before .before .before .before .before .before .before .before .before .before .before .before .before in
+    let a = s .args in
+    let l = c .before .before .before .before .before .before .before .before .before .loop in
+    let t = c .before .before .before .before .before .before .before .before .loop-test .taken in
+    let k = l .inv .1 .from t in
+    let q = l .inv .2 in
+    let r = l .inv .3 in
+    let e = l .inv .4 in
+    let v = c .before .before .before .answer-at in
+    let n = c .before .before .counted .ensures in
+    let m = left-counted (a .w) (fn-of (a .f)) (a .times .now) (a .counts .now) (a .parts .now) (a .words .now) (a .picks .now) (l .inv .0) (l .p) (s .pre .0 .offset) (s .pre .1) (l .inv .1) t (v .result) _ refl (v .ensures .0) (v .ensures .1) (l .rows) n in
+    let g = counted-few (a .words .now) (a .picks .now) (v .result) in
+    let i = c .before .before .before .before .before .before .before .if1 .left in
+    (l .p .window + 1, c .next2 .ensures, omega arith, omega arith, omega arith)
+
+returns-2 : tie.Need-returns-2 Inv-loop μ-loop
+returns-2 c =
+    let a = c .before .before .before .before .before .before .before .args in
+    let l = c .before .loop in
+    let r = l .inv .3 in
+    let e = l .inv .4 in
+    let g = ap length (rows-none (a .w) (fn-of (a .f)) (a .times .now) (a .counts .now) (a .parts .now) (a .words .now) (a .picks .now) (l .inv .0) (l .p) (l .inv .1) (c .loop-test .left)) in
+    omega arith
+
+pub count-picked-spec : {M : Type 1} → statement M
+count-picked-spec =
+    tie.close
+    (tie.spec
+    Inv-loop
+    μ-loop
+    next-requires
+    loop-holds
+    returns
+    mul-end
+    add-end
+    answer-at-requires
+    counted-requires
+    add-next
+    next-requires-2
+    loop-less
+    loop-again
+    returns-2)

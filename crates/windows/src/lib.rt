@@ -1,0 +1,441 @@
+// Figures of windows over events in order of time: only windows that have ended and hold an event are visited.
+ghost use mathlib.Core.Path.{_≡_};
+ghost use mathlib.Core.Bool.{false};
+ghost use mathlib.Core.List.{List, _∷_, []};
+ghost use Prim.Native.Nat.{ℕ, suc, _+_, _*_, _^_, _≤_, _<_, min};
+ghost use lib.IntN.{ℤ, natAbs};
+ghost use lib.ListN.{length};
+ghost use lib.Seq.{sets};
+ghost use Rattle.syntax.specs.Grammar.{Fn};
+ghost use Rattle.model.specs.Answers.{row-cells};
+ghost use Rattle.figures.specs.Figures.{row-of};
+ghost use Rattle.windows.specs.Events.{fn-of, with-event, figure-in, event-at, events-from, window-tally};
+ghost use Rattle.windows.specs.Windows.{Bounded, Timed, Before, Ordered, Reached, Sought, Parts, most-events, answers};
+ghost use Rattle.windows.specs.Lent.{windows-sound, part-sound, event-sound, events-sound, answers-in, picked-rows, Put, Written};
+use figures::Answer;
+use text::Time;
+
+// The windows of an aggregate: number k covers the times from k * offset up to, not including, k * offset + size.
+pub struct Windows {
+    pub clock: u32,
+    pub size: u32,
+    pub offset: u32,
+}
+
+// A window that has ended, with the place of its first event.
+pub struct Place {
+    pub found: bool,
+    pub window: u32,
+    pub event: u32,
+}
+
+// Rows of one time: how many, and their least, greatest or summed value.
+pub struct Event {
+    pub time: u32,
+    pub count: u32,
+    pub part: i64,
+}
+
+// What an aggregate has seen.
+pub struct Tally {
+    pub count: u32,
+    pub part: i64,
+}
+
+// The first place from i on whose time is not below `start`.
+fn first_from(times: &[u32], i: u32, start: u32) -> u32
+    requires { ⌜ (i ≤ length (now times)) × (length (now times) ≤ most-events) ⌝ }
+    ensures { λ r. ⌜ Reached (now (times .entry)) i start r ⌝ }
+{
+    let n = times.len() as u32;
+    let mut j = i;
+    while j < n {
+        if start <= times[j as usize] {
+            return j;
+        }
+        j += 1;
+    }
+    j
+}
+
+// No such window.
+fn nowhere() -> Place
+    ensures { λ r. ⌜ r .found ≡ false ⌝ }
+{
+    Place {
+        found: false,
+        window: 0,
+        event: 0,
+    }
+}
+
+// The first window from number k on that has ended and holds an event. All events before place i are before window k.
+fn next(w: Windows, times: &[u32], k: u32, i: u32) -> Place
+    requires { ⌜ Bounded w × Timed (w .clock) (now times) × (length (now times) ≤ most-events) × (k * w .offset ≤ w .clock + w .offset) × (i ≤ length (now times)) × Before (now times) i (k * w .offset) ⌝ }
+    ensures { λ r. ⌜ Sought w (now (times .entry)) k r ⌝ }
+{
+    if w.clock < w.size {
+        return nowhere();
+    }
+    let mut window = k;
+    let mut start = k * w.offset;
+    let mut event = i;
+    while start <= w.clock - w.size {
+        event = first_from(times, event, start);
+        if times.len() <= event as usize {
+            return nowhere();
+        }
+        let t = times[event as usize];
+        if t - start < w.size {
+            return Place {
+                found: true,
+                window: window,
+                event: event,
+            };
+        }
+        window = (t - w.size) / w.offset + 1;
+        start = window * w.offset;
+    }
+    nowhere()
+}
+
+// The event at place i.
+fn event_at(times: &[u32], counts: &[u32], parts: &[i64], k: u32) -> Event
+    requires { ⌜ (k < length (now times)) × (k < length (now counts)) × (k < length (now parts)) ⌝ }
+    ensures { λ r. ⌜ r ≡ event-at (now (times .entry)) (now (counts .entry)) (now (parts .entry)) k ⌝ }
+{
+    let i = k as usize;
+    Event {
+        time: times[i],
+        count: counts[i],
+        part: parts[i],
+    }
+}
+
+impl Tally {
+    // One event more.
+    fn with(self, f: u32, e: Event) -> Tally
+        requires { ⌜ (natAbs (self .part) ≤ 2 ^ 53) × (natAbs (e .part) ≤ 2 ^ 45) × (self .count ≤ 4194304) × (e .count ≤ 16384) ⌝ }
+        ensures { λ r. ⌜ r ≡ with-event (fn-of f) self e ⌝ }
+    {
+        let count = self.count + e.count;
+        if f == 1 {
+            if self.part <= e.part {
+                return Tally {
+                    count: count,
+                    part: self.part,
+                };
+            }
+            return Tally {
+                count: count,
+                part: e.part,
+            };
+        }
+        if f == 2 {
+            if self.part <= e.part {
+                return Tally {
+                    count: count,
+                    part: e.part,
+                };
+            }
+            return Tally {
+                count: count,
+                part: self.part,
+            };
+        }
+        Tally {
+            count: count,
+            part: self.part + e.part,
+        }
+    }
+
+    // The figure of what was seen.
+    fn figure(self, f: u32) -> i64
+        requires { ⌜ 1 ≤ self .count ⌝ }
+        ensures { λ r. ⌜ r ≡ figure-in (fn-of f) self ⌝ }
+    {
+        if f == 3 {
+            return self.count as i64;
+        }
+        if f == 4 {
+            return self.part / (self.count as i64);
+        }
+        self.part
+    }
+}
+
+// The tally of the event at place i and of those after it that come before a time.
+fn tally_at(f: u32, times: &[u32], counts: &[u32], parts: &[i64], i: u32, end: u32) -> Tally
+    requires { ⌜ Ordered (now times) × Parts (now times) (now counts) (now parts) × (i < length (now times)) ⌝ }
+    ensures { λ r. ⌜ (r ≡ window-tally (fn-of f) (now (times .entry)) (now (counts .entry)) (now (parts .entry)) i end) × (1 ≤ r .count) ⌝ }
+{
+    let first = event_at(times, counts, parts, i);
+    let mut t = Tally {
+        count: first.count,
+        part: first.part,
+    };
+    let n = times.len() as u32;
+    let mut j = i + 1;
+    while j < n {
+        let e = event_at(times, counts, parts, j);
+        if end <= e.time {
+            return t;
+        }
+        t = t.with(f, e);
+        j += 1;
+    }
+    t
+}
+
+// The answer row of a window that ends at a time, and whose first event stands at place i.
+fn answer_at(f: u32, times: &[u32], counts: &[u32], parts: &[i64], i: u32, end: u32) -> Answer
+    requires { ⌜ Ordered (now times) × Parts (now times) (now counts) (now parts) × (i < length (now times)) ⌝ }
+    ensures { λ r. ⌜ (r .end ≡ end) × (r .figure ≡ figure-in (fn-of f) (window-tally (fn-of f) (now (times .entry)) (now (counts .entry)) (now (parts .entry)) i end)) ⌝ }
+{
+    let t = tally_at(f, times, counts, parts, i, end);
+    Answer {
+        end: end,
+        figure: t.figure(f),
+    }
+}
+
+// The two cells of an answer row; what is past the last cell is left out.
+fn store(cells: &mut [i64], at: usize, a: Answer)
+    requires { ⌜ at < 2 ^ 63 ⌝ }
+    ensures { λ _. ⌜ now (cells .exit) ≡ sets (now (cells .entry)) at (row-cells (row-of a)) ⌝ }
+{
+    if cells.len() <= at {
+        return;
+    }
+    cells[at] = a.end as i64;
+    if cells.len() <= at + 1 {
+        return;
+    }
+    let figure = a.figure;
+    cells[at + 1] = figure;
+}
+
+// An answer row behind those before it, where the conditions hold; how many there are then.
+fn put(words: &[u32], picks: &[u32], a: Answer, cells: &mut [i64], at: u32, rows: u32) -> u32
+    requires { ⌜ rows < 2 ^ 31 ⌝ }
+    ensures { λ r. ⌜ Put (now (words .entry)) (now (picks .entry)) a (now (cells .entry)) at rows (now (cells .exit)) r ⌝ }
+{
+    if !figures::passes_all(words, picks, a) {
+        return rows;
+    }
+    store(cells, at as usize + rows as usize * 2, a);
+    rows + 1
+}
+
+// One answer row more, where the conditions hold.
+fn counted(words: &[u32], picks: &[u32], a: Answer, rows: u32) -> u32
+    requires { ⌜ rows < 2 ^ 31 ⌝ }
+    ensures { λ r. ⌜ r ≡ rows + length (picked-rows (now (words .entry)) (now (picks .entry)) (row-of a ∷ [])) ⌝ }
+{
+    if !figures::passes_all(words, picks, a) {
+        return rows;
+    }
+    rows + 1
+}
+
+impl Windows {
+    // Whether windows may be lent.
+    fn sound(self) -> bool
+        ensures { λ r. ⌜ r ≡ windows-sound self ⌝ }
+    {
+        if Time::TOP < self.clock {
+            return false;
+        }
+        if self.size == 0 {
+            return false;
+        }
+        if self.offset == 0 {
+            return false;
+        }
+        self.offset <= Time::TOP
+    }
+}
+
+impl Event {
+    // The least and the greatest part that it may have.
+    pub const LEAST: i64 = -35184372088832;
+
+    pub const GREATEST: i64 = 35184372088832;
+    // How many rows it may have.
+    pub const ROWS: u32 = 16384;
+    // How many events there may be.
+    pub const MOST: usize = 256;
+
+    // Whether an event may be lent behind a time.
+    fn sound(self, clock: u32, low: u32) -> bool
+        ensures { λ r. ⌜ r ≡ event-sound clock low self ⌝ }
+    {
+        if self.time < low {
+            return false;
+        }
+        if clock < self.time {
+            return false;
+        }
+        if self.count == 0 {
+            return false;
+        }
+        if Event::ROWS < self.count {
+            return false;
+        }
+        self.part_sound()
+    }
+
+    // Whether its part is not too large.
+    fn part_sound(self) -> bool
+        ensures { λ r. ⌜ r ≡ part-sound (self .part) ⌝ }
+    {
+        if Event::LEAST <= self.part {
+            return self.part <= Event::GREATEST;
+        }
+        false
+    }
+}
+
+// Returns whether events may be lent with windows (see `events-sound`).
+pub fn sound(w: Windows, times: &[u32], counts: &[u32], parts: &[i64]) -> bool
+    ensures { λ r. ⌜ r ≡ events-sound w (now (times .entry)) (now (counts .entry)) (now (parts .entry)) ⌝ }
+{
+    if !w.sound() {
+        return false;
+    }
+    if Event::MOST < times.len() {
+        return false;
+    }
+    if counts.len() != times.len() {
+        return false;
+    }
+    if parts.len() != times.len() {
+        return false;
+    }
+    let n = times.len() as u32;
+    let mut low: u32 = 0;
+    let mut i: u32 = 0;
+    while i < n {
+        let e = event_at(times, counts, parts, i);
+        if !e.sound(w.clock, low) {
+            return false;
+        }
+        low = e.time;
+        i += 1;
+    }
+    true
+}
+
+// How many answer rows there are; one more than the room where they are more.
+fn count_windows(w: Windows, times: &[u32], room: u32) -> u32
+    requires { ⌜ Bounded w × Timed (w .clock) (now times) × (length (now times) ≤ most-events) ⌝ }
+    ensures { λ r. ⌜ ((f : Fn) (cs : List ℕ) (ps : List ℤ) → r ≡ min (length (answers w f (events-from (now (times .entry)) cs ps 0))) (suc room)) ⌝ }
+{
+    let mut rows: u32 = 0;
+    let mut p = next(w, times, 0, 0);
+    while p.found {
+        if room < rows {
+            return rows;
+        }
+        rows += 1;
+        p = next(w, times, p.window + 1, p.event);
+    }
+    rows
+}
+
+// How many of them pass; one more than the room where they are more.
+fn count_picked(
+    f: u32,
+    w: Windows,
+    times: &[u32],
+    counts: &[u32],
+    parts: &[i64],
+    words: &[u32],
+    picks: &[u32],
+    room: u32,
+) -> u32
+    requires { ⌜ Bounded w × Timed (w .clock) (now times) × Parts (now times) (now counts) (now parts) ⌝ }
+    ensures { λ r. ⌜ r ≡ min (length (picked-rows (now (words .entry)) (now (picks .entry)) (answers w (fn-of f) (events-from (now (times .entry)) (now (counts .entry)) (now (parts .entry)) 0)))) (suc room) ⌝ }
+{
+    let mut rows: u32 = 0;
+    let mut p = next(w, times, 0, 0);
+    while p.found {
+        if room < rows {
+            return rows;
+        }
+        let end = p.window * w.offset + w.size;
+        let a = answer_at(f, times, counts, parts, p.event, end);
+        rows = counted(words, picks, a, rows);
+        p = next(w, times, p.window + 1, p.event);
+    }
+    rows
+}
+
+// Returns how many answer rows pass the conditions that end at some places of the words, or one more than the room where they are more; 0 where the events may not be lent.
+pub fn count(
+    f: u32,
+    w: Windows,
+    times: &[u32],
+    counts: &[u32],
+    parts: &[i64],
+    words: &[u32],
+    picks: &[u32],
+    room: u32,
+) -> u32
+    ensures { λ r. ⌜ r ≡ min (length (picked-rows (now (words .entry)) (now (picks .entry)) (answers-in (fn-of f) w (now (times .entry)) (now (counts .entry)) (now (parts .entry))))) (suc room) ⌝ }
+{
+    if !sound(w, times, counts, parts) {
+        return 0;
+    }
+    if picks.len() == 0 {
+        return count_windows(w, times, room);
+    }
+    count_picked(f, w, times, counts, parts, words, picks, room)
+}
+
+// The cells of those that pass.
+fn write_rows(
+    f: u32,
+    w: Windows,
+    times: &[u32],
+    counts: &[u32],
+    parts: &[i64],
+    words: &[u32],
+    picks: &[u32],
+    cells: &mut [i64],
+    at: u32,
+) -> u32
+    requires { ⌜ Bounded w × Timed (w .clock) (now times) × Parts (now times) (now counts) (now parts) ⌝ }
+    ensures { λ r. ⌜ Written (picked-rows (now (words .entry)) (now (picks .entry)) (answers w (fn-of f) (events-from (now (times .entry)) (now (counts .entry)) (now (parts .entry)) 0))) (now (cells .entry)) at (now (cells .exit)) r ⌝ }
+{
+    let mut rows: u32 = 0;
+    let mut p = next(w, times, 0, 0);
+    while p.found {
+        let end = p.window * w.offset + w.size;
+        let a = answer_at(f, times, counts, parts, p.event, end);
+        rows = put(words, picks, a, cells, at, rows);
+        p = next(w, times, p.window + 1, p.event);
+    }
+    rows
+}
+
+// Returns how many answer rows pass the conditions that end at some places of the words; 0 where the events may not be lent.
+// Leaves two cells a row from a place on, its end and its figure, as far as there are cells, and all others as they were.
+pub fn write(
+    f: u32,
+    w: Windows,
+    times: &[u32],
+    counts: &[u32],
+    parts: &[i64],
+    words: &[u32],
+    picks: &[u32],
+    cells: &mut [i64],
+    at: u32,
+) -> u32
+    ensures { λ r. ⌜ Written (picked-rows (now (words .entry)) (now (picks .entry)) (answers-in (fn-of f) w (now (times .entry)) (now (counts .entry)) (now (parts .entry)))) (now (cells .entry)) at (now (cells .exit)) r ⌝ }
+{
+    if !sound(w, times, counts, parts) {
+        return 0;
+    }
+    write_rows(f, w, times, counts, parts, words, picks, cells, at)
+}
