@@ -1,14 +1,13 @@
 // Conditions on an answer row of an aggregate. They stand as nodes in words, and are evaluated for one row.
 ghost use mathlib.Core.Path.{_≡_};
-ghost use mathlib.Core.List.{List, _∷_, []};
-ghost use mathlib.Core.Bool.{not};
-ghost use Prim.Native.Nat.{_+_, _*_, _-_, _<_, _≤_};
+ghost use mathlib.Core.List.{_∷_, []};
+ghost use Prim.Native.Nat.{_+_, _*_, _-_, _<_};
 ghost use lib.Signed.{ltZ, leZ};
-ghost use lib.ListN.{length, getD};
+ghost use lib.ListN.{getD};
 ghost use Rattle.model.specs.Queries.{figure};
 ghost use Rattle.model.specs.Meaning.{compares, holds};
 ghost use Rattle.nodes.specs.Nodes.{node-at, numbered-op, cond-in, list-in};
-ghost use Rattle.figures.specs.Figures.{row-of, meets, passing, coded-value, tested, connecting, decisive, joined, Leading, Standing};
+ghost use Rattle.figures.specs.Figures.{meets, passing, coded-value, tested, connecting, decisive, joined, Leading, Standing};
 use nodes::Node;
 use terms::Term;
 

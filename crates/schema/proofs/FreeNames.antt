@@ -75,7 +75,7 @@ bytes-step : (k n : ℕ) (bs : Bytes) → 0 < n → bytes-from (suc k) n bs ≡ 
 unfolding bytes-from
 bytes-step k n bs l = let e : eqb n 0 ≡ false = ne-eqb n 0 (λ p. omega arith) in rw (e, bytes-from)
 
-name-snoc : (n : ℕ) → 0 < n → n < code-end → name-of n ≡ name-of (n / 256) ++ (n % 256 ∷ [])
+pub name-snoc : (n : ℕ) → 0 < n → n < code-end → name-of n ≡ name-of (n / 256) ++ (n % 256 ∷ [])
 unfolding name-of
 name-snoc n l h =
     let d : n / 256 < past 7 = omega arith in

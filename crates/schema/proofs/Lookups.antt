@@ -65,7 +65,7 @@ pub length-schema : (ns : List ℕ) → length (schema-of ns) ≡ streams-in ns
 unfolding schema-of
 length-schema ns = map-length (stream-in ns) 0 (streams-in ns)
 
-nth-past : {A : Type 0} (d : A) (xs : List A) (n : ℕ) → length xs ≤ n → nth d xs n ≡ d
+pub nth-past : {A : Type 0} (d : A) (xs : List A) (n : ℕ) → length xs ≤ n → nth d xs n ≡ d
 unfolding nth
 nth-past d [] n h = refl
 nth-past d (x ∷ xs) zero h = absurd (omega arith)

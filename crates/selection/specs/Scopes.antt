@@ -11,9 +11,9 @@ use Rattle.syntax.specs.Limits.{max-streams, max-rows, top}
 use Rattle.model.specs.Queries.{Col, col, Compare, Row}
 use Rattle.model.specs.Meaning.{holds, both}
 use Rattle.model.specs.Grants.{limit}
-use Rattle.text.specs.Words.{name-of}
 use Rattle.ledger.specs.Records.{row-in, places-size, values-size}
-use Rattle.nodes.specs.Nodes.{unbiased, cond-in}
+use Rattle.nodes.specs.Nodes.{cond-in}
+unfoldable pub use Rattle.nodes.specs.Profiles.{entry-at, profile-in}
 use Rattle.grant.specs.Grants.{limit-of}
 use Rattle.rows.specs.declared.Rows.{Rows}
 use Rattle.rows.specs.Masks.{rows-of, no-rows}
@@ -48,14 +48,6 @@ times-fit sc ts = ltb (sc .stream) max-streams && leb (sc .rows) max-rows && leb
 
 unfoldable pub scope-fits : Scope → List ℕ → List ℤ → Bool
 scope-fits sc ts vs = times-fit sc ts && leb values-size (length vs)
-
--- ---- the caller's profile: a name and a value for each entry, the value in 32 bits with the lowest as 0
-
-unfoldable pub entry-at : List ℕ → ℕ → Entry
-entry-at ps i = record { name = name-of (getD ps (i * 2) 0); value = unbiased (getD ps (i * 2 + 1) 0 % 4294967296) }
-
-unfoldable pub profile-in : List ℕ → List Entry
-profile-in ps = map (entry-at ps) (count-from 0 (length ps / 2))
 
 -- ---- what is selected
 

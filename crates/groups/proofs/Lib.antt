@@ -1,0 +1,9 @@
+pub mod Adding
+pub mod Compacted
+pub mod Merged
+pub mod Tests
+pub mod Grouping
+pub mod Items
+pub mod Prefix
+pub mod Joins
+pub mod Streaming

@@ -1,0 +1,4 @@
+pub mod Groups
+pub mod Streams
+pub mod Compacting
+pub mod Merging

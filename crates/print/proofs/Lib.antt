@@ -1,0 +1,9 @@
+pub mod Putting
+pub mod Words
+pub mod Numbers
+pub mod Names
+pub mod Sides
+pub mod Walks
+pub mod Conditions
+pub mod Picks
+pub mod Whole
