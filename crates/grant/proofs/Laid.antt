@@ -22,7 +22,7 @@ use Rattle.grant.proofs.Compared.{compare-fit, terms-are, every-both-li
 
 -- ---- nodes
 
-one-word : (n : Node) → n .right ≡ 0 → node-words n ≡ 1
+pub one-word : (n : Node) → n .right ≡ 0 → node-words n ≡ 1
 unfolding node-words
 one-word n e = rw e
 
@@ -40,7 +40,7 @@ value-none ws k = go (eqb k 0)
     go false f g = rw (ne-eqb (w / 65536 % 256) 26 f, ne-eqb (w / 65536 % 256) 27 g)
 
 -- a link that is not too far is the node's own
-link-is : (ws : List ℕ) (k : ℕ) → node-at ws k .before < k → link ws k ≡ node-at ws k .before
+pub link-is : (ws : List ℕ) (k : ℕ) → node-at ws k .before < k → link ws k ≡ node-at ws k .before
 unfolding link
 link-is ws k h = omega arith
 
@@ -51,13 +51,13 @@ unfolding tests conds-of gather
 some-tests c [] = sym (append-nil (tests c))
 some-tests c (d ∷ ds) = ap (λ l. tests c ++ l) (some-tests d ds)
 
-headed-compare : (n : Node) (cs : List (Cond Compare)) → T (comparing n) → tests (headed n cs) ≡ node-compare n ∷ []
+pub headed-compare : (n : Node) (cs : List (Cond Compare)) → T (comparing n) → tests (headed n cs) ≡ node-compare n ∷ []
 unfolding comparing headed tests
 headed-compare n cs c =
     let l = leb→le (n .head) 6 (search parts) in
     rw (ne-eqb (n .head) 7 (λ e. omega arith), ne-eqb (n .head) 8 (λ e. omega arith), ne-eqb (n .head) 9 (λ e. omega arith))
 
-headed-list : (n : Node) (cs : List (Cond Compare)) → 0 < length cs → 7 ≤ n .head → n .head < 9 → tests (headed n cs) ≡ gather tests cs
+pub headed-list : (n : Node) (cs : List (Cond Compare)) → 0 < length cs → 7 ≤ n .head → n .head < 9 → tests (headed n cs) ≡ gather tests cs
 unfolding headed tests some-conds
 headed-list n [] some low high = absurd (omega arith)
 headed-list n (c ∷ cs) some low high = go (decLt (n .head) 8)
@@ -66,21 +66,21 @@ headed-list n (c ∷ cs) some low high = go (decLt (n .head) 8)
     go (yes a) = let e : n .head ≡ 7 = omega arith in rw (eq-eqb (n .head) 7 e) (some-tests c cs)
     go (no a) = let e : n .head ≡ 8 = omega arith in rw (ne-eqb (n .head) 7 (λ i. omega arith), eq-eqb (n .head) 8 e) (some-tests c cs)
 
-headed-one : (n : Node) (c : Cond Compare) → n .head ≡ 9 → tests (headed n (c ∷ [])) ≡ gather tests (c ∷ [])
+pub headed-one : (n : Node) (c : Cond Compare) → n .head ≡ 9 → tests (headed n (c ∷ [])) ≡ gather tests (c ∷ [])
 unfolding headed tests first-cond gather
 headed-one n c e = rw (ne-eqb (n .head) 7 (λ i. omega arith), ne-eqb (n .head) 8 (λ i. omega arith), eq-eqb (n .head) 9 e) (sym (append-nil (tests c)))
 
 module _ (ws : List ℕ) where
   -- ---- a test of every node, from the one that ends at a place back to the first
 
-  abbrev prior : ℕ → ℕ
+  abbrev pub prior : ℕ → ℕ
   prior k = k - node-words (node-at ws k)
 
-  unfoldable walk : (ℕ → Bool) → ℕ → ℕ → Bool
+  unfoldable pub walk : (ℕ → Bool) → ℕ → ℕ → Bool
   walk p zero k = true
   walk p (suc f) k = elim (eqb k 0) [ true ↦ true | false ↦ p k && walk p f (prior k) ]
 
-  prior-falls : (k : ℕ) → 0 < k → prior k < k
+  pub prior-falls : (k : ℕ) → 0 < k → prior k < k
   prior-falls k h = let w = words-some (node-at ws k) in omega arith
 
   module _ (p : ℕ → Bool) where
@@ -102,10 +102,10 @@ module _ (ws : List ℕ) where
         go (no m) i = walk-none f k (omega arith) ∙ sym (walk-none g k (omega arith))
 
     -- with steps enough
-    abbrev back : ℕ → Bool
+    abbrev pub back : ℕ → Bool
     back k = walk p (suc k) k
 
-    back-on : (k : ℕ) → 0 < k → back k ≡ (p k && back (prior k))
+    pub back-on : (k : ℕ) → 0 < k → back k ≡ (p k && back (prior k))
     back-on k h = let r = prior-falls k h in walk-step k k h ∙ ap (λ b. p k && b) (walk-fuel k (suc (prior k)) (prior k) (omega arith) (omega arith))
 
   walk-both : (p q : ℕ → Bool) (f k : ℕ) → walk (λ k. p k && q k) f k ≡ (walk p f k && walk q f k)
@@ -118,10 +118,10 @@ module _ (ws : List ℕ) where
           ∙ sym (ap₂ _&&_ (walk-step p f k m) (walk-step q f k m))
       go (no m) e = walk-none (λ k. p k && q k) f k (omega arith) ∙ sym (ap₂ _&&_ (walk-none p f k (omega arith)) (walk-none q f k (omega arith)))
 
-  abbrev linked-at : ℕ → Bool
+  abbrev pub linked-at : ℕ → Bool
   linked-at k = linked ws k (node-at ws k)
 
-  linked-walk : (f k : ℕ) → linked-from f ws k ≡ walk linked-at f k
+  pub linked-walk : (f k : ℕ) → linked-from f ws k ≡ walk linked-at f k
   unfolding linked-from walk
   linked-walk zero k = refl
   linked-walk (suc f) k = go (eqb k 0) (linked-walk f (prior k))

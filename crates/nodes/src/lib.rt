@@ -173,8 +173,8 @@ fn reaches_stop(words: &[u32], stop: usize, j: usize) -> bool
     at == stop
 }
 
-// Whether a node is a comparison.
-fn compares(n: Node) -> bool
+// Returns whether a node is a comparison.
+pub fn compares(n: Node) -> bool
     ensures { λ r. ⌜ r ≡ comparing n ⌝ }
 {
     if n.head == 0 {

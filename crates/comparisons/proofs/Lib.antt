@@ -1,0 +1,4 @@
+pub mod Walked
+pub mod Entries
+pub mod Naming
+pub mod Equated

@@ -1,0 +1,106 @@
+-- Columns and aggregates by the numbers of forms.
+use mathlib.Core.Path.{_≡_, refl, sym, ap, ap₂, _∙_}
+use mathlib.Core.List.{List, [], _∷_, _++_, map}
+use mathlib.Core.Bool.{Bool, true, false, _&&_, _||_, cond}
+use Prim.Native.Nat.{ℕ, suc, _+_, _*_, _-_, _/_, _%_, _^_, _≤_, _<_}
+use native.Mathlib.Nat.{mod-eq-of-lt}
+use native.Mathlib.Decide.{decLt, ℕ-discrete}
+use native.Mathlib.Omega.{arith}
+use lib.Pow.{pow-lt}
+use lib.Bits.{bitAnd, bitOr, and-mask}
+use lib.Dec.{leb, ltb, eqb, lit<}
+use borrow.Author.Tests.{eq-eqb, ne-eqb, lt-ltb, le-ltb, le-leb}
+use Rattle.lists.specs.Lists.{some?, gather}
+use Rattle.syntax.specs.Grammar as G
+use Rattle.model.specs.Queries.{Col, col, figure}
+use Rattle.masks.specs.Masks.{bit?, inside, mask-of}
+use Rattle.masks.proofs.Bits.{bit-and, bit-past}
+use Rattle.masks.proofs.Lists.{bits-same, bit-mask, inside-alone}
+use Rattle.orders.specs.Orders.{codes-in}
+use Rattle.query.specs.Forms.{coded-col, cols-in, numbered-fn}
+use Rattle.comparisons.specs.Compared.{col-codes, column-code}
+use Rattle.needs.specs.Asking.{all-columns, bits-of, col-code, fn-code, fn-number}
+
+-- ---- one column
+
+pub code-of-col : (c : ℕ) → col-code (coded-col c) ≡ column-code c
+unfolding col-code coded-col column-code
+code-of-col c = go (decLt c 24)
+  where
+    go : Dec (c < 24) → col-code (cond (ltb c 24) (col (c / 6) (c % 6)) figure) ≡ cond (ltb c 24) c 25
+    go (yes h) = let e : c / 6 * 6 + c % 6 ≡ c = omega arith in rw (lt-ltb c 24 h) e
+    go (no h) = rw (le-ltb c 24 (omega arith))
+
+pub codes-of-col : (c : ℕ) → col-codes (coded-col c) ≡ cond (ltb c 24) (c ∷ []) []
+unfolding col-codes coded-col
+codes-of-col c = go (decLt c 24)
+  where
+    go : Dec (c < 24) → col-codes (cond (ltb c 24) (col (c / 6) (c % 6)) figure) ≡ cond (ltb c 24) (c ∷ []) []
+    go (yes h) = let e : c / 6 * 6 + c % 6 ≡ c = omega arith in rw (lt-ltb c 24 h, e, lt-ltb c 24 h)
+    go (no h) = rw (le-ltb c 24 (omega arith))
+
+-- ---- all columns
+
+-- the bits of all columns are those below 24
+pub bit-all : (i : ℕ) → bit? all-columns i ≡ ltb i 24
+bit-all i = go (decLt i 24)
+  where
+    go : Dec (i < 24) → bit? all-columns i ≡ ltb i 24
+    go (yes h) =
+        let e : bitAnd (2 ^ i) (2 ^ 24 - 1) ≡ 2 ^ i = and-mask (2 ^ i) 24 ∙ mod-eq-of-lt (pow-lt h) in
+        sym (inside-alone i all-columns) ∙ eq-eqb (bitAnd (2 ^ i) all-columns) (2 ^ i) e ∙ sym (lt-ltb i 24 h)
+    go (no h) = bit-past all-columns i 24 (lit< tt) (omega arith) ∙ sym (le-ltb i 24 (omega arith))
+
+-- ---- those of an order
+
+pub some-append : {A : Type 0} (p : A → Bool) (xs ys : List A) → some? p (xs ++ ys) ≡ (some? p xs || some? p ys)
+unfolding some?
+some-append p [] ys = refl
+some-append p (x ∷ xs) ys = go (p x) (some-append p xs ys)
+  where
+    go : (b : Bool) → some? p (xs ++ ys) ≡ (some? p xs || some? p ys) → (b || some? p (xs ++ ys)) ≡ ((b || some? p xs) || some? p ys)
+    go true e = refl
+    go false e = e
+
+low-codes : (cs : List ℕ) (i : ℕ) → (some? (λ j. eqb j i) cs && ltb i 24) ≡ some? (λ j. eqb j i) (gather col-codes (map coded-col cs))
+unfolding some? gather
+low-codes [] i = refl
+low-codes (c ∷ cs) i =
+    split (eqb c i) (some? (λ j. eqb j i) cs) (ltb i 24)
+    ∙ ap₂ _||_ (one (decLt c 24) (ℕ-discrete c i)) (low-codes cs i)
+    ∙ sym (some-append (λ j. eqb j i) (col-codes (coded-col c)) (gather col-codes (map coded-col cs)))
+  where
+    split : (a b t : Bool) → ((a || b) && t) ≡ ((a && t) || (b && t))
+    split true b true = refl
+    split true true false = refl
+    split true false false = refl
+    split false b t = refl
+
+    one : Dec (c < 24) → Dec (c ≡ i) → (eqb c i && ltb i 24) ≡ some? (λ j. eqb j i) (col-codes (coded-col c))
+    one (yes h) (yes e) = rw (codes-of-col c, lt-ltb c 24 h, eq-eqb c i e, lt-ltb i 24 (omega arith))
+    one (yes h) (no e) = rw (codes-of-col c, lt-ltb c 24 h, ne-eqb c i e)
+    one (no h) (yes e) = rw (codes-of-col c, le-ltb c 24 (omega arith), eq-eqb c i e, le-ltb i 24 (omega arith))
+    one (no h) (no e) = rw (codes-of-col c, le-ltb c 24 (omega arith), ne-eqb c i e)
+
+pub order-columns : (m : ℕ) → bitAnd (mask-of (codes-in m)) all-columns ≡ bits-of (cols-in m)
+unfolding bits-of cols-in
+order-columns m =
+    bits-same (bitAnd (mask-of (codes-in m)) all-columns) (mask-of (gather col-codes (map coded-col (codes-in m))))
+    (λ i. bit-and (mask-of (codes-in m)) all-columns i ∙ ap₂ _&&_ (bit-mask (codes-in m) i) (bit-all i) ∙ low-codes (codes-in m) i ∙ sym (bit-mask (gather col-codes (map coded-col (codes-in m))) i))
+
+-- ---- aggregates
+
+pub fn-of-number : (n : ℕ) → fn-code (numbered-fn n) ≡ fn-number n
+unfolding fn-code numbered-fn fn-number
+fn-of-number n = go (ℕ-discrete n 1) (ℕ-discrete n 2) (ℕ-discrete n 3) (ℕ-discrete n 4)
+  where
+    go : Dec (n ≡ 1) → Dec (n ≡ 2) → Dec (n ≡ 3) → Dec (n ≡ 4) → fn-code (numbered-fn n) ≡ fn-number n
+    go (yes a) b c d = rw a
+    go (no a) (yes b) c d = rw b
+    go (no a) (no b) (yes c) d = rw c
+    go (no a) (no b) (no c) (yes d) = rw d
+    go (no a) (no b) (no c) (no d) = rw (ne-eqb n 1 a, ne-eqb n 2 b, ne-eqb n 3 c, ne-eqb n 4 d) (sym (other (decLt n 5)))
+      where
+        other : Dec (n < 5) → cond (leb 1 n && ltb n 5) n 5 ≡ 5
+        other (yes h) = let e : n ≡ 0 = omega arith in rw e
+        other (no h) = rw (le-leb 1 n (omega arith), le-ltb n 5 (omega arith))

@@ -1,0 +1,1 @@
+// The routes of a query by their grants: definitions and theorems alone.
