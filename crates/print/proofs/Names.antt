@@ -9,8 +9,7 @@ use lib.Dec.{eqb, ltb}
 use lib.ListN.{length, getD, drop, drop-of-length-le}
 use lib.Seq.{drop-cons}
 use borrow.Author.Tests.{eq-eqb, ne-eqb, lt-ltb, le-ltb}
-use Rattle.lists.specs.Lists.{All, nth, count-from}
-use Rattle.lists.proofs.Laws.{map-same}
+use Rattle.lists.specs.Lists.{nth, count-from}
 use Rattle.lists.proofs.Counting.{map-length}
 use Rattle.syntax.specs.Grammar as G
 use Rattle.syntax.specs.Grammar.{Bytes, bytes, put-name, put-ref, put-open, put-form, put-items}
@@ -22,7 +21,7 @@ use Rattle.schema.proofs.Places.{filled-most}
 use Rattle.schema.proofs.Lookups.{nth-past, stream-is, columns-are, column-word, columns-past, length-schema}
 use Rattle.orders.specs.Orders.{codes-in}
 use Rattle.print.specs.Writing.{furthest, over, after, Put, byte-text, Long}
-use Rattle.print.specs.Texts.{group-name, stream-text, source-text, coded-ref, coded-col, ref-text, item-text, codes-text, columns-text}
+use Rattle.print.specs.Texts.{group-name, stream-text, source-text, coded-ref, coded-col, ref-text, col-text, item-text, codes-text, columns-text}
 use Rattle.print.proofs.Putting.{put-none, put-as, put-then, byte-out}
 use Rattle.print.proofs.Words.{word-past}
 
@@ -237,7 +236,18 @@ module _ (d : Schema) (code : ℕ) {m n : Bytes} {p q : ℕ} where
 
 pub ruleset ref-ends = (ref-figure, ref-time)
 
-pub item-end : (d : Schema) (code : ℕ) {m m₁ m₂ : Bytes} {p p₁ p₂ : ℕ} → Put (byte-text 32) m p m₁ p₁ → Put (ref-text d code) m₁ p₁ m₂ p₂ → Put (item-text d code) m p m₂ p₂
+module _ (d : Schema) (code : ℕ) {m n : Bytes} {p q : ℕ} where
+  pub col-column : code < 24 → Put (ref-text d code) m p n q → Put (col-text d code) m p n q
+  unfolding col-text ref-text coded-col coded-ref
+  col-column h x = put-as (λ r. ap (λ t. put-ref t r) (rw (lt-ltb code 24 h))) x
+
+  pub col-figure : 24 ≤ code → Put (put-name (name-of 112602893349477)) m p n q → Put (col-text d code) m p n q
+  unfolding col-text coded-col ref-of
+  col-figure h x = put-as (λ r. ap (λ t. put-ref t r) (rw (le-ltb code 24 h)) ∙ figure-word r) x
+
+pub ruleset col-ends = (col-column, col-figure)
+
+pub item-end : (d : Schema) (code : ℕ) {m m₁ m₂ : Bytes} {p p₁ p₂ : ℕ} → Put (byte-text 32) m p m₁ p₁ → Put (col-text d code) m₁ p₁ m₂ p₂ → Put (item-text d code) m p m₂ p₂
 unfolding item-text byte-text
 item-end d code x y = put-as (λ r. refl) (put-then x y)
 
@@ -255,7 +265,7 @@ module _ {d : Schema} {order : ℕ} {m₀ : Bytes} {p₀ : ℕ} where
 
   module _ {i : ℕ} {m : Bytes} {p : ℕ} (x : Rest d order i m₀ p₀ m p) {n : ℕ} (many : n ≡ length (codes-in order)) where
     some-left : (c : ℕ) (r : Bytes) → i < n → c ≡ getD (codes-in order) i 0 → codes-text d (drop i (codes-in order)) r ≡ item-text d c (codes-text d (drop (i + 1) (codes-in order)) r)
-    unfolding codes-text put-items item-text ref-text
+    unfolding codes-text put-items item-text col-text
     some-left c r h e =
         let f : i + 1 ≡ suc i = omega arith in
         ap (λ cs. codes-text d cs r) (drop-cons (codes-in order) i 0 (omega arith) ∙ ap₂ (λ (x j : ℕ). x ∷ drop j (codes-in order)) (sym e) (sym f))
@@ -276,18 +286,7 @@ module _ {d : Schema} {order : ℕ} {m₀ : Bytes} {p₀ : ℕ} where
 
 pub ruleset rest-ends = (rest-start, rest-more, rest-end)
 
--- ---- columns of the model
-
--- a code that is a column's or that of `figure`
-pub column-ref : (d : Schema) (code : ℕ) → code < 24 → coded-ref d code ≡ ref-of d (coded-col code)
-unfolding coded-ref coded-col
-column-ref d code h = rw (lt-ltb code 24 h, ne-eqb code 25 (λ e. omega arith))
-
-pub figure-ref : (d : Schema) → coded-ref d 25 ≡ ref-of d (coded-col 25)
-unfolding coded-ref coded-col ref-of
-figure-ref d = refl
-
--- a list of such codes is written as a list of columns
-pub codes-are : (d : Schema) {cs : List ℕ} (r : Bytes) → All (λ c. coded-ref d c ≡ ref-of d (coded-col c)) cs → codes-text d cs r ≡ put-items put-ref (map (ref-of d) (map coded-col cs)) r
-unfolding codes-text
-codes-are d {cs} r all = ap (λ rs. put-items put-ref rs r) (map-same (coded-ref d) (λ c. ref-of d (coded-col c)) all ∙ sym (map-map (ref-of d) coded-col cs))
+-- the text is that of a list of columns
+pub columns-listed : (d : Schema) (order : ℕ) (r : Bytes) → columns-text d order r ≡ put-items put-ref (map (ref-of d) (map coded-col (codes-in order))) r
+unfolding columns-text codes-text
+columns-listed d order r = ap (λ rs. put-items put-ref rs r) (sym (map-map (ref-of d) coded-col (codes-in order)))

@@ -41,19 +41,23 @@ source-text d s = put-form (form-of d (source s))
 unfoldable pub coded-ref : Schema → ℕ → Ref
 coded-ref d code = cond (ltb code time-code) (ref-of d (col (code / max-columns) (code % max-columns))) (cond (eqb code figure-code) G.figure G.time)
 
-unfoldable pub coded-col : ℕ → Col
-coded-col code = cond (eqb code figure-code) figure (col (code / max-columns) (code % max-columns))
-
 unfoldable pub ref-text : Schema → ℕ → Bytes → Bytes
 ref-text d code = put-ref (coded-ref d code)
 
+-- where only a column may stand: any code that no stream's column has is the aggregate's
+unfoldable pub coded-col : ℕ → Col
+coded-col code = cond (ltb code time-code) (col (code / max-columns) (code % max-columns)) figure
+
+unfoldable pub col-text : Schema → ℕ → Bytes → Bytes
+col-text d code = put-ref (ref-of d (coded-col code))
+
 -- a column after a space
 unfoldable pub item-text : Schema → ℕ → Bytes → Bytes
-item-text d code rest = 32 ∷ ref-text d code rest
+item-text d code rest = 32 ∷ col-text d code rest
 
 -- each after a space
 unfoldable pub codes-text : Schema → List ℕ → Bytes → Bytes
-codes-text d cs = put-items put-ref (map (coded-ref d) cs)
+codes-text d cs = put-items put-ref (map (λ c. ref-of d (coded-col c)) cs)
 
 -- those of an order
 unfoldable pub columns-text : Schema → ℕ → Bytes → Bytes

@@ -11,7 +11,7 @@ ghost use Rattle.terms.specs.Terms.{time-code};
 ghost use Rattle.nodes.specs.Nodes.{unbiased};
 ghost use Rattle.print.specs.Writing.{furthest, Put, byte-text, Long, digits-in};
 ghost use Rattle.nodes.specs.Profiles.{profile-in};
-ghost use Rattle.print.specs.Texts.{group-name, stream-text, source-text, ref-text, item-text, columns-text, values, self-text, left-text, right-text, opening, test-text, compares, cond-text, list-opening, list-text, when-text, First, Lasts, bounded, limit-text, bounding-text, bounds-text, close-text};
+ghost use Rattle.print.specs.Texts.{group-name, stream-text, source-text, ref-text, col-text, item-text, columns-text, values, self-text, left-text, right-text, opening, test-text, compares, cond-text, list-opening, list-text, when-text, First, Lasts, bounded, limit-text, bounding-text, bounds-text, close-text};
 use nodes::Node;
 use schema::Stream;
 use terms::Term;
@@ -354,12 +354,23 @@ pub fn put_ref(out: &mut [u8], p: u32, code: u32, names: &[u64]) -> u32
     put_word(out, p, Word::TIME)
 }
 
+// Returns the place after a column by its code where only a column may stand: any code that no stream's column has is `figure`.
+// Leaves the text at its places where there are such, and all else as it was.
+pub fn put_col(out: &mut [u8], p: u32, code: u32, names: &[u64]) -> u32
+    ensures { λ r. ⌜ Put (col-text (schema-of (now (names .entry))) code) (now (out .entry)) p (now (out .exit)) r ⌝ }
+{
+    if code < Term::TIME {
+        return put_column(out, p, code, names);
+    }
+    put_word(out, p, Word::FIGURE)
+}
+
 // A column after a space.
 fn put_item(out: &mut [u8], p: u32, code: u32, names: &[u64]) -> u32
     ensures { λ r. ⌜ Put (item-text (schema-of (now (names .entry))) code) (now (out .entry)) p (now (out .exit)) r ⌝ }
 {
     let a = put(out, p, b' ');
-    put_ref(out, a, code, names)
+    put_col(out, a, code, names)
 }
 
 // Returns the place after the columns of an order, each after one space.

@@ -9,7 +9,7 @@ put-item-spec =
     (tie.spec
     {- put-requires -}
     (λ c κs. search needs)
-    {- put-ref-requires -}
+    {- put-col-requires -}
     (λ c κs. search needs)
     {- same-length -}
     (λ c. search needs)
