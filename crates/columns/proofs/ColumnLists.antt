@@ -20,6 +20,7 @@ use Rattle.text.proofs.Fuel.{any-items-leaves}
 use Rattle.items.proofs.Lists.{more}
 use Rattle.masks.specs.Masks.{with-bit, mask-of}
 use Rattle.masks.proofs.Lists.{or-assoc}
+use Rattle.orders.specs.Orders.{with-code, order-from, order-of}
 use Rattle.terms.specs.declared.Reference.{Reference}
 use Rattle.terms.specs.Terms.{second-code, ref-read, ref-at, code-in, ref-code}
 use Rattle.terms.proofs.References.{ref-view}
@@ -61,6 +62,7 @@ columns-answer ns s r (some x) =
       unknown = r .read .unknown || some? (λ c. eqb (ref-code ns c) 28) (x .what);
       repeated = r .read .repeated || repeats ns (r .read .mask) (r .own) (x .what);
       mask = bitOr (r .read .mask) (mask-of (map (ref-code ns) (x .what)));
+      order = order-from (r .read .order) (map (ref-code ns) (x .what));
     }
 
 unfoldable pub column-step : List ℕ → Seen → Ref → Seen
@@ -70,8 +72,8 @@ column-step ns r c =
       own = kept-in (r .own) (ref-code ns c) (second-code c);
     }
 
-alike : {n : ℕ} {o p u v r t : Bool} {c d : ℕ} → o ≡ p → u ≡ v → r ≡ t → c ≡ d
-    → _≡_ {A = Columns} (record { ok = true; next = n; over = o; unknown = u; repeated = r; mask = c }) (record { ok = true; next = n; over = p; unknown = v; repeated = t; mask = d })
+alike : {n m : ℕ} {o p u v r t : Bool} {c d : ℕ} → o ≡ p → u ≡ v → r ≡ t → c ≡ d
+    → _≡_ {A = Columns} (record { ok = true; next = n; over = o; unknown = u; repeated = r; mask = c; order = m }) (record { ok = true; next = n; over = p; unknown = v; repeated = t; mask = d; order = m })
 alike e f g h = rw (e, f, g, h)
 
 code-joins : (ns : List ℕ) (m : ℕ) (c : Ref) (k : ℕ) → bitOr m (bitOr (2 ^ ref-code ns c) k) ≡ bitOr (with-bit m (ref-code ns c)) k
@@ -80,7 +82,7 @@ code-joins ns m c k =
     sym (or-assoc m (2 ^ ref-code ns c) k) ∙ ap (λ x. bitOr x k) (sym (with-small m (ref-code ns c) h))
 
 pub column-more : (ns : List ℕ) (s : Bytes) (r : Seen) (c : Ref) (o : Option (Read (List Ref))) → columns-answer ns s r (more c o) ≡ columns-answer ns s (column-step ns r c) o
-unfolding columns-answer column-step column-added repeats more bind every some? mask-of
+unfolding columns-answer column-step column-added repeats more bind every some? mask-of order-from
 column-more ns s r c none = refl
 column-more ns s r c (some xs) =
     alike (not-all (r .read .over) (short-ref c) (every short-ref (xs .what)))
@@ -108,7 +110,7 @@ columns-on ns form s r own i = on (columns-walk ns form s) (both r own) i
 
 -- at first nothing is read
 pub columns-start : (ns : List ℕ) (form : Bool) (s : Bytes) (at : ℕ) (own : List ℕ) {r : Columns} → r ≡ no-columns → columns-at ns form s at ≡ columns-on ns form s r (take 0 own) at
-unfolding columns-walk ref-view columns-on on columns-at columns-read columns-answer no-columns
+unfolding columns-walk ref-view columns-on on columns-at columns-read columns-answer no-columns order-of
 columns-start ns form s at own e = rw e (go (any-items (ends-by form) read-ref (drop at s)))
   where
     go : (o : Option (Read (List Ref))) → columns-read ns s o ≡ columns-answer ns s (both no-columns []) o
@@ -118,7 +120,7 @@ columns-start ns form s at own e = rw e (go (any-items (ends-by form) read-ref (
 -- ---- each end, and the way on
 
 ended : (ns : List ℕ) (s : Bytes) (i : ℕ) (r : Columns) (own : List ℕ) → i < length s → columns-answer ns s (both r own) (some (record { what = []; left = drop i s })) ≡ columns-ended r i
-unfolding columns-answer columns-ended repeats every some? mask-of
+unfolding columns-answer columns-ended repeats every some? mask-of order-from
 ended ns s i r own h = rw (end-place s i h) (alike (or-none (r .over)) (or-none (r .unknown)) (or-none (r .repeated)) (or-zero-r (r .mask)))
 
 pub columns-less : (s : Bytes) (i : ℕ) {c : Reference} → i < length s → c ≡ ref-at s (i + 1) → not (c .ok) ≡ false → length s - c .next < length s - i
@@ -157,10 +159,10 @@ pub ruleset columns-ends = (columns-start, columns-over, columns-close, columns-
 
 -- ---- one column more
 
-pub column-made : (r : Columns) (over again : Bool) (code : ℕ) {l u t : Bool} {m : ℕ} → l ≡ (r .over || over) → u ≡ (r .unknown || eqb code 28) → t ≡ (r .repeated || again) → m ≡ with-bit (r .mask) code
-    → record { ok = r .ok; next = r .next; over = l; unknown = u; repeated = t; mask = m } ≡ column-added r over code again
+pub column-made : (r : Columns) (over again : Bool) (code : ℕ) {l u t : Bool} {m o : ℕ} → l ≡ (r .over || over) → u ≡ (r .unknown || eqb code 28) → t ≡ (r .repeated || again) → m ≡ with-bit (r .mask) code → o ≡ with-code (r .order) code
+    → record { ok = r .ok; next = r .next; over = l; unknown = u; repeated = t; mask = m; order = o } ≡ column-added r over code again
 unfolding column-added
-column-made r over again code e f g h = rw (e, f, g, h)
+column-made r over again code e f g h i = rw (e, f, g, h, i)
 
 -- ---- the whole list, for a reader of lines
 

@@ -12,6 +12,7 @@ use Rattle.syntax.specs.Readers.{Read, closes, form-next, read-name, read-ref}
 use Rattle.text.specs.Readings.{any-items}
 use Rattle.items.specs.Items.{code-short, first-of}
 use Rattle.masks.specs.Masks.{bit?, with-bit, mask-of}
+use Rattle.orders.specs.Orders.{with-code, order-of}
 use Rattle.terms.specs.Terms.{entry-code, unknown-code, stream-found, second-code, ref-code}
 use Rattle.columns.specs.declared.Streams.{Streams}
 use Rattle.columns.specs.declared.Columns.{Columns}
@@ -81,9 +82,9 @@ repeats ns mask own [] = false
 repeats ns mask own (c ∷ cs) = again-in mask own (ref-code ns c) (second-code c) || repeats ns (with-bit mask (ref-code ns c)) (kept-in own (ref-code ns c) (second-code c)) cs
 
 unfoldable pub no-columns : Columns
-no-columns = record { ok = false; next = 0; over = false; unknown = false; repeated = false; mask = 0 }
+no-columns = record { ok = false; next = 0; over = false; unknown = false; repeated = false; mask = 0; order = 0 }
 
--- whether a name is too long, whether a column is not declared, whether one stands twice, and their codes as bits
+-- whether a name is too long, whether a column is not declared, whether one stands twice, and their codes as bits and in their order
 unfoldable pub columns-read : List ℕ → Bytes → Option (Read (List Ref)) → Columns
 columns-read ns s none = no-columns
 columns-read ns s (some r) =
@@ -94,6 +95,7 @@ columns-read ns s (some r) =
       unknown = some? (λ c. eqb (ref-code ns c) unknown-code) (r .what);
       repeated = repeats ns 0 [] (r .what);
       mask = mask-of (map (ref-code ns) (r .what));
+      order = order-of (map (ref-code ns) (r .what));
     }
 
 unfoldable pub columns-at : List ℕ → Bool → Bytes → ℕ → Columns
@@ -109,8 +111,9 @@ column-added r over code again =
       unknown = r .unknown || eqb code unknown-code;
       repeated = r .repeated || again;
       mask = with-bit (r .mask) code;
+      order = with-code (r .order) code;
     }
 
 -- what is read so far, where the list ends at a place
 unfoldable pub columns-ended : Columns → ℕ → Columns
-columns-ended r at = record { ok = true; next = at; over = r .over; unknown = r .unknown; repeated = r .repeated; mask = r .mask }
+columns-ended r at = record { ok = true; next = at; over = r .over; unknown = r .unknown; repeated = r .repeated; mask = r .mask; order = r .order }

@@ -23,7 +23,7 @@ impl Streams {
     pub const OVER: u32 = Stream::MOST as u32 + 1;
 }
 
-// Columns, by their codes as bits of a mask.
+// Columns, by their codes as bits of a mask, and in their order as one number.
 pub struct Columns {
     pub ok: bool,
     pub next: usize,
@@ -31,6 +31,7 @@ pub struct Columns {
     pub unknown: bool,
     pub repeated: bool,
     pub mask: u32,
+    pub order: u64,
 }
 
 impl Columns {
@@ -201,6 +202,7 @@ fn no_columns() -> Columns
         unknown: false,
         repeated: false,
         mask: 0,
+        order: 0,
     }
 }
 
@@ -212,6 +214,7 @@ fn with_column(r: Columns, over: bool, code: u32, again: bool) -> Columns
     let unknown = text::either(r.unknown, code == Term::UNKNOWN);
     let repeated = text::either(r.repeated, again);
     let mask = masks::with(r.mask, code);
+    let order = orders::with_code(r.order, code);
     Columns {
         ok: r.ok,
         next: r.next,
@@ -219,6 +222,7 @@ fn with_column(r: Columns, over: bool, code: u32, again: bool) -> Columns
         unknown: unknown,
         repeated: repeated,
         mask: mask,
+        order: order,
     }
 }
 
@@ -233,6 +237,7 @@ fn columns_ended(r: Columns, at: usize) -> Columns
         unknown: r.unknown,
         repeated: r.repeated,
         mask: r.mask,
+        order: r.order,
     }
 }
 

@@ -223,10 +223,13 @@ form-words ks (join a b q r) h =
 form-words ks (aggregate f c z w q) h = roomy-more (words-of ks q) (form-length q) (form-words ks q (and-r (ref? c) (form? q) h)) (omega arith)
 
 -- the conditions of a query take at most 99 words
-pub query-room : (ks : List ℕ) (bs : Bytes) (q : Form) → parse-query bs ≡ some q → length bs ≤ max-line → list-size (map (nodes-of ks) (form-conds q)) ≤ 99
+pub form-room : (ks : List ℕ) (q : Form) → T (form? q) → form-length q ≤ max-line → list-size (map (nodes-of ks) (form-conds q)) ≤ 99
 unfolding words-of
-query-room ks bs q e l = go (decLt 0 (words-of ks q)) (form-words ks q (query-parsed-printed bs q e .0)) (ap length (query-parsed-printed bs q e .1) ∙ query-text-length q)
+form-room ks q t l = go (decLt 0 (words-of ks q)) (form-words ks q t)
   where
-    go : Dec (0 < words-of ks q) → Roomy (words-of ks q) (form-length q) → length bs ≡ form-length q → words-of ks q ≤ 99
-    go (yes p) h k = let a = h .more p in omega arith
-    go (no p) h k = omega arith
+    go : Dec (0 < words-of ks q) → Roomy (words-of ks q) (form-length q) → words-of ks q ≤ 99
+    go (yes p) h = let a = h .more p in omega arith
+    go (no p) h = omega arith
+
+pub query-room : (ks : List ℕ) (bs : Bytes) (q : Form) → parse-query bs ≡ some q → length bs ≤ max-line → list-size (map (nodes-of ks) (form-conds q)) ≤ 99
+query-room ks bs q e l = let p = query-parsed-printed bs q e in let k = ap length (p .1) ∙ query-text-length q in form-room ks q (p .0) (omega arith)

@@ -156,7 +156,7 @@ unfolding stack
 stack-set single i zero v h = refl
 stack-set single i (suc n) v h = rw (getD-set-other single i n v false (λ e. omega arith), stack-set single i n v (omega arith))
 
-stack-push : (single : List Bool) (n : ℕ) (v : Bool) → n < length single → stack (set single n v) (n + 1) ≡ v ∷ stack single n
+pub stack-push : (single : List Bool) (n : ℕ) (v : Bool) → n < length single → stack (set single n v) (n + 1) ≡ v ∷ stack single n
 unfolding stack
 stack-push single n v h = rw (add-one n, getD-set-same single n v false h, stack-set single n n v (omega arith))
 

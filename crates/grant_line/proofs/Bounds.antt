@@ -99,7 +99,7 @@ pub conds-bounded : (cs : List (Cond Test)) → every cond-bounded cs ≡ every 
 unfolding cond-bounded cond-refs cond-numbers
 conds-bounded cs = every-gathered test-bounded cond-bounded tests (λ c. tests-bounded (tests c)) cs
 
-tests-over : (cs : List (Cond Test)) → some? test-over (gather tests cs) ≡ not (every cond-bounded cs)
+pub tests-over : (cs : List (Cond Test)) → some? test-over (gather tests cs) ≡ not (every cond-bounded cs)
 unfolding test-bounded
 tests-over cs = some-not test-over test-bounded (λ t. not-not-is (test-over t)) (gather tests cs) ∙ ap not (sym (conds-bounded cs))
 

@@ -95,7 +95,7 @@ unfoldable pub test-declared : List ℕ → Test → Bool
 test-declared ns t = every (ref-declared (schema-of ns)) (t .left ∷ operand-refs (t .right))
 
 module _ (ns : List ℕ) (sound : T (schema-sound ns)) where
-  ref-known : (r : Ref) → T (ref? r) → T (short-ref r) → eqb (ref-code ns r) 28 ≡ not (ref-declared (schema-of ns) r)
+  pub ref-known : (r : Ref) → T (ref? r) → T (short-ref r) → eqb (ref-code ns r) 28 ≡ not (ref-declared (schema-of ns) r)
   ref-known r t u = flip (eqb (ref-code ns r) 28) (ref-declared (schema-of ns) r) (code-declared ns sound r t u)
 
   -- the parts of a good comparison
@@ -110,7 +110,7 @@ module _ (ns : List ℕ) (sound : T (schema-sound ns)) where
       go true false c d u = absurd u
       go false b c d u = absurd u
 
-  test-known : (t : Test) → T (good-test t) → test-unknown ns t ≡ not (test-declared ns t)
+  pub test-known : (t : Test) → T (good-test t) → test-unknown ns t ≡ not (test-declared ns t)
   unfolding test-unknown test-declared left-code right-code every operand? operand-over operand-code operand-refs
   test-known t h = go (t .right) (x .2) (x .3)
     where

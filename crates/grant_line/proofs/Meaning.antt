@@ -120,7 +120,7 @@ module _ (ns : List ℕ) (sound : T (schema-sound ns)) (ss : List ℕ) (b : T (e
 
   -- ---- comparisons
 
-  ops-back : (o : Op) → numbered-op (op-number o) ≡ o
+  pub ops-back : (o : Op) → numbered-op (op-number o) ≡ o
   unfolding numbered-op op-number
   ops-back G.eq = refl
   ops-back G.ne = refl
@@ -130,7 +130,7 @@ module _ (ns : List ℕ) (sound : T (schema-sound ns)) (ss : List ℕ) (b : T (e
   ops-back G.ge = refl
 
   -- a column by its code
-  column-back : (r : Ref) (v : ℕ) → T (fine ns r) → ref-code ns r < 24 → coded-term (ref-code ns r) v ≡ C.term-of d r
+  pub column-back : (r : Ref) (v : ℕ) → T (fine ns r) → ref-code ns r < 24 → coded-term (ref-code ns r) v ≡ C.term-of d r
   unfolding coded-term fine
   column-back r v t l = let s = code-column ns sound r (search parts) (search parts) l in rw (lt-ltb (ref-code ns r) 24 l) (sym (s .term))
 
@@ -158,7 +158,7 @@ module _ (ns : List ℕ) (sound : T (schema-sound ns)) (ss : List ℕ) (b : T (e
   unfolding fine ref? short-ref
   dotted-low n m t e = code-low ns sound n m (search parts depth 6) (search parts depth 6) (search parts depth 6) (search parts depth 6) e (search parts)
 
-  operand-back : (o : Operand) → T (operand-fine ns o) → T (not (operand-over o)) → coded-term (operand-code ns o) (operand-value ns o) ≡ operand-of d o
+  pub operand-back : (o : Operand) → T (operand-fine ns o) → T (not (operand-over o)) → coded-term (operand-code ns o) (operand-value ns o) ≡ operand-of d o
   unfolding operand-fine operand-over operand-code operand-of
   operand-back (G.ref (G.dotted n m)) t u = go (is-self n) refl
     where
@@ -173,7 +173,7 @@ module _ (ns : List ℕ) (sound : T (schema-sound ns)) (ss : List ℕ) (b : T (e
   abbrev pub standing : Test → Bool
   standing t = (good-test t && test-declared ns t) && bit? mask (left-code ns t)
 
-  bounded-right : (t : Test) → T (good-test t) → T (not (operand-over (t .right)))
+  pub bounded-right : (t : Test) → T (good-test t) → T (not (operand-over (t .right)))
   unfolding good-test test-bounded test-over
   bounded-right t h = go (not (short-ref (t .left))) (operand-over (t .right)) (and-r (test? t) (not (not (short-ref (t .left)) || operand-over (t .right))) h)
     where
@@ -193,7 +193,7 @@ module _ (ns : List ℕ) (sound : T (schema-sound ns)) (ss : List ℕ) (b : T (e
   mutual
     unfolding map-cond
 
-    fused : (f : Test → Node) (g : Node → Compare) (c : Cond Test) → map-cond g (map-cond f c) ≡ map-cond (λ t. g (f t)) c
+    pub fused : (f : Test → Node) (g : Node → Compare) (c : Cond Test) → map-cond g (map-cond f c) ≡ map-cond (λ t. g (f t)) c
     fused f g (G.test t) = refl
     fused f g (G.all cs) = ap G.all (fused-all f g cs)
     fused f g (G.any cs) = ap G.any (fused-all f g cs)

@@ -273,6 +273,10 @@ mutual
       all-more c cs b ws (stored-cond c b ws (every-append-l fits (tests c) (tests-of cs) h) (omega arith) (omega arith))
       (stored-all cs (b + size c) (store c b ws) (every-append-r fits (tests c) (tests-of cs) h) (omega arith) (omega (arith, length-store c b ws)))
 
+-- a condition that is stored is there
+pub stored-stands : (c : Cond Node) (b : ℕ) (ws : List ℕ) → T (every fits (tests c)) → b + size c ≤ 255 → b + size c ≤ length ws → Stands (store c b ws) (b + size c) (map-cond node-compare c)
+stored-stands c b ws h l room = stored-cond c b ws h l room .stands
+
 -- ---- a list of conditions
 
 record StoredList (cs : List (Cond Node)) (ws : List ℕ) (b k : ℕ) : Type 0 where

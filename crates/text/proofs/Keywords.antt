@@ -15,12 +15,12 @@ use borrow.Author.Tests.{eq-eqb, ne-eqb, lt-leb, le-leb, lt-ltb, le-ltb, eqb-tru
 use Rattle.lists.specs.Lists.{All, all-nil, all-cons, every, same-list}
 use Rattle.lists.proofs.Laws.{parts, all-head, all-tail, all-weaken, all-every, same-list→eq}
 use Rattle.syntax.specs.Grammar.{Bytes, right-word}
-use Rattle.syntax.specs.Readers.{bind, ensure, _>>_, byte, run, past, plain, among, read-word, read-head, itself, read-open, head-word, heads, rights}
+use Rattle.syntax.specs.Readers.{bind, ensure, _>>_, byte, run, past, plain, among, read-word, read-head, itself, read-open, head-word, heads, rights, kind-word, kinds}
 use Rattle.syntax.specs.Limits.{short}
 use Rattle.text.specs.declared.Class.the-variants.{Plain}
 use Rattle.text.specs.declared.Word.{Word}
 use Rattle.text.specs.Words.{class-of, run-end, code-from, code-of, name-of}
-use Rattle.text.specs.Keywords.{word-code, octet, keyword?, word-at, WordAt, coded, numbered, head-number, head-coded, right-number, right-coded, place, opened-at, part-at, closes-at, line-open, keywords-compute}
+use Rattle.text.specs.Keywords.{word-code, octet, keyword?, word-at, WordAt, coded, numbered, head-number, head-coded, right-number, right-coded, kind-number, kind-coded, place, opened-at, part-at, closes-at, line-open, keywords-compute}
 use Rattle.text.proofs.Codes.{T-never, Octets, word-above, words-same, code-back, code-keyword}
 use Rattle.text.proofs.Runs.{first-byte, inside, run-head, run-from, run-length, run-word, run-place, run-room}
 
@@ -56,7 +56,7 @@ among-coded word (h ∷ hs) w k o = rw (same-word (word h) w (search parts) o, a
 pub named-word : (c : ℕ) (w : Bytes) → 0 < c → c < 18446744073709551616 → T (every octet w) → same-list (name-of c) w ≡ eqb c (word-code w)
 named-word c w p h o = same-word (name-of c) w (code-keyword c p h) o ∙ ap (λ n. eqb n (word-code w)) (code-back c h)
 
--- ---- numbers of heads and rights, by the arms of a `match`
+-- ---- numbers of heads, rights and forms, by the arms of a `match`
 
 -- x is none of the numbers: what the last arm knows
 abbrev None-from : Type 0 → List ℕ → ℕ → Type 0
@@ -93,6 +93,13 @@ right-arm e f = rw e f
 pub right-none : (x : ℕ) → None-from (Unit {0}) (0x72656164 ∷ 0x6d696e ∷ 0x6d6178 ∷ 0x636f756e74 ∷ 0x617667 ∷ 0x73756d ∷ []) x → 6 ≡ right-coded x
 unfolding keywords-compute codes
 right-none x h = sym (ap (numbered right-number 6) (none-coded right-word rights x (none-each (Unit {0}) (codes right-word rights) x h)))
+
+pub kind-arm : {x y : ℕ} {n : ℕ} → x ≡ y → n ≡ kind-coded y → n ≡ kind-coded x
+kind-arm e f = rw e f
+
+pub kind-none : (x : ℕ) → None-from (Unit {0}) (0x696e ∷ 0x7069636b ∷ 0x6b656570 ∷ 0x6a6f696e ∷ 0x6d696e ∷ 0x6d6178 ∷ 0x636f756e74 ∷ 0x617667 ∷ 0x73756d ∷ []) x → 10 ≡ kind-coded x
+unfolding keywords-compute codes
+kind-none x h = sym (ap (numbered kind-number 10) (none-coded kind-word kinds x (none-each (Unit {0}) (codes kind-word kinds) x h)))
 
 -- ---- the word at a place, as the code finds it
 

@@ -15,8 +15,8 @@ use mir.Val.{Fits}
 use borrow.Author.Tests.{eq-eqb, ne-eqb, eqb-true, eqb-false, ltb-true, ltb-false, le-leb, lt-leb}
 use Rattle.lists.specs.Lists.{every, empty?, same-list}
 use Rattle.lists.proofs.Laws.{cond-cases}
-use Rattle.syntax.specs.Grammar.{Bytes, bytes, stream, grant, clock, row, clear, caller, right-word, verb-word}
-use Rattle.syntax.specs.Readers.{Read, Reader, bind, ensure, _>>=_, _>>_, give, byte, run, past, plain, among, read-word, read-head, itself, read-open, read-name, read-int, head-word, heads, rights, word-opens, part-opens, read-part}
+use Rattle.syntax.specs.Grammar.{Bytes, bytes, eq, stream, grant, clock, row, clear, caller, ask, line, op-word, right-word, verb-word}
+use Rattle.syntax.specs.Readers.{Read, Reader, bind, ensure, _>>=_, _>>_, give, byte, run, past, plain, among, read-word, read-head, itself, read-open, read-name, read-int, head-word, heads, rights, kind-word, kinds, word-opens, part-opens, read-part}
 use Rattle.syntax.specs.Limits.{short}
 use Rattle.syntax.proofs.Steps.{from, done, run-past}
 use Rattle.syntax.proofs.Leaving.{open-leaves, head-less}
@@ -187,6 +187,11 @@ module _ (s : Bytes) (p : ℕ) {w : Word} (q : WordAt s p w) where
   unfolding keywords-compute
   right-is = word-is right-word rights tt s p q
 
+  -- the first word of a form
+  pub kind-is : read-word kind-word kinds (drop p s) ≡ bind (coded kind-word kinds (w .code)) (λ h. some (record { what = h; left = drop (w .next) s }))
+  unfolding keywords-compute
+  kind-is = word-is kind-word kinds tt s p q
+
 -- ---- parts: a space, an opening bracket and a keyword
 
 module _ (s : Bytes) (p : ℕ) {c : ℕ} {w : Bytes} (k : Spells c w) {r : ℕ} (e : r ≡ part-at s p c) where
@@ -317,6 +322,18 @@ pub caller-word : Spells 0x63616c6c6572 (verb-word caller)
 unfolding keywords-compute
 caller-word = record { keyword = tt; code = refl }
 
+pub ask-word : Spells 0x61736b (verb-word ask)
+unfolding keywords-compute
+ask-word = record { keyword = tt; code = refl }
+
+pub line-word : Spells 0x6c696e65 (verb-word line)
+unfolding keywords-compute
+line-word = record { keyword = tt; code = refl }
+
+pub equal-word : Spells 0x3d (op-word eq)
+unfolding keywords-compute
+equal-word = record { keyword = tt; code = refl }
+
 pub of-word : Spells 0x6f66 (bytes "of")
 unfolding keywords-compute
 of-word = record { keyword = tt; code = refl }
@@ -349,4 +366,4 @@ pub self-word : Spells 0x73656c66 (bytes "self")
 unfolding keywords-compute
 self-word = record { keyword = tt; code = refl }
 
-pub ruleset spelt = (stream-word, grant-word, clock-word, row-word, clear-word, caller-word, of-word, show-word, when-word, from-word, to-word, window-word, roles-word, self-word)
+pub ruleset spelt = (stream-word, grant-word, clock-word, row-word, clear-word, caller-word, of-word, show-word, when-word, from-word, to-word, window-word, roles-word, self-word, ask-word, line-word, equal-word)

@@ -7,9 +7,9 @@ use Prim.Native.Nat.{ℕ, _+_, _-_}
 use lib.Dec.{T, ltb, eqb}
 use lib.ListN.{length, drop, getD}
 use Rattle.lists.specs.Lists.{every, same-list}
-use Rattle.syntax.specs.Grammar.{Bytes, Op, eq, ne, lt, le, gt, ge, min, max, count, avg, sum, Right, read, figures, right-word}
+use Rattle.syntax.specs.Grammar.{Bytes, Op, eq, ne, lt, le, gt, ge, Fn, min, max, count, avg, sum, Right, read, figures, right-word}
 use Rattle.syntax.specs.Limits.{max-line, short}
-use Rattle.syntax.specs.Readers.{Read, plain, run, read-open, Head, compare, and, or, not-of, head-word, heads, rights, readers-compute}
+use Rattle.syntax.specs.Readers.{Read, plain, run, read-open, Head, compare, and, or, not-of, head-word, heads, rights, Kind, k-in, k-pick, k-keep, k-join, k-fn, kind-word, kinds, readers-compute}
 use Rattle.text.specs.Words.{code-from, code-of, bytes-from, name-of, run-end}
 use Rattle.text.specs.declared.Class.the-variants.{Plain}
 use Rattle.text.specs.declared.Word.{Word}
@@ -79,6 +79,25 @@ right-number (figures sum) = 5
 unfoldable pub right-coded : ℕ → ℕ
 right-coded c = numbered right-number 6 (coded right-word rights c)
 
+-- ---- first words of forms: an aggregate's is four and the number that rights have for it
+
+unfoldable pub fn-number : Fn → ℕ
+fn-number min = 1
+fn-number max = 2
+fn-number count = 3
+fn-number avg = 4
+fn-number sum = 5
+
+unfoldable pub kind-number : Kind → ℕ
+kind-number k-in = 0
+kind-number k-pick = 1
+kind-number k-keep = 2
+kind-number k-join = 3
+kind-number (k-fn f) = 4 + fn-number f
+
+unfoldable pub kind-coded : ℕ → ℕ
+kind-coded c = numbered kind-number 10 (coded kind-word kinds c)
+
 -- ---- brackets and words at a place
 
 -- where what a reader leaves of a text begins; 0 where it reads nothing
@@ -103,5 +122,5 @@ line-open s verb = record { long = ltb max-line (length s); at = cond (ltb max-l
 
 -- To unfold this is to unfold every definition above, and those of the readers.
 unfoldable pub keywords-compute : Unit {0}
-unfolding readers-compute short code-from code-of bytes-from name-of word-code octet keyword? coded numbered op-number head-number head-coded right-number right-coded
+unfolding readers-compute short code-from code-of bytes-from name-of word-code octet keyword? coded numbered op-number head-number head-coded right-number right-coded fn-number kind-number kind-coded
 keywords-compute = tt

@@ -8,7 +8,7 @@ ghost use Rattle.syntax.specs.Grammar.{digit, letter, alnum};
 ghost use Rattle.syntax.specs.Limits.{max-name, max-line, max-depth, top};
 ghost use Rattle.syntax.specs.Readers.{plain, value-from};
 ghost use Rattle.text.specs.Words.{class-of, run-end, code-of, name-at, far, numeral-end, negative-at, number-at, kept-of, time-of};
-ghost use Rattle.text.specs.Keywords.{head-coded, right-coded, WordAt, opened-at, part-at, closes-at, line-open};
+ghost use Rattle.text.specs.Keywords.{head-coded, right-coded, kind-coded, WordAt, opened-at, part-at, closes-at, line-open};
 
 // Classes of bytes: letters and digits, digits, and all but spaces and brackets.
 pub enum Class {
@@ -127,6 +127,23 @@ impl Word {
 
     pub const STAR: u64 = 0x2a;
 
+    pub const ASK: u64 = 0x61736b;
+
+    pub const LINE: u64 = 0x6c696e65;
+
+    pub const IN: u64 = 0x696e;
+
+    pub const PICK: u64 = 0x7069636b;
+
+    pub const KEEP: u64 = 0x6b656570;
+
+    pub const JOIN: u64 = 0x6a6f696e;
+
+    pub const EQUAL: u64 = 0x3d;
+
+    // The number of no form's first word.
+    pub const FORMLESS: u32 = 10;
+
     // Returns a condition's head by the code of its word: 1 to 6 for the comparisons, 7 `and`, 8 `or`, 9 `not`; 0 for none.
     pub fn head(code: u64) -> u32
         ensures { λ r. ⌜ r ≡ head-coded code ⌝ }
@@ -157,6 +174,24 @@ impl Word {
             Word::AVG => 4,
             Word::SUM => 5,
             _ => 6,
+        }
+    }
+
+    // Returns a form by the code of its first word: 0 for `in`, 1 `pick`, 2 `keep`, 3 `join`, 5 to 9 for the aggregates; 10 for none.
+    pub fn form(code: u64) -> u32
+        ensures { λ r. ⌜ r ≡ kind-coded code ⌝ }
+    {
+        match code {
+            Word::IN => 0,
+            Word::PICK => 1,
+            Word::KEEP => 2,
+            Word::JOIN => 3,
+            Word::MIN => 5,
+            Word::MAX => 6,
+            Word::COUNT => 7,
+            Word::AVG => 8,
+            Word::SUM => 9,
+            _ => Word::FORMLESS,
         }
     }
 }

@@ -16,5 +16,7 @@ with-column-spec =
     (λ c κs. search needs)
     {- with-requires -}
     (λ c κs. search needs)
+    {- with-code-requires -}
+    (λ c κs. search needs)
     {- returns -}
     (λ c. search column-made))

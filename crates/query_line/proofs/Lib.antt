@@ -1,0 +1,11 @@
+pub mod Parts
+pub mod Bounds
+pub mod Known
+pub mod Steps
+pub mod Headers
+pub mod Widths
+pub mod Running
+pub mod Standing
+pub mod Meaning
+pub mod Verdicts
+pub mod Texts

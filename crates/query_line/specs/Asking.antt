@@ -1,0 +1,53 @@
+-- What is read of a query at a place of a line: its checks, and the table of its forms.
+use mathlib.Core.Path.{_≡_}
+use mathlib.Core.List.{List, _∷_}
+use mathlib.Core.Bool.{Bool, true, false, not}
+use mathlib.Core.Option.{Option, none, some}
+use Prim.Native.Nat.{ℕ, _-_}
+use lib.Dec.{T, leb}
+use lib.ListN.{length, drop}
+use Rattle.refusal.specs.Checks.{Check, refuse, first, table, shown}
+use Rattle.refusal.specs.declared.Refusal.the-variants.{Bound}
+use Rattle.syntax.specs.Grammar.{Bytes, Form, Entry}
+use Rattle.syntax.specs.Limits.{max-depth, form-depth}
+use Rattle.syntax.specs.Readers.{Read}
+use Rattle.model.specs.Queries.{Schema}
+use Rattle.calls.specs.Names.{resolve}
+use Rattle.calls.specs.Tables.{query-checks}
+use Rattle.text.specs.Readings.{any-form}
+use Rattle.schema.specs.Schemas.{schema-of, schema-sound}
+use Rattle.query.specs.Forms.{query-in}
+use Rattle.query.specs.Tables.{query-forms}
+use Rattle.query_read.specs.Seeing.{readable}
+use Rattle.query_read.specs.declared.Reading.{Reading}
+use Rattle.query_line.specs.Placing.{begun, placed-from}
+use Rattle.query_line.specs.declared.Asked.{Asked}
+use Rattle.query_line.specs.declared.Placing.{Placing}
+
+-- ---- by what is read of the forms
+
+unfoldable pub placing-of : List ℕ → Reading → Placing
+placing-of ns r = placed-from ns (r .forms) (r .lefts) (r .rights) (r .count) begun
+
+unfoldable pub asked-of : Reading → Placing → Asked
+asked-of r p = record { ok = true; next = r .next; checks = shown (r .over) (r .unknown) (r .repeated) (p .misplaced) (p .window); query = record { forms = r .forms; len = r .count } }
+
+-- ---- by the form
+
+-- how deep its brackets go, and its own checks
+unfoldable pub form-checks : Schema → Form → List Check
+form-checks d q = refuse Bound (not (leb (form-depth q) max-depth)) ∷ query-checks d q
+
+-- its place, its checks, and the query that its table and the words stand for where none of them fails
+pub record Tells (ns : List ℕ) (s : Bytes) (ws : List ℕ) (q : Read Form) (r : Asked) : Type 0 where
+  pub ok : r .ok ≡ true
+  pub next : r .next ≡ length s - length (q .left)
+  pub checks : first (table (r .checks)) ≡ first (form-checks (schema-of ns) (q .what))
+  pub query : first (form-checks (schema-of ns) (q .what)) ≡ none
+      → (granted : List ℕ) (profile : List Entry) → resolve (schema-of ns) (q .what) ≡ query-in (record { own = ws; granted = granted; profile = profile }) (query-forms (r .query))
+
+-- for a line that is not too long, words enough and a sound schema
+pub record Asks (ns : List ℕ) (s : Bytes) (at : ℕ) (ws ws′ : List ℕ) (r : Asked) : Type 0 where
+  pub none-read : any-form (drop at s) ≡ none → r .ok ≡ false
+  pub some-read : T (schema-sound ns) → T (readable s ws) → (q : Read Form) → any-form (drop at s) ≡ some q → Tells ns s ws′ q r
+  pub kept : length ws′ ≡ length ws
