@@ -122,19 +122,24 @@ module _ (ws : List ℕ) where
   linked-at k = linked ws k (node-at ws k)
 
   pub linked-walk : (f k : ℕ) → linked-from f ws k ≡ walk linked-at f k
-  unfolding linked-from walk
+  unfolding linked-from all-sound node-sound walk
   linked-walk zero k = refl
   linked-walk (suc f) k = go (eqb k 0) (linked-walk f (prior k))
     where
-      go : (b : Bool) → linked-from f ws (prior k) ≡ walk linked-at f (prior k)
-          → _≡_ {A = Bool} (elim b [ true ↦ true | false ↦ linked-at k && linked-from f ws (prior k) ]) (elim b [ true ↦ true | false ↦ linked-at k && walk linked-at f (prior k) ])
+      untested : (a c : Bool) → (a && (not c || true)) ≡ a
+      untested true true = refl
+      untested true false = refl
+      untested false c = refl
+
+      go : (b : Bool) → all-sound f (λ n. true) ws (prior k) ≡ walk linked-at f (prior k)
+          → _≡_ {A = Bool} (elim b [ true ↦ true | false ↦ (linked-at k && (not (comparing (node-at ws k)) || true)) && all-sound f (λ n. true) ws (prior k) ]) (elim b [ true ↦ true | false ↦ linked-at k && walk linked-at f (prior k) ])
       go true e = refl
-      go false e = ap (λ x. linked-at k && x) e
+      go false e = ap₂ _&&_ (untested (linked-at k) (comparing (node-at ws k))) e
 
   abbrev fit-at : ℕ → ℕ → Bool
   fit-at mask k = not (comparing (node-at ws k)) || terms-sound mask (node-at ws k)
 
-  sound-walk : (mask f k : ℕ) → all-sound f mask ws k ≡ walk (λ k. linked-at k && fit-at mask k) f k
+  sound-walk : (mask f k : ℕ) → all-sound f (terms-sound mask) ws k ≡ walk (λ k. linked-at k && fit-at mask k) f k
   unfolding all-sound walk node-sound
   sound-walk mask zero k = refl
   sound-walk mask (suc f) k = go (eqb k 0) (sound-walk mask f (prior k))
@@ -142,8 +147,8 @@ module _ (ws : List ℕ) where
       on : Bool → Bool
       on x = (linked-at k && fit-at mask k) && x
 
-      go : (b : Bool) → all-sound f mask ws (prior k) ≡ walk (λ k. linked-at k && fit-at mask k) f (prior k)
-          → _≡_ {A = Bool} (elim b [ true ↦ true | false ↦ on (all-sound f mask ws (prior k)) ]) (elim b [ true ↦ true | false ↦ on (walk (λ k. linked-at k && fit-at mask k) f (prior k)) ])
+      go : (b : Bool) → all-sound f (terms-sound mask) ws (prior k) ≡ walk (λ k. linked-at k && fit-at mask k) f (prior k)
+          → _≡_ {A = Bool} (elim b [ true ↦ true | false ↦ on (all-sound f (terms-sound mask) ws (prior k)) ]) (elim b [ true ↦ true | false ↦ on (walk (λ k. linked-at k && fit-at mask k) f (prior k)) ])
       go true e = refl
       go false e = ap on e
 

@@ -15,7 +15,8 @@ use Rattle.calls.specs.Validity.{valid-name}
 use Rattle.text.specs.Words.{name-of}
 use Rattle.schema.specs.Schemas.{streams-in, width-in, schema-of}
 use Rattle.masks.specs.Masks.{mask-of, inside}
-use Rattle.nodes.specs.Nodes.{node-words, node-at, conditions-of, reaches, linked, column-in, shallow-conds, nodes-sound}
+use Rattle.nodes.specs.Nodes.{conditions-of, reaches, column-in, shallow-conds, nodes-sound}
+unfoldable pub use Rattle.nodes.specs.Nodes.{linked-from}
 use Rattle.grant.specs.declared.Grant.{Grant}
 
 -- words lent for the conditions of one grant
@@ -95,11 +96,6 @@ unfoldable pub grant-sound : List ℕ → Grant → List ℕ → Bool
 grant-sound ns g ws = valid-name (name-of (g .role)) && streams-sound ns g && shown-sound ns g && limits-sound g && window-sound g && when-sound ns g ws
 
 -- ---- the same by the grant that they stand for: tidy numbers and words, and a valid grant
-
--- every node from the one that ends at a place back to the first has the link that its head asks for
-unfoldable pub linked-from : ℕ → List ℕ → ℕ → Bool
-linked-from zero ws k = true
-linked-from (suc f) ws k = elim (eqb k 0) [ true ↦ true | false ↦ linked ws k (node-at ws k) && linked-from f ws (k - node-words (node-at ws k)) ]
 
 -- the first n words are laid out as those of a stored list of conditions, whatever these compare, none of which nests too deep
 unfoldable pub laid-out : List ℕ → ℕ → Bool

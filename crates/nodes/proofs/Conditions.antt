@@ -201,12 +201,12 @@ pub record Inner (ws : List ℕ) (k : ℕ) (n : Node) : Type 0 where
   pub down : T (reaches k ws (n .before) (k - 1))
   pub one : 9 ≤ n .head → link ws (k - 1) ≡ n .before
 
-module _ (mask : ℕ) (ws : List ℕ) (k : ℕ) (n : Node) (s : T (node-sound mask ws k n)) where
-  sound-test : T (comparing n) → (n .before + node-words n ≡ k) × T (terms-sound mask n)
+module _ (ok : Node → Bool) (ws : List ℕ) (k : ℕ) (n : Node) (s : T (node-sound ok ws k n)) where
+  sound-test : T (comparing n) → (n .before + node-words n ≡ k) × T (ok n)
   unfolding node-sound linked
   sound-test c =
       let e = T-true (comparing n) c in
-      let t : T (eqb (n .before + node-words n) k && terms-sound mask n) = rw e at s in
+      let t : T (eqb (n .before + node-words n) k && ok n) = rw e at s in
       (eqb→eq (n .before + node-words n) k (search parts), search parts)
 
   sound-inner : comparing n ≡ false → Inner ws k n
@@ -223,54 +223,54 @@ module _ (mask : ℕ) (ws : List ℕ) (k : ℕ) (n : Node) (s : T (node-sound ma
             or-cases (ltb (n .head) 9) (eqb (link ws (k - 1)) (n .before)) (search parts depth 9) (λ a. let l = ltb→lt (n .head) 9 a in absurd (omega arith)) (λ a. eqb→eq (link ws (k - 1)) (n .before) a);
       }
 
-module _ (mask : ℕ) (ws : List ℕ) where
-  node-passed : (k : ℕ) → 0 < k → Passes mask ws k → T (node-sound mask ws k (node-at ws k))
-  node-passed k h p = and-l (node-sound mask ws k (node-at ws k)) (all-sound k mask ws (k - node-words (node-at ws k))) (rw (all-step mask ws k k h) at p)
+module _ (ok : Node → Bool) (ws : List ℕ) where
+  node-passed : (k : ℕ) → 0 < k → Passes ok ws k → T (node-sound ok ws k (node-at ws k))
+  node-passed k h p = and-l (node-sound ok ws k (node-at ws k)) (all-sound k ok ws (k - node-words (node-at ws k))) (rw (all-step ok ws k k h) at p)
 
-  before-passed : (k : ℕ) → 0 < k → Passes mask ws k → Passes mask ws (k - node-words (node-at ws k))
-  before-passed k h p = rw (all-before mask ws k h (T-true (node-sound mask ws k (node-at ws k)) (node-passed k h p))) at p
+  before-passed : (k : ℕ) → 0 < k → Passes ok ws k → Passes ok ws (k - node-words (node-at ws k))
+  before-passed k h p = rw (all-before ok ws k h (T-true (node-sound ok ws k (node-at ws k)) (node-passed k h p))) at p
 
   -- a test of a node, or a list inside it
-  pub by-node : {X : Type 0} (k : ℕ) → 0 < k → Passes mask ws k → (T (comparing (node-at ws k)) → T (terms-sound mask (node-at ws k)) → Passes mask ws (link ws k) → X)
-      → (Inner ws k (node-at ws k) → Passes mask ws (k - 1) → X) → X
+  pub by-node : {X : Type 0} (k : ℕ) → 0 < k → Passes ok ws k → (T (comparing (node-at ws k)) → T (ok (node-at ws k)) → Passes ok ws (link ws k) → X)
+      → (Inner ws k (node-at ws k) → Passes ok ws (k - 1) → X) → X
   unfolding link
   by-node {X} k h p f g = go (comparing (node-at ws k)) refl
     where
       go : (x : Bool) → comparing (node-at ws k) ≡ x → X
       go true e =
-          let t = sound-test mask ws k (node-at ws k) (node-passed k h p) (rw e tt) in
+          let t = sound-test ok ws k (node-at ws k) (node-passed k h p) (rw e tt) in
           let m : k - node-words (node-at ws k) ≡ link ws k = let a = t .0 in let b = words-some (node-at ws k) in omega arith in
           f (rw e tt) (t .1) (rw m at (before-passed k h p))
       go false e =
-          let i = sound-inner mask ws k (node-at ws k) (node-passed k h p) e in
+          let i = sound-inner ok ws k (node-at ws k) (node-passed k h p) e in
           let r = i .right in
           let m : k - node-words (node-at ws k) ≡ k - 1 = let w = words-plain (node-at ws k) (λ z. omega arith) (λ z. omega arith) in omega arith in
           g i (rw m at (before-passed k h p))
 
-  pub before-falls : (k : ℕ) → 0 < k → Passes mask ws k → node-at ws k .before < k
+  pub before-falls : (k : ℕ) → 0 < k → Passes ok ws k → node-at ws k .before < k
   before-falls k h p = go (comparing (node-at ws k)) refl
     where
       go : (x : Bool) → comparing (node-at ws k) ≡ x → node-at ws k .before < k
       go true e =
-          let t = sound-test mask ws k (node-at ws k) (node-passed k h p) (rw e tt) .0 in
+          let t = sound-test ok ws k (node-at ws k) (node-passed k h p) (rw e tt) .0 in
           let w = words-some (node-at ws k) in
           omega arith
-      go false e = let u = sound-inner mask ws k (node-at ws k) (node-passed k h p) e .up in omega arith
+      go false e = let u = sound-inner ok ws k (node-at ws k) (node-passed k h p) e .up in omega arith
 
   -- links from a place whose walk is sound lead to such places, down to a stop that they reach
-  reach-passed : (f stop j : ℕ) → ((i : ℕ) → 0 < i → i ≤ j → Passes mask ws i → Passes mask ws (link ws i)) → T (reaches f ws stop j) → Passes mask ws j → Passes mask ws stop
+  reach-passed : (f stop j : ℕ) → ((i : ℕ) → 0 < i → i ≤ j → Passes ok ws i → Passes ok ws (link ws i)) → T (reaches f ws stop j) → Passes ok ws j → Passes ok ws stop
   unfolding reaches
   reach-passed zero stop j k t p = absurd t
   reach-passed (suc f) stop j k t p = go (decLt stop j) (λ l r. reach-passed f stop (link ws j) (λ i a b. k i a (omega (arith, link-falls ws j))) r (k j (omega arith) (omega arith) p))
     where
-      go : Dec (stop < j) → (stop < j → T (reaches f ws stop (link ws j)) → Passes mask ws stop) → Passes mask ws stop
+      go : Dec (stop < j) → (stop < j → T (reaches f ws stop (link ws j)) → Passes ok ws stop) → Passes ok ws stop
       go (yes l) r = r l (rw (reaches-step ws f stop j l) at t)
       go (no l) r =
           let e : j ≡ stop = eqb→eq j stop (rw (reaches-stop ws f stop j (omega arith)) at t) in
           rw e at p
 
   -- a bound on the place, for the induction
-  links-passed : (n k : ℕ) → k ≤ n → 0 < k → Passes mask ws k → Passes mask ws (link ws k)
+  links-passed : (n k : ℕ) → k ≤ n → 0 < k → Passes ok ws k → Passes ok ws (link ws k)
   links-passed zero k l h p = absurd (omega arith)
   links-passed (suc n) k l h p =
       by-node k h p (λ c t q. q)
@@ -279,29 +279,30 @@ module _ (mask : ℕ) (ws : List ℕ) where
       let e : link ws k ≡ node-at ws k .before = link-inner ws k u in
       rw e (reach-passed k (node-at ws k .before) (k - 1) (λ j a b. links-passed n j (omega arith) a) (i .down) q))
 
-  pub link-passed : (k : ℕ) → 0 < k → Passes mask ws k → Passes mask ws (link ws k)
+  pub link-passed : (k : ℕ) → 0 < k → Passes ok ws k → Passes ok ws (link ws k)
   link-passed k h p = links-passed k k (omega arith) h p
 
-  -- ---- every comparison of the conditions has sound terms
+-- ---- every comparison of the conditions has sound terms
 
-  node-holds : (f k : ℕ) → 0 < k → 2 * k ≤ suc f → Passes mask ws k → (Passes mask ws (k - 1) → T (every (cond-sound mask) (list-in f ws (link ws k) (k - 1) [])))
+module _ (mask : ℕ) (ws : List ℕ) where
+  node-holds : (f k : ℕ) → 0 < k → 2 * k ≤ suc f → Passes (terms-sound mask) ws k → (Passes (terms-sound mask) ws (k - 1) → T (every (cond-sound mask) (list-in f ws (link ws k) (k - 1) [])))
       → T (cond-sound mask (headed (node-at ws k) (list-in f ws (link ws k) (k - 1) [])))
   node-holds f k h l p r =
-      by-node k h p (λ c t q. head-test mask (node-at ws k) _ c t)
+      by-node (terms-sound mask) ws k h p (λ c t q. head-test mask (node-at ws k) _ c t)
       (λ i q. let u = i .up in head-inner mask (node-at ws k) _ (i .low) (i .high) (list-some f ws (link ws k) (k - 1) (link-below ws k u) (omega arith)) (r q))
 
   mutual
     unfolding cond-in
 
-    cond-holds : (f k : ℕ) → 0 < k → 2 * k ≤ f → Passes mask ws k → T (cond-sound mask (cond-in f ws k))
+    cond-holds : (f k : ℕ) → 0 < k → 2 * k ≤ f → Passes (terms-sound mask) ws k → T (cond-sound mask (cond-in f ws k))
     cond-holds zero k h l p = absurd (omega arith)
     cond-holds (suc f) k h l p = node-holds f k h l p (λ q. list-holds f (link ws k) (k - 1) [] (omega arith) q (none-sound mask))
 
-    list-holds : (f stop j : ℕ) (cs : List (Cond Compare)) → 2 * j + 1 ≤ f → Passes mask ws j → T (every (cond-sound mask) cs) → T (every (cond-sound mask) (list-in f ws stop j cs))
+    list-holds : (f stop j : ℕ) (cs : List (Cond Compare)) → 2 * j + 1 ≤ f → Passes (terms-sound mask) ws j → T (every (cond-sound mask) cs) → T (every (cond-sound mask) (list-in f ws stop j cs))
     list-holds zero stop j cs l p t = absurd (omega arith)
     list-holds (suc f) stop j cs l p t =
         go (decLt stop j)
-        (λ a. list-holds f stop (link ws j) (cond-in f ws j ∷ cs) (omega (arith, link-falls ws j)) (link-passed j (omega arith) p) (both-sound mask (cond-in f ws j) cs (cond-holds f j (omega arith) (omega arith) p) t))
+        (λ a. list-holds f stop (link ws j) (cond-in f ws j ∷ cs) (omega (arith, link-falls ws j)) (link-passed (terms-sound mask) ws j (omega arith) p) (both-sound mask (cond-in f ws j) cs (cond-holds f j (omega arith) (omega arith) p) t))
       where
         go : Dec (stop < j) → (stop < j → T (every (cond-sound mask) (list-in f ws stop (link ws j) (cond-in f ws j ∷ cs)))) → T (every (cond-sound mask) (list-in (suc f) ws stop j cs))
         go (yes a) i = rw (list-step ws f stop j cs a) (i a)

@@ -86,9 +86,9 @@ module _ (ws : List ℕ) where
   left bs k = every (fits (length bs)) (list-before ws (base bs) k []) && outer bs
 
   -- the walk over the first n words has come to a place
-  pub record Left (mask n : ℕ) (bs : List ℕ) (k : ℕ) : Type 0 where
+  pub record Left (ok : Node → Bool) (n : ℕ) (bs : List ℕ) (k : ℕ) : Type 0 where
     same : shallow-conds (conditions-of ws n) ≡ left bs k
-    passes : Passes mask ws k
+    passes : Passes ok ws k
     down : T (reaches (suc k) ws (base bs) k)
     rest : Reached bs
 
@@ -99,17 +99,17 @@ module _ (ws : List ℕ) where
       let e : cond-depth c ≡ 0 + cond-depth c = omega arith in
       ap₂ (λ d b. leb d max-nesting && b) e (none-around cs)
 
-  left-start : (mask n : ℕ) → Passes mask ws n → T (reaches (suc n) ws 0 n) → Left mask n [] n
+  left-start : (ok : Node → Bool) (n : ℕ) → Passes ok ws n → T (reaches (suc n) ws 0 n) → Left ok n [] n
   unfolding base outer Reached conditions-of
-  left-start mask n p r = record { same = none-around (list-before ws 0 n []) ∙ sym (and-true (every (fits 0) (list-before ws 0 n []))); passes = p; down = r; rest = tt }
+  left-start ok n p r = record { same = none-around (list-before ws 0 n []) ∙ sym (and-true (every (fits 0) (list-before ws 0 n []))); passes = p; down = r; rest = tt }
 
   none-fits : (d : ℕ) → every (fits d) [] ≡ true
   unfolding every
   none-fits d = refl
 
-  module _ {mask n k : ℕ} where
+  module _ {ok : Node → Bool} {n k : ℕ} where
     -- the innermost ends
-    left-out : {b : ℕ} {bs : List ℕ} → Left mask n (b ∷ bs) k → k ≤ b → Left mask n bs k
+    left-out : {b : ℕ} {bs : List ℕ} → Left ok n (b ∷ bs) k → k ≤ b → Left ok n bs k
     unfolding base outer Reached
     left-out {b} {bs} l h =
         let e : k ≡ b = eqb→eq k b (rw (reaches-stop ws k b k h) at (l .down)) in
@@ -121,12 +121,12 @@ module _ (ws : List ℕ) where
         }
 
     -- nothing is left at place 0
-    left-none : (bs : List ℕ) → k ≤ 0 → Left mask n bs k → true ≡ shallow-conds (conditions-of ws n)
+    left-none : (bs : List ℕ) → k ≤ 0 → Left ok n bs k → true ≡ shallow-conds (conditions-of ws n)
     unfolding base outer
     left-none [] h l = sym (l .same ∙ ap (λ cs. every (fits 0) cs && true) (list-off ws 0 k [] h) ∙ ap (λ x. x && true) (none-fits 0))
     left-none (b ∷ bs) h l = left-none bs h (left-out l (omega arith))
 
-    module _ {bs : List ℕ} (l : Left mask n bs k) (h : base bs < k) where
+    module _ {bs : List ℕ} (l : Left ok n bs k) (h : base bs < k) where
       -- the conditions before the one that ends here
       abbrev earlier : Bool
       earlier = every (fits (length bs)) (list-before ws (base bs) (link ws k) [])
@@ -141,9 +141,9 @@ module _ (ws : List ℕ) where
           rw (reaches-step ws k (base bs) k h ∙ reaches-fuel ws k (suc (link ws k)) (base bs) (link ws k) (omega arith) (omega arith)) at (l .down)
 
       -- a comparison
-      left-test : node-at ws k .head < 7 → length bs < 6 → Left mask n bs (link ws k)
+      left-test : node-at ws k .head < 7 → length bs < 6 → Left ok n bs (link ws k)
       left-test lt few =
-          by-node mask ws k (omega arith) (l .passes)
+          by-node ok ws k (omega arith) (l .passes)
           (λ c t q.
           let e : cond-depth (cond-of ws k) ≡ 1 = ap cond-depth (cond-on ws k (omega arith)) ∙ headed-test (node-at ws k) _ c in
           let f : fits (length bs) (cond-of ws k) ≡ true = le-leb (length bs + cond-depth (cond-of ws k)) 6 (omega arith) in
@@ -194,7 +194,7 @@ module _ (ws : List ℕ) where
             split ∙ turned earlier (fits (length bs) (cond-of ws k)) (outer bs)
             ∙ ap (λ x. x && (earlier && outer bs)) (fits-inner (length bs))
 
-        inner-left : Passes mask ws (k - 1) → Left mask n (link ws k ∷ bs) (k - 1)
+        inner-left : Passes ok ws (k - 1) → Left ok n (link ws k ∷ bs) (k - 1)
         unfolding base Reached
         inner-left q =
             let u = i .up in
@@ -212,11 +212,11 @@ module _ (ws : List ℕ) where
             ∙ ap (λ x. every (fits (suc (length bs))) (list-before ws (link ws k) (link ws (k - 1)) []) && x) o ∙ and-false (every (fits (suc (length bs))) (list-before ws (link ws k) (link ws (k - 1)) [])) in
             sym (l .same ∙ split ∙ ap (λ x. (earlier && x) && outer bs) f ∙ ap (λ x. x && outer bs) (and-false earlier))
 
-      left-inner : 7 ≤ node-at ws k .head → Left mask n (link ws k ∷ bs) (k - 1)
-      left-inner ge = by-node mask ws k (omega arith) (l .passes) (λ c t q. absurd (no-test (node-at ws k) ge c)) (λ i q. inner-left i q)
+      left-inner : 7 ≤ node-at ws k .head → Left ok n (link ws k ∷ bs) (k - 1)
+      left-inner ge = by-node ok ws k (omega arith) (l .passes) (λ c t q. absurd (no-test (node-at ws k) ge c)) (λ i q. inner-left i q)
 
       left-deep : 7 ≤ node-at ws k .head → 5 ≤ length bs → false ≡ shallow-conds (conditions-of ws n)
-      left-deep ge d = by-node mask ws k (omega arith) (l .passes) (λ c t q. absurd (no-test (node-at ws k) ge c)) (λ i q. inner-deep i d)
+      left-deep ge d = by-node ok ws k (omega arith) (l .passes) (λ c t q. absurd (no-test (node-at ws k) ge c)) (λ i q. inner-deep i d)
 
 -- ---- those around in their array, from place 1 on
 
@@ -243,10 +243,10 @@ stack-push : (around : List ℕ) (d v : ℕ) → d + 1 < length around → stack
 unfolding stack
 stack-push around d v h = rw (add-one d, getD-set-same around (suc d) v 0 (omega arith), stack-set around (suc d) d v (omega arith))
 
-stack-out : (ws around : List ℕ) {mask n k : ℕ} (d depth : ℕ) → suc d ≡ depth → k ≤ getD around depth 0 → Left ws mask n (stack around depth) k → Left ws mask n (stack around d) k
+stack-out : (ws around : List ℕ) {ok : Node → Bool} {n k : ℕ} (d depth : ℕ) → suc d ≡ depth → k ≤ getD around depth 0 → Left ws ok n (stack around depth) k → Left ws ok n (stack around d) k
 unfolding stack
-stack-out ws around {mask} {n} {k} d depth z l t =
-    let u : Left ws mask n (stack around (suc d)) k = rw (sym z) at t in
+stack-out ws around {ok} {n} {k} d depth z l t =
+    let u : Left ws ok n (stack around (suc d)) k = rw (sym z) at t in
     let m : k ≤ getD around (suc d) 0 = rw (sym z) at l in
     left-out ws u m
 
@@ -254,21 +254,21 @@ stack-out ws around {mask} {n} {k} d depth z l t =
 
 -- a fact of words that are sound but for how deep they nest
 abbrev Else : List ℕ → ℕ → Type 0 → Type 0
-Else ws n X = (mask : ℕ) → T (all-sound (suc n) mask ws n) → T (reaches (suc n) ws 0 n) → X
+Else ws n X = (ok : Node → Bool) → T (all-sound (suc n) ok ws n) → T (reaches (suc n) ws 0 n) → X
 
 pub record Nests (ws : List ℕ) (n : ℕ) (around : List ℕ) (depth k : ℕ) : Type 0 where
-  pub left : (mask : ℕ) → T (all-sound (suc n) mask ws n) → T (reaches (suc n) ws 0 n) → Left ws mask n (stack around depth) k
+  pub left : (ok : Node → Bool) → T (all-sound (suc n) ok ws n) → T (reaches (suc n) ws 0 n) → Left ws ok n (stack around depth) k
   pub nested : depth < 6
   pub long : length around ≡ 6
   pub first : getD around 0 0 ≡ 0
 
 pub nest-start : (ws : List ℕ) (n : ℕ) → Nests ws n (replicate 6 0) 0 n
 unfolding stack
-nest-start ws n = record { left = λ mask p r. left-start ws mask n p r; nested = omega arith; long = length-replicate {A = ℕ} 6 0; first = refl }
+nest-start ws n = record { left = λ ok p r. left-start ws ok n p r; nested = omega arith; long = length-replicate {A = ℕ} 6 0; first = refl }
 
 module _ (ws : List ℕ) (n : ℕ) (around : List ℕ) (depth k : ℕ) (inv : Nests ws n around depth k) where
   pub nest-end : k ≤ 0 → Else ws n (true ≡ shallow-conds (conditions-of ws n))
-  nest-end h mask p r = left-none ws (stack around depth) h (inv .left mask p r)
+  nest-end h ok p r = left-none ws (stack around depth) h (inv .left ok p r)
 
   module _ (h : 0 < k) {t : ℕ} (top : t ≡ getD around depth 0) where
     pub nest-some : k ≤ t → 1 ≤ depth
@@ -289,7 +289,7 @@ module _ (ws : List ℕ) (n : ℕ) (around : List ℕ) (depth k : ℕ) (inv : Ne
         let s = nest-some l in
         let d = inv .nested in
         let z : suc (depth - 1) ≡ depth = omega arith in
-        record { left = λ mask p r. stack-out ws around (depth - 1) depth z (omega arith) (inv .left mask p r); nested = omega arith; long = inv .long; first = inv .first }
+        record { left = λ ok p r. stack-out ws around (depth - 1) depth z (omega arith) (inv .left ok p r); nested = omega arith; long = inv .long; first = inv .first }
 
     module _ (up : t < k) {w : ℕ} (e : w ≡ getD ws (k - 1) 0) {m : Node} (d : m ≡ node-of w 0) {b : ℕ} (f : b ≡ m .before) where
       head-is : node-at ws k .head ≡ m .head
@@ -304,7 +304,7 @@ module _ (ws : List ℕ) (n : ℕ) (around : List ℕ) (depth k : ℕ) (inv : Ne
       above = let s = stack-base ws around depth (inv .first) in omega arith
 
       pub nest-astray : k ≤ b → Else ws n (false ≡ shallow-conds (conditions-of ws n))
-      nest-astray l mask p r = let i = before-is in let g = before-falls mask ws k h (inv .left mask p r .passes) in absurd (omega arith)
+      nest-astray l ok p r = let i = before-is in let g = before-falls ok ws k h (inv .left ok p r .passes) in absurd (omega arith)
 
       module _ (below : b < k) where
         link-is : link ws k ≡ b
@@ -317,7 +317,7 @@ module _ (ws : List ℕ) (n : ℕ) (around : List ℕ) (depth k : ℕ) (inv : Ne
             let s = stack-length around depth in
             let g = inv .nested in
             record {
-              left = λ mask p r. rw link-is at (left-test ws (inv .left mask p r) above (omega arith) (omega arith));
+              left = λ ok p r. rw link-is at (left-test ws (inv .left ok p r) above (omega arith) (omega arith));
               nested = inv .nested;
               long = inv .long;
               first = inv .first;
@@ -325,10 +325,10 @@ module _ (ws : List ℕ) (n : ℕ) (around : List ℕ) (depth k : ℕ) (inv : Ne
 
         module _ (ge : 7 ≤ m .head) where
           pub nest-deep : depth + 1 ≡ 6 → Else ws n (false ≡ shallow-conds (conditions-of ws n))
-          nest-deep z mask p r =
+          nest-deep z ok p r =
               let x = head-is in
               let s = stack-length around depth in
-              left-deep ws (inv .left mask p r) above (omega arith) (omega arith)
+              left-deep ws (inv .left ok p r) above (omega arith) (omega arith)
 
           pub nest-inner : (depth + 1 ≡ 6 → ⊥) → Nests ws n (set around (depth + 1) (m .before)) (depth + 1) (k - 1)
           nest-inner z =
@@ -337,7 +337,7 @@ module _ (ws : List ℕ) (n : ℕ) (around : List ℕ) (depth k : ℕ) (inv : Ne
               let o = inv .long in
               let q : depth + 1 < length around = omega arith in
               record {
-                left = λ mask p r. rw (stack-push around depth (m .before) q) (rw (link-is ∙ f) at (left-inner ws (inv .left mask p r) above (omega arith)));
+                left = λ ok p r. rw (stack-push around depth (m .before) q) (rw (link-is ∙ f) at (left-inner ws (inv .left ok p r) above (omega arith)));
                 nested = omega arith;
                 long = length-set around (depth + 1) (m .before) ∙ inv .long;
                 first = getD-set-other around (depth + 1) 0 (m .before) 0 (λ i. omega arith) ∙ inv .first;

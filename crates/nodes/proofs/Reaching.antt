@@ -11,7 +11,8 @@ use borrow.Author.Tests.{eq-eqb, lt-ltb, le-ltb}
 use Rattle.lists.proofs.Laws.{append-nil}
 use Rattle.syntax.specs.Grammar.{Cond}
 use Rattle.model.specs.Queries.{Compare}
-use Rattle.nodes.specs.Nodes.{value-at, node-at, node-words, link, headed, cond-in, list-in, conditions-of, reaches, linked, node-sound, all-sound, nodes-sound}
+use Rattle.nodes.specs.declared.Node.{Node}
+use Rattle.nodes.specs.Nodes.{value-at, node-at, node-words, link, headed, cond-in, list-in, conditions-of, reaches, linked, terms-sound, node-sound, all-sound, nodes-sound}
 
 pub link-falls : (ws : List ℕ) (k : ℕ) → link ws k ≤ k - 1
 unfolding link
@@ -157,21 +158,21 @@ module _ (vs ws : List ℕ) where
       go true e = e
       go false e = refl
 
-  pub sound-same : (mask k : ℕ) → Same vs ws k → node-sound mask vs k (node-at vs k) ≡ node-sound mask ws k (node-at ws k)
+  pub sound-same : (ok : Node → Bool) (k : ℕ) → Same vs ws k → node-sound ok vs k (node-at vs k) ≡ node-sound ok ws k (node-at ws k)
   unfolding node-sound linked
-  sound-same mask k h =
+  sound-same ok k h =
       rw (node-same k h, reaches-same k (node-at ws k .before) (k - 1) (less {j = k - 1} (omega arith) h), link-same (k - 1) (less {j = k - 1} (omega arith) h))
 
-  pub all-same : (f mask k : ℕ) → Same vs ws k → all-sound f mask vs k ≡ all-sound f mask ws k
+  pub all-same : (f : ℕ) (ok : Node → Bool) (k : ℕ) → Same vs ws k → all-sound f ok vs k ≡ all-sound f ok ws k
   unfolding all-sound
-  all-same zero mask k h = refl
-  all-same (suc f) mask k h =
+  all-same zero ok k h = refl
+  all-same (suc f) ok k h =
       go (eqb k 0)
-      (ap₂ _&&_ (sound-same mask k h)
-      (ap (λ n. all-sound f mask vs (k - node-words n)) (node-same k h) ∙ all-same f mask (k - node-words (node-at ws k)) (less {j = k - node-words (node-at ws k)} (omega arith) h)))
+      (ap₂ _&&_ (sound-same ok k h)
+      (ap (λ n. all-sound f ok vs (k - node-words n)) (node-same k h) ∙ all-same f ok (k - node-words (node-at ws k)) (less {j = k - node-words (node-at ws k)} (omega arith) h)))
     where
       on : List ℕ → Bool
-      on us = node-sound mask us k (node-at us k) && all-sound f mask us (k - node-words (node-at us k))
+      on us = node-sound ok us k (node-at us k) && all-sound f ok us (k - node-words (node-at us k))
 
       go : (b : Bool) → on vs ≡ on ws → _≡_ {A = Bool} (elim b [ true ↦ true | false ↦ on vs ]) (elim b [ true ↦ true | false ↦ on ws ])
       go true e = refl
@@ -179,7 +180,7 @@ module _ (vs ws : List ℕ) where
 
   pub nodes-same : (mask n : ℕ) → Same vs ws n → nodes-sound mask vs n ≡ nodes-sound mask ws n
   unfolding nodes-sound conditions-of
-  nodes-same mask n h = rw (all-same (suc n) mask n h, reaches-same (suc n) 0 n h, list-same (2 * n + 1) 0 n [] h)
+  nodes-same mask n h = rw (all-same (suc n) (terms-sound mask) n h, reaches-same (suc n) 0 n h, list-same (2 * n + 1) 0 n [] h)
 
 -- ---- chains
 

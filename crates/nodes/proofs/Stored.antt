@@ -1,20 +1,20 @@
 -- Conditions that are stored are there, and sound where their comparisons are.
-use mathlib.Core.Path.{_≡_, refl, sym, ap, ap₂, _∙_}
+use mathlib.Core.Path.{_≡_, refl, sym, ap, ap₂, subst, _∙_}
 use mathlib.Core.List.{List, [], _∷_, map}
-use mathlib.Core.Bool.{true, _&&_, _||_}
+use mathlib.Core.Bool.{Bool, true, _&&_, _||_}
 use Prim.Native.Nat.{ℕ, zero, suc, _+_, _*_, _-_, _≤_, _<_}
 use native.Mathlib.Omega.{arith}
 use lib.Dec.{T, eqb, leb, ltb, eqb-refl, leb→le, ltb→lt}
 use lib.ListN.{length, take}
 use borrow.Author.Tests.{ne-eqb, lt-ltb, le-leb, lt-leb}
 use Rattle.lists.specs.Lists.{every}
-use Rattle.lists.proofs.Laws.{and-both, parts, append-nil, every-append-l, every-append-r, T-true}
+use Rattle.lists.proofs.Laws.{and-both, parts, append-nil, every-append-l, every-append-r, all-any, all-weaken, all-every, T-true}
 use Rattle.syntax.specs.Grammar.{Cond, test, all, any, neg, Conds, last, more}
 use Rattle.syntax.specs.Limits.{cond-depth}
 use Rattle.model.specs.Conditions.{tests, tests-of, map-cond, map-conds, conds-of}
 use Rattle.model.specs.Queries.{Compare}
 use Rattle.nodes.specs.declared.Node.{Node}
-use Rattle.nodes.specs.Nodes.{node-words, node-at, link, node-compare, some-conds, first-cond, headed, cond-in, list-in, conditions-of, comparing, reaches, linked, terms-sound, node-sound, all-sound, max-nesting, nodes-sound}
+use Rattle.nodes.specs.Nodes.{node-words, node-at, link, node-compare, some-conds, first-cond, headed, cond-in, list-in, conditions-of, comparing, reaches, linked, terms-sound, node-sound, all-sound, linked-from, max-nesting, nodes-sound}
 use Rattle.nodes.specs.Storing.{put-node, value-fits, fits, conds-list, size, sizes, compared, inner-node, store, store-all, list-size, store-list}
 use Rattle.nodes.proofs.Puts.{Narrow, words-some, node-put, put-outside}
 use Rattle.nodes.proofs.Reaching.{Same, Stands, Chain, chain-end, chain-more, chain-list, chain-reaches, chain-join, chain-same, link-same, all-same, nodes-same}
@@ -25,24 +25,28 @@ use Rattle.nodes.proofs.Depths.{shallow-map}
 -- ---- one condition, whose words are those after the first b up to place k
 
 -- every node back to the first is sound
-abbrev pub Passes : ℕ → List ℕ → ℕ → Type 0
-Passes mask ws k = T (all-sound (suc k) mask ws k)
+abbrev pub Passes : (Node → Bool) → List ℕ → ℕ → Type 0
+Passes ok ws k = T (all-sound (suc k) ok ws k)
 
-passes-same : (mask : ℕ) (vs ws : List ℕ) (k : ℕ) → Same vs ws k → Passes mask vs k → Passes mask ws k
-passes-same mask vs ws k h p = rw (all-same vs ws (suc k) mask k h) at p
+-- a test of comparisons that does not look at where their words stand
+abbrev pub Blind : (Node → Bool) → Type 0
+Blind ok = (n : Node) (b : ℕ) → ok (compared n b) ≡ ok n
+
+passes-same : (ok : Node → Bool) (vs ws : List ℕ) (k : ℕ) → Same vs ws k → Passes ok vs k → Passes ok ws k
+passes-same ok vs ws k h p = rw (all-same vs ws (suc k) ok k h) at p
 
 record Stored (c : Cond Node) (ws : List ℕ) (b k : ℕ) : Type 0 where
   stands : Stands ws k (map-cond node-compare c)
   links : link ws k ≡ b
-  sound : (mask : ℕ) → T (every (terms-sound mask) (tests c)) → Passes mask ws b → Passes mask ws k
+  sound : (ok : Node → Bool) → Blind ok → T (every ok (tests c)) → Passes ok ws b → Passes ok ws k
 
 record StoredAll (cs : Conds Node) (ws : List ℕ) (b k : ℕ) : Type 0 where
   chain : Chain ws b k (map (map-cond node-compare) (conds-list cs))
-  sound : (mask : ℕ) → T (every (terms-sound mask) (tests-of cs)) → Passes mask ws b → Passes mask ws k
+  sound : (ok : Node → Bool) → Blind ok → T (every ok (tests-of cs)) → Passes ok ws b → Passes ok ws k
 
 -- a sound node after those that are
-passed : (mask : ℕ) (ws : List ℕ) (b k : ℕ) → 0 < k → k - node-words (node-at ws k) ≡ b → T (node-sound mask ws k (node-at ws k)) → Passes mask ws b → Passes mask ws k
-passed mask ws b k h e s p = rw (all-before mask ws k h (T-true (node-sound mask ws k (node-at ws k)) s), e) p
+passed : (ok : Node → Bool) (ws : List ℕ) (b k : ℕ) → 0 < k → k - node-words (node-at ws k) ≡ b → T (node-sound ok ws k (node-at ws k)) → Passes ok ws b → Passes ok ws k
+passed ok ws b k h e s p = rw (all-before ok ws k h (T-true (node-sound ok ws k (node-at ws k)) s), e) p
 
 -- a comparison
 
@@ -87,19 +91,19 @@ module _ (n : Node) (b : ℕ) (ws : List ℕ) (h : T (fits n)) (lb : b + node-wo
   unfolding link compared
   test-links = let s = words-some n in rw test-node (omega arith)
 
-  test-sound : (mask : ℕ) → T (terms-sound mask n) → T (node-sound mask there end (compared n b))
-  unfolding node-sound linked comparing compared terms-sound node-words
-  test-sound mask t =
+  test-sound : (ok : Node → Bool) → Blind ok → T (ok n) → T (node-sound ok there end (compared n b))
+  unfolding node-sound linked comparing compared node-words
+  test-sound ok d t =
       let f = fit-node n h in
-      rw (le-leb 1 (n .head) (f .low), le-leb (n .head) 6 (f .high)) (and-both (eqb end end) _ (eqb-refl end) t)
+      rw (le-leb 1 (n .head) (f .low), le-leb (n .head) 6 (f .high)) (and-both (eqb end end) _ (eqb-refl end) (subst T (sym (d n b)) t))
 
   stored-test : Stored (test n) there b end
   unfolding map-cond tests every
   stored-test = record {
     stands = test-stands;
     links = test-links;
-    sound = λ mask t p.
-        passed mask there b end (omega (arith, words-some n)) (ap (λ m. end - node-words m) test-node ∙ let e = compared-words n b in omega arith) (rw test-node (test-sound mask (search parts))) p;
+    sound = λ ok d t p.
+        passed ok there b end (omega (arith, words-some n)) (ap (λ m. end - node-words m) test-node ∙ let e = compared-words n b in omega arith) (rw test-node (test-sound ok d (search parts))) p;
   }
 
 -- a condition of those that end at place m
@@ -135,9 +139,9 @@ module _ (h b m : ℕ) (u : List ℕ) (ds : List (Cond Compare)) (low : 7 ≤ h)
       let e : suc m - 1 ≡ m = omega arith in
       ap₂ headed over-node (ap₂ (λ a k. list-in f over a k []) over-links e ∙ chain-list over-chain f (omega arith) [] ∙ append-nil ds)
 
-  over-sound : (mask : ℕ) → T (ltb h 9 || eqb (link over m) b) → T (node-sound mask over (suc m) (inner-node h b))
+  over-sound : (ok : Node → Bool) → T (ltb h 9 || eqb (link over m) b) → T (node-sound ok over (suc m) (inner-node h b))
   unfolding node-sound linked comparing inner-node
-  over-sound mask t =
+  over-sound ok t =
       let e : suc m - 1 ≡ m = omega arith in
       let r = chain-reaches over-chain (suc m) (omega arith) in
       rw (le-leb 1 h (omega arith), lt-leb h 6 (omega arith), le-leb 7 h low, le-leb h 9 high, lt-ltb (suc b) (suc m) (omega arith), e, r) (and-both (ltb h 9 || eqb (link over m) b) true t tt)
@@ -146,10 +150,10 @@ module _ (h b m : ℕ) (u : List ℕ) (ds : List (Cond Compare)) (low : 7 ≤ h)
   unfolding inner-node node-words
   over-words = rw over-node (omega arith)
 
-  over-all : (mask : ℕ) → T (ltb h 9 || eqb (link over m) b) → (Passes mask u b → Passes mask u m) → Passes mask over b → Passes mask over (suc m)
-  over-all mask t s p =
-      passed mask over m (suc m) (omega arith) over-words (rw over-node (over-sound mask t))
-      (passes-same mask u over m over-same (s (passes-same mask over u b (λ i l. sym (over-same i (omega arith))) p)))
+  over-all : (ok : Node → Bool) → T (ltb h 9 || eqb (link over m) b) → (Passes ok u b → Passes ok u m) → Passes ok over b → Passes ok over (suc m)
+  over-all ok t s p =
+      passed ok over m (suc m) (omega arith) over-words (rw over-node (over-sound ok t))
+      (passes-same ok u over m over-same (s (passes-same ok over u b (λ i l. sym (over-same i (omega arith))) p)))
 
 head-all : (b : ℕ) (cs : List (Cond Compare)) → headed (inner-node 7 b) cs ≡ all (some-conds cs)
 unfolding headed inner-node
@@ -202,7 +206,7 @@ module _ (cs : Conds Node) (b : ℕ) (ws : List ℕ) (s : StoredAll cs (store-al
       rw e (record {
         stands = λ f g. over-stands 7 b mid inner those (omega arith) (omega arith) below l fitting (s .chain) f g ∙ head-all b those ∙ ap all (some-back cs);
         links = over-links 7 b mid inner those (omega arith) (omega arith) below l fitting (s .chain);
-        sound = λ mask t. over-all 7 b mid inner those (omega arith) (omega arith) below l fitting (s .chain) mask tt (s .sound mask t);
+        sound = λ ok d t. over-all 7 b mid inner those (omega arith) (omega arith) below l fitting (s .chain) ok tt (s .sound ok d t);
       })
 
   inner-any : Stored (any cs) (put-node inner mid (inner-node 8 b)) b (b + suc (sizes cs))
@@ -212,7 +216,7 @@ module _ (cs : Conds Node) (b : ℕ) (ws : List ℕ) (s : StoredAll cs (store-al
       rw e (record {
         stands = λ f g. over-stands 8 b mid inner those (omega arith) (omega arith) below l fitting (s .chain) f g ∙ head-any b those ∙ ap any (some-back cs);
         links = over-links 8 b mid inner those (omega arith) (omega arith) below l fitting (s .chain);
-        sound = λ mask t. over-all 8 b mid inner those (omega arith) (omega arith) below l fitting (s .chain) mask tt (s .sound mask t);
+        sound = λ ok d t. over-all 8 b mid inner those (omega arith) (omega arith) below l fitting (s .chain) ok tt (s .sound ok d t);
       })
 
 inner-not : (c : Cond Node) (b : ℕ) (ws : List ℕ) → Stored c (store c b ws) b (b + size c) → suc (b + size c) ≤ 255 → suc (b + size c) ≤ length ws
@@ -230,7 +234,7 @@ inner-not c b ws s l room =
     rw e (record {
       stands = λ f g. over-stands 9 b m u ds (omega arith) (omega arith) p l r ch f g ∙ head-not b (map-cond node-compare c);
       links = over-links 9 b m u ds (omega arith) (omega arith) p l r ch;
-      sound = λ mask t. over-all 9 b m u ds (omega arith) (omega arith) p l r ch mask (rw k (eqb-refl b)) (s .sound mask t);
+      sound = λ ok d t. over-all 9 b m u ds (omega arith) (omega arith) p l r ch ok (rw k (eqb-refl b)) (s .sound ok d t);
     })
 
 all-last : (c : Cond Node) (b : ℕ) (ws : List ℕ) → Stored c (store c b ws) b (b + size c) → StoredAll (last c) (store c b ws) b (b + size c)
@@ -238,8 +242,8 @@ unfolding conds-list tests
 all-last c b ws s = record { chain = alone c (store c b ws) b (b + size c) (omega (arith, size-some c)) s; sound = s .sound }
 
 -- words after those that are sound
-further : (mask : ℕ) (vs ws : List ℕ) (b m : ℕ) → b ≤ m → Same ws vs m → (Passes mask vs b → Passes mask vs m) → Passes mask ws b → Passes mask ws m
-further mask vs ws b m l h s p = passes-same mask vs ws m (λ i o. sym (h i o)) (s (passes-same mask ws vs b (λ i o. h i (omega arith)) p))
+further : (ok : Node → Bool) (vs ws : List ℕ) (b m : ℕ) → b ≤ m → Same ws vs m → (Passes ok vs b → Passes ok vs m) → Passes ok ws b → Passes ok ws m
+further ok vs ws b m l h s p = passes-same ok vs ws m (λ i o. sym (h i o)) (s (passes-same ok ws vs b (λ i o. h i (omega arith)) p))
 
 -- a condition in front of a chain
 in-front : (c : Cond Node) (vs ws : List ℕ) (b m k : ℕ) (ds : List (Cond Compare)) → b < m → Same ws vs m → Stored c vs b m → Chain ws m k ds → Chain ws b k (map-cond node-compare c ∷ ds)
@@ -255,7 +259,7 @@ all-more c cs b ws s t =
     let h = same-all cs (b + size c) u in
     rw e (record {
       chain = in-front c u w b (b + size c) (b + size c + sizes cs) _ (omega (arith, size-some c)) h s (t .chain);
-      sound = λ mask g p. t .sound mask (every-append-r (terms-sound mask) (tests c) (tests-of cs) g) (further mask u w b (b + size c) (omega arith) h (s .sound mask (every-append-l (terms-sound mask) (tests c) (tests-of cs) g)) p);
+      sound = λ ok d g p. t .sound ok d (every-append-r ok (tests c) (tests-of cs) g) (further ok u w b (b + size c) (omega arith) h (s .sound ok d (every-append-l ok (tests c) (tests-of cs) g)) p);
     })
 
 mutual
@@ -281,14 +285,14 @@ stored-stands c b ws h l room = stored-cond c b ws h l room .stands
 
 record StoredList (cs : List (Cond Node)) (ws : List ℕ) (b k : ℕ) : Type 0 where
   chain : Chain ws b k (map (map-cond node-compare) cs)
-  sound : (mask : ℕ) → T (every (λ c. every (terms-sound mask) (tests c)) cs) → Passes mask ws b → Passes mask ws k
+  sound : (ok : Node → Bool) → Blind ok → T (every (λ c. every ok (tests c)) cs) → Passes ok ws b → Passes ok ws k
 
 stored-from : (cs : List (Cond Node)) (b : ℕ) (ws : List ℕ) → T (every (λ c. every fits (tests c)) cs) → b + list-size cs ≤ 255 → b + list-size cs ≤ length ws
     → StoredList cs (store-list cs b ws) b (b + list-size cs)
 unfolding store-list list-size every
 stored-from [] b ws h l room =
     let e : b + 0 ≡ b = omega arith in
-    rw e (record { chain = chain-end; sound = λ mask t p. p })
+    rw e (record { chain = chain-end; sound = λ ok d t p. p })
 stored-from (c ∷ cs) b ws h l room =
     let e : b + (size c + list-size cs) ≡ b + size c + list-size cs = omega arith in
     let u = store c b ws in
@@ -298,7 +302,7 @@ stored-from (c ∷ cs) b ws h l room =
     let t : StoredList cs w (b + size c) (b + size c + list-size cs) = stored-from cs (b + size c) u (search parts) (omega arith) (omega (arith, length-store c b ws)) in
     rw e (record {
       chain = in-front c u w b (b + size c) (b + size c + list-size cs) _ (omega (arith, size-some c)) k s (t .chain);
-      sound = λ mask g p. t .sound mask (search parts) (further mask u w b (b + size c) (omega arith) k (s .sound mask (search parts)) p);
+      sound = λ ok d g p. t .sound ok d (search parts) (further ok u w b (b + size c) (omega arith) k (s .sound ok d (search parts)) p);
     })
 
 module _ (cs : List (Cond Node)) (ws : List ℕ) (h : T (every (λ c. every fits (tests c)) cs)) (l : list-size cs ≤ 255) (room : list-size cs ≤ length ws) where
@@ -312,9 +316,18 @@ module _ (cs : List (Cond Node)) (ws : List ℕ) (h : T (every (λ c. every fits
   unfolding conditions-of
   stored-list = chain-list (from-none .chain) (2 * list-size cs + 1) (omega arith) [] ∙ append-nil (map (map-cond node-compare) cs)
 
-  none-left : (mask : ℕ) (vs : List ℕ) → Passes mask vs 0
+  none-left : (ok : Node → Bool) (vs : List ℕ) → Passes ok vs 0
   unfolding all-sound
-  none-left mask vs = tt
+  none-left ok vs = tt
+
+  -- each node has its link
+  pub stored-linked : T (linked-from (suc (list-size cs)) (store-list cs 0 ws) (list-size cs))
+  unfolding linked-from
+  stored-linked = from-none .sound (λ n. true) (λ n b. refl) (all-every _ (all-weaken (λ c u. all-every _ (all-weaken (λ n v. tt) (all-any (tests c)))) (all-any cs))) (none-left (λ n. true) (store-list cs 0 ws))
+
+  terms-blind : (mask : ℕ) → Blind (terms-sound mask)
+  unfolding terms-sound compared
+  terms-blind mask n b = refl
 
   -- and may be lent, where none of them nests too deep
   module _ (mask : ℕ) (t : T (every (λ c. every (terms-sound mask) (tests c)) cs)) (d : T (every (λ c. leb (cond-depth c) max-nesting) cs)) where
@@ -323,8 +336,8 @@ module _ (cs : List (Cond Node)) (ws : List ℕ) (h : T (every (λ c. every fits
     stored-sound =
         let ws′ = store-list cs 0 ws in
         let n = list-size cs in
-        and-both (all-sound (suc n) mask ws′ n && reaches (suc n) ws′ 0 n) _
-        (and-both (all-sound (suc n) mask ws′ n) (reaches (suc n) ws′ 0 n) (from-none .sound mask t (none-left mask ws′)) (rw (chain-reaches (from-none .chain) (suc n) (omega arith)) tt))
+        and-both (all-sound (suc n) (terms-sound mask) ws′ n && reaches (suc n) ws′ 0 n) _
+        (and-both (all-sound (suc n) (terms-sound mask) ws′ n) (reaches (suc n) ws′ 0 n) (from-none .sound (terms-sound mask) (terms-blind mask) t (none-left (terms-sound mask) ws′)) (rw (chain-reaches (from-none .chain) (suc n) (omega arith)) tt))
         (rw (stored-list, shallow-map node-compare cs) d)
 
     -- so words that may not be lent are not those of any such conditions over the mask

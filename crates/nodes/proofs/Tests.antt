@@ -161,67 +161,67 @@ pub ruleset terms-ends = (terms-left, terms-column, terms-number, terms-entry, t
 
 -- ---- a node, and those before it
 
-module _ (mask : ℕ) (ws : List ℕ) (k : ℕ) (n : Node) {x : Bool} (p : x ≡ linked ws k n) where
-  pub node-unlinked : not x ≡ true → false ≡ node-sound mask ws k n
+module _ (ok : Node → Bool) (ws : List ℕ) (k : ℕ) (n : Node) {x : Bool} (p : x ≡ linked ws k n) where
+  pub node-unlinked : not x ≡ true → false ≡ node-sound ok ws k n
   unfolding node-sound
   node-unlinked f = rw (sym p ∙ not-true x f)
 
   module _ (t : not x ≡ false) {y : Bool} (q : y ≡ comparing n) where
-    pub node-inner : not y ≡ true → true ≡ node-sound mask ws k n
+    pub node-inner : not y ≡ true → true ≡ node-sound ok ws k n
     unfolding node-sound
     node-inner f = rw (sym p ∙ not-false x t, sym q ∙ not-true y f)
 
-    pub node-test : not y ≡ false → {z : Bool} → z ≡ terms-sound mask n → z ≡ node-sound mask ws k n
+    pub node-test : not y ≡ false → {z : Bool} → z ≡ ok n → z ≡ node-sound ok ws k n
     unfolding node-sound
     node-test f {z} v = rw (sym p ∙ not-false x t, sym q ∙ not-false y f, ← v)
 
 pub ruleset sound-ends = (node-unlinked, node-inner, node-test)
 
-module _ (mask : ℕ) (ws : List ℕ) where
-  pub all-none : (f k : ℕ) → k ≡ 0 → all-sound f mask ws k ≡ true
+module _ (ok : Node → Bool) (ws : List ℕ) where
+  pub all-none : (f k : ℕ) → k ≡ 0 → all-sound f ok ws k ≡ true
   unfolding all-sound
   all-none zero k e = refl
   all-none (suc f) k e = let z = eq-eqb k 0 e in rw (z, all-sound)
 
-  pub all-step : (f k : ℕ) → 0 < k → all-sound (suc f) mask ws k ≡ (node-sound mask ws k (node-at ws k) && all-sound f mask ws (k - node-words (node-at ws k)))
+  pub all-step : (f k : ℕ) → 0 < k → all-sound (suc f) ok ws k ≡ (node-sound ok ws k (node-at ws k) && all-sound f ok ws (k - node-words (node-at ws k)))
   unfolding all-sound
   all-step f k h = let z = ne-eqb k 0 (λ e. omega arith) in rw (z, all-sound)
 
   -- steps enough are enough
-  pub all-fuel : (f g k : ℕ) → k < f → k < g → all-sound f mask ws k ≡ all-sound g mask ws k
+  pub all-fuel : (f g k : ℕ) → k < f → k < g → all-sound f ok ws k ≡ all-sound g ok ws k
   all-fuel zero g k h i = absurd (omega arith)
   all-fuel (suc f) zero k h i = absurd (omega arith)
   all-fuel (suc f) (suc g) k h i =
       go (decLt 0 k) (λ l. all-fuel f g (k - node-words (node-at ws k)) (omega (arith, words-some (node-at ws k))) (omega (arith, words-some (node-at ws k))))
     where
-      go : Dec (0 < k) → (0 < k → all-sound f mask ws (k - node-words (node-at ws k)) ≡ all-sound g mask ws (k - node-words (node-at ws k))) → all-sound (suc f) mask ws k ≡ all-sound (suc g) mask ws k
-      go (yes l) r = all-step f k l ∙ ap (λ b. node-sound mask ws k (node-at ws k) && b) (r l) ∙ sym (all-step g k l)
+      go : Dec (0 < k) → (0 < k → all-sound f ok ws (k - node-words (node-at ws k)) ≡ all-sound g ok ws (k - node-words (node-at ws k))) → all-sound (suc f) ok ws k ≡ all-sound (suc g) ok ws k
+      go (yes l) r = all-step f k l ∙ ap (λ b. node-sound ok ws k (node-at ws k) && b) (r l) ∙ sym (all-step g k l)
       go (no l) r = all-none (suc f) k (omega arith) ∙ sym (all-none (suc g) k (omega arith))
 
   -- the walk goes on before a node's words
-  pub all-before : (k : ℕ) → 0 < k → node-sound mask ws k (node-at ws k) ≡ true → all-sound (suc k) mask ws k ≡ all-sound (suc (k - node-words (node-at ws k))) mask ws (k - node-words (node-at ws k))
+  pub all-before : (k : ℕ) → 0 < k → node-sound ok ws k (node-at ws k) ≡ true → all-sound (suc k) ok ws k ≡ all-sound (suc (k - node-words (node-at ws k))) ok ws (k - node-words (node-at ws k))
   all-before k h e =
-      all-step k k h ∙ ap (λ b. b && all-sound k mask ws (k - node-words (node-at ws k))) e
+      all-step k k h ∙ ap (λ b. b && all-sound k ok ws (k - node-words (node-at ws k))) e
       ∙ all-fuel k (suc (k - node-words (node-at ws k))) (k - node-words (node-at ws k)) (omega (arith, words-some (node-at ws k))) (omega arith)
 
   -- all that is left of the first n
   abbrev pub left-sound : ℕ → Bool
-  left-sound k = all-sound (suc k) mask ws k
+  left-sound k = all-sound (suc k) ok ws k
 
   module _ (n k : ℕ) (inv : left-sound n ≡ left-sound k) where
     pub all-end : k ≤ 0 → true ≡ left-sound n
     all-end h = sym (inv ∙ all-none (suc k) k (omega arith))
 
-    module _ (h : 0 < k) {m : Node} (e : m ≡ node-at ws k) {x : Bool} (p : x ≡ node-sound mask ws k m) where
+    module _ (h : 0 < k) {m : Node} (e : m ≡ node-at ws k) {x : Bool} (p : x ≡ node-sound ok ws k m) where
       pub all-stop : not x ≡ true → false ≡ left-sound n
       all-stop f =
-          let z : node-sound mask ws k (node-at ws k) ≡ false = ap (node-sound mask ws k) (sym e) ∙ sym p ∙ not-true x f in
-          sym (inv ∙ all-step k k h ∙ ap (λ b. b && all-sound k mask ws (k - node-words (node-at ws k))) z)
+          let z : node-sound ok ws k (node-at ws k) ≡ false = ap (node-sound ok ws k) (sym e) ∙ sym p ∙ not-true x f in
+          sym (inv ∙ all-step k k h ∙ ap (λ b. b && all-sound k ok ws (k - node-words (node-at ws k))) z)
 
       module _ (f : not x ≡ false) {size : ℕ} (d : size ≡ node-words m) where
         on : left-sound n ≡ left-sound (k - size)
         on =
-            let z : node-sound mask ws k (node-at ws k) ≡ true = ap (node-sound mask ws k) (sym e) ∙ sym p ∙ not-false x f in
+            let z : node-sound ok ws k (node-at ws k) ≡ true = ap (node-sound ok ws k) (sym e) ∙ sym p ∙ not-false x f in
             let y : node-words (node-at ws k) ≡ size = ap node-words (sym e) ∙ sym d in
             inv ∙ all-before k h z ∙ ap (λ w. left-sound (k - w)) y
 
@@ -236,7 +236,7 @@ module _ (mask : ℕ) (ws : List ℕ) where
 
 pub ruleset all-ends = (all-end, all-stop, all-front, all-falls, all-on)
 
-module _ (mask : ℕ) (ws : List ℕ) (n : ℕ) {x : Bool} (p : x ≡ all-sound (suc n) mask ws n) where
+module _ (mask : ℕ) (ws : List ℕ) (n : ℕ) {x : Bool} (p : x ≡ all-sound (suc n) (terms-sound mask) ws n) where
   pub nodes-stop : not x ≡ true → false ≡ nodes-sound mask ws n
   unfolding nodes-sound
   nodes-stop f = rw (sym p ∙ not-true x f)
@@ -246,11 +246,11 @@ module _ (mask : ℕ) (ws : List ℕ) (n : ℕ) {x : Bool} (p : x ≡ all-sound 
     unfolding nodes-sound
     nodes-astray g = rw (sym p ∙ not-false x f, sym q ∙ not-true y g)
 
-    pub nodes-end : not y ≡ false → {r : Bool} → ((m : ℕ) → T (all-sound (suc n) m ws n) → T (reaches (suc n) ws 0 n) → r ≡ shallow-conds (conditions-of ws n)) → r ≡ nodes-sound mask ws n
+    pub nodes-end : not y ≡ false → {r : Bool} → ((ok : Node → Bool) → T (all-sound (suc n) ok ws n) → T (reaches (suc n) ws 0 n) → r ≡ shallow-conds (conditions-of ws n)) → r ≡ nodes-sound mask ws n
     unfolding nodes-sound
     nodes-end g e =
         let a = sym p ∙ not-false x f in
         let b = sym q ∙ not-false y g in
-        rw (a, b) (e mask (true-T (all-sound (suc n) mask ws n) a) (true-T (reaches (suc n) ws 0 n) b))
+        rw (a, b) (e (terms-sound mask) (true-T (all-sound (suc n) (terms-sound mask) ws n) a) (true-T (reaches (suc n) ws 0 n) b))
 
 pub ruleset nodes-ends = (nodes-stop, nodes-astray, nodes-end)

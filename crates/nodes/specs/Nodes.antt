@@ -122,14 +122,19 @@ terms-sound mask n =
     in-mask mask (n .left)
     && (in-mask mask (n .right) || eqb (n .right) number-code && ltb (n .value) 4294967296 || eqb (n .right) entry-code && valid-name (name-of (n .value)))
 
-unfoldable pub node-sound : ℕ → List ℕ → ℕ → Node → Bool
-node-sound mask ws k n = linked ws k n && (not (comparing n) || terms-sound mask n)
+-- a node has the link that its head asks for, and passes a test where it is a comparison
+unfoldable pub node-sound : (Node → Bool) → List ℕ → ℕ → Node → Bool
+node-sound ok ws k n = linked ws k n && (not (comparing n) || ok n)
 
 -- every node from the one that ends at a place back to the first
-unfoldable pub all-sound : ℕ → ℕ → List ℕ → ℕ → Bool
-all-sound zero mask ws k = true
-all-sound (suc f) mask ws k =
-    elim (eqb k 0) [ true ↦ true | false ↦ node-sound mask ws k (node-at ws k) && all-sound f mask ws (k - node-words (node-at ws k)) ]
+unfoldable pub all-sound : ℕ → (Node → Bool) → List ℕ → ℕ → Bool
+all-sound zero ok ws k = true
+all-sound (suc f) ok ws k =
+    elim (eqb k 0) [ true ↦ true | false ↦ node-sound ok ws k (node-at ws k) && all-sound f ok ws (k - node-words (node-at ws k)) ]
+
+-- each has the link that its head asks for, whatever it compares
+unfoldable pub linked-from : ℕ → List ℕ → ℕ → Bool
+linked-from f ws k = all-sound f (λ n. true) ws k
 
 -- how deep a condition of a grant may nest, a comparison by itself being 1: in a line its own bracket and that of `when` are open around it
 abbrev pub max-nesting : ℕ
@@ -141,4 +146,4 @@ shallow-conds cs = every (λ c. leb (cond-depth c) max-nesting) cs
 
 -- the first n words are those of a list of conditions over the columns of a mask, none of which nests too deep
 unfoldable pub nodes-sound : ℕ → List ℕ → ℕ → Bool
-nodes-sound mask ws n = all-sound (suc n) mask ws n && reaches (suc n) ws 0 n && shallow-conds (conditions-of ws n)
+nodes-sound mask ws n = all-sound (suc n) (terms-sound mask) ws n && reaches (suc n) ws 0 n && shallow-conds (conditions-of ws n)

@@ -1,5 +1,6 @@
 // Conditions as nodes in words, one to three words a node: neither a recursion nor a table of grants carries them by value.
 ghost use mathlib.Core.Path.{_≡_};
+ghost use mathlib.Core.Bool.{Bool};
 ghost use Prim.Native.Nat.{ℕ, suc, _+_, _*_, _-_, _≤_};
 ghost use lib.Dec.{T};
 ghost use lib.ListN.{length, getD};
@@ -242,7 +243,7 @@ fn terms_stand(n: Node, mask: u32) -> bool
 }
 
 fn node_sound(words: &[u32], k: usize, n: Node, mask: u32) -> bool
-    ensures { λ r. ⌜ r ≡ node-sound mask (now (words .entry)) k n ⌝ }
+    ensures { λ r. ⌜ r ≡ node-sound (terms-sound mask) (now (words .entry)) k n ⌝ }
 {
     if !links_well(words, k, n) {
         return false;
@@ -255,7 +256,7 @@ fn node_sound(words: &[u32], k: usize, n: Node, mask: u32) -> bool
 
 // Every node is sound, from the one that ends at a place back to the first.
 fn all_sound(words: &[u32], n: usize, mask: u32) -> bool
-    ensures { λ r. ⌜ r ≡ all-sound (suc n) mask (now (words .entry)) n ⌝ }
+    ensures { λ r. ⌜ r ≡ all-sound (suc n) (terms-sound mask) (now (words .entry)) n ⌝ }
 {
     let mut k = n;
     while 0 < k {
@@ -282,7 +283,7 @@ fn place(before: u32) -> usize
 // No condition nests too deep, where every node is sound and the last links lead down to the first: from the last node back to the first,
 // with how many words stand before each condition that the node is inside of, the outermost in place 1.
 fn nests_well(words: &[u32], n: usize) -> bool
-    ensures { λ r. ⌜ ((mask : ℕ) → T (all-sound (suc n) mask (now (words .entry)) n) → T (reaches (suc n) (now (words .entry)) 0 n) → r ≡ shallow-conds (conditions-of (now (words .entry)) n)) ⌝ }
+    ensures { λ r. ⌜ ((ok : Node → Bool) → T (all-sound (suc n) ok (now (words .entry)) n) → T (reaches (suc n) (now (words .entry)) 0 n) → r ≡ shallow-conds (conditions-of (now (words .entry)) n)) ⌝ }
 {
     let mut around = [0u32; Node::NESTING];
     let mut depth: usize = 0;

@@ -1,11 +1,12 @@
 use borrow.Author.Needs.{needs}
 use mathlib.Core.Path.{_≡_, refl}
+use Rattle.nodes.specs.Nodes.{terms-sound}
 use Rattle.nodes.proofs.Tests.{left-sound, all-ends}
 use Rattle.nodes.proofs.all_sound.Statement.{statement}
 use Rattle.nodes.proofs.all_sound.Tie as tie
 
 abbrev Inv-loop : tie.InvT-loop
-Inv-loop words n mask k₀ k = left-sound mask words n ≡ left-sound mask words k
+Inv-loop words n mask k₀ k = left-sound (terms-sound mask) words n ≡ left-sound (terms-sound mask) words k
 
 abbrev μ-loop : tie.MeasureT-loop
 μ-loop words n mask k₀ k = k

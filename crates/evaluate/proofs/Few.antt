@@ -1,0 +1,110 @@
+-- A plan asks for no more rows than its bound.
+use mathlib.Core.Path.{_≡_, refl, sym, ap, ap₂, _∙_, subst}
+use mathlib.Core.List.{List, [], _∷_, _++_, map}
+use mathlib.Core.Bool.{Bool, true, false, cond}
+use Prim.Native.Nat.{ℕ, suc, _+_, _*_, _/_, _≤_}
+use native.Mathlib.Omega.{arith}
+use native.Mathlib.Nat.{le-trans, mul-le-mul}
+use lib.Dec.{eqb, leb}
+use lib.IntN.{ℤ}
+use lib.ListN.{length, length-map, length-append}
+use Rattle.lists.specs.Lists.{select, gather, count-from}
+use Rattle.lists.proofs.Counting.{count-length}
+use Rattle.syntax.specs.Grammar.{Fn, Cond}
+use Rattle.model.specs.Queries.{Col, Compare, Row, Table, Record}
+use Rattle.model.specs.Aggregates.{closed, answer-row, window, figures-of}
+use Rattle.model.specs.Meaning.{both, kept-row, kept, pairs, aggregated, table-of}
+use Rattle.model.specs.Grants.{limited}
+use Rattle.query.specs.Forms.{Words, numbered-fn, coded-col, cols-in}
+use Rattle.rewrite.proofs.Shown.{select-fewer}
+use Rattle.plan.specs.declared.Plan.{Plan}
+use Rattle.plan.specs.Plans.{left-conds, right-conds, pair-conds, outer-conds, inner-table, figure-table, planned}
+use Rattle.plan.proofs.Tables.{link, inner-joined, inner-alone}
+use Rattle.evaluate.specs.Bounds.{stream-rows, most-rows}
+
+limited-few : (cs : List (Cond Compare)) (t : Table) → length (limited cs t .rows) ≤ length (t .rows)
+unfolding limited
+limited-few cs t = select-fewer _ (t .rows)
+
+joined-many : (rs ls : List Row) → length (gather (λ x. map (both x) rs) ls) ≡ length ls * length rs
+unfolding gather
+joined-many rs [] = omega arith
+joined-many rs (x ∷ xs) =
+    let h = joined-many rs xs in
+    let a = length-append (map (both x) rs) (gather (λ x. map (both x) rs) xs) in
+    let b = length-map rs (both x) in
+    omega arith
+
+pairs-many : (l r : Table) → length (pairs l r .rows) ≡ length (l .rows) * length (r .rows)
+unfolding pairs
+pairs-many l r = joined-many (r .rows) (l .rows)
+
+-- a window gives one row or none
+one-row : (f : Fn) (end : ℕ) (vs : List ℤ) → length (answer-row f end vs) ≤ 1
+unfolding answer-row
+one-row f end [] = omega arith
+one-row f end (v ∷ vs) = omega arith
+
+windows-few : (f : Fn) (value : Row → ℤ) (size offset : ℕ) (rs : List Row) (ks : List ℕ) → length (gather (window f value size offset rs) ks) ≤ length ks
+unfolding gather window
+windows-few f value size offset rs [] = omega arith
+windows-few f value size offset rs (k ∷ ks) =
+    let h = windows-few f value size offset rs ks in
+    let a = length-append (window f value size offset rs k) (gather (window f value size offset rs) ks) in
+    let b : length (window f value size offset rs k) ≤ 1 = one-row f (k * offset + size) _ in
+    omega arith
+
+figures-few : (clock : ℕ) (f : Fn) (value : Row → ℤ) (size offset : ℕ) (rs : List Row) → length (figures-of clock f value size offset rs) ≤ suc (clock / offset)
+unfolding figures-of closed
+figures-few clock f value size offset rs =
+    let all = count-from 0 (suc (clock / offset)) in
+    let ended : ℕ → Bool = λ k. leb (k * offset + size) clock in
+    let a = windows-few f value size offset rs (select ended all) in
+    let b = select-fewer ended all in
+    let c = count-length 0 (suc (clock / offset)) in
+    omega arith
+
+aggregated-few : (clock : ℕ) (f : Fn) (c : Col) (size offset : ℕ) (t : Table) → length (aggregated clock f c size offset t .rows) ≤ suc (clock / offset)
+unfolding aggregated
+aggregated-few clock f c size offset t = figures-few clock f _ size offset (t .rows)
+
+module _ (x : Record) (w : Words) (p : Plan) where
+  joined-few : p .joined ≡ true → length (inner-table (table-of x) w p .rows) ≤ stream-rows x (p .left) * stream-rows x (p .right)
+  unfolding stream-rows
+  joined-few j =
+      let l = limited (left-conds w p) (table-of x (p .left)) in
+      let r = limited (right-conds w p) (table-of x (p .right)) in
+      let cs = pair-conds w p ++ (link (table-of x) w p ∷ []) in
+      let e : length (inner-table (table-of x) w p .rows) ≡ length (limited cs (pairs l r) .rows) = ap (λ (t : Table). length (t .rows)) (inner-joined (table-of x) w p j) in
+      let a = limited-few cs (pairs l r) in
+      let b = pairs-many l r in
+      let c = mul-le-mul (limited-few (left-conds w p) (table-of x (p .left))) (limited-few (right-conds w p) (table-of x (p .right))) in
+      omega arith
+
+  alone-few : p .joined ≡ false → length (inner-table (table-of x) w p .rows) ≤ stream-rows x (p .left)
+  unfolding stream-rows
+  alone-few j =
+      let e : length (inner-table (table-of x) w p .rows) ≡ length (limited (left-conds w p) (table-of x (p .left)) .rows) = ap (λ (t : Table). length (t .rows)) (inner-alone (table-of x) w p j) in
+      let a = limited-few (left-conds w p) (table-of x (p .left)) in
+      omega arith
+
+  inner-few : length (inner-table (table-of x) w p .rows) ≤ cond (p .joined) (stream-rows x (p .left) * stream-rows x (p .right)) (stream-rows x (p .left))
+  inner-few = go (p .joined) refl
+    where
+      go : (b : Bool) → p .joined ≡ b → length (inner-table (table-of x) w p .rows) ≤ cond b (stream-rows x (p .left) * stream-rows x (p .right)) (stream-rows x (p .left))
+      go true e = joined-few e
+      go false e = alone-few e
+
+  summed-few : length (figure-table (x .clock) (table-of x) w p .rows) ≤ suc (x .clock / p .offset)
+  unfolding figure-table
+  summed-few = le-trans (limited-few (outer-conds w p) _) (aggregated-few (x .clock) (numbered-fn (p .number)) (coded-col (p .column)) (p .size) (p .offset) (inner-table (table-of x) w p))
+
+  -- a plan asks for no more rows than its bound
+  pub planned-few : length (planned x w p .rows) ≤ most-rows x p
+  unfolding planned most-rows kept
+  planned-few = go (eqb (p .number) 0)
+    where
+      go : (b : Bool) → length ((cond b (kept (cols-in (p .order)) (inner-table (table-of x) w p)) (figure-table (x .clock) (table-of x) w p)) .rows)
+          ≤ cond b (cond (p .joined) (stream-rows x (p .left) * stream-rows x (p .right)) (stream-rows x (p .left))) (suc (x .clock / p .offset))
+      go true = rw (length-map (inner-table (table-of x) w p .rows) (kept-row (inner-table (table-of x) w p .cols) (cols-in (p .order)))) inner-few
+      go false = summed-few
