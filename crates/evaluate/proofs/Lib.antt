@@ -1,2 +1,3 @@
 pub mod Routed
 pub mod Few
+pub mod Shapes

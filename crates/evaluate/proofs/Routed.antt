@@ -8,6 +8,7 @@ use Rattle.lists.proofs.Laws.{parts}
 use Rattle.model.specs.Queries.{Schema, Col, Query, source, pick, keep, join, aggregate, Grant}
 use Rattle.model.specs.Checks.{no-aggregate, side, allowed}
 use Rattle.model.specs.Routes.{Source, Numbered, seen, keeping, over-view, summed}
+use Rattle.model.proofs.Forms.{side-free}
 use Rattle.openings.specs.Made.{looked, through, figured}
 use Rattle.rewrite.specs.Routed.{over-sides, over-sum}
 
@@ -28,15 +29,6 @@ module _ (d : Schema) where
   sides-made g h hs (keep cs q) t = ap (keeping d cs) (sides-made g h hs q (search parts))
   sides-made g h hs (join a b q r) t = ap₂ (join a b) (side-through g g h q (search parts)) (side-through h h h r (search parts))
   sides-made g h hs (aggregate f c size offset q) t = ap (aggregate f c size offset) (sides-made g h hs q (search parts))
-
-  -- no aggregate stands below a join
-  side-free : (q : Query ℕ) → T (side q) → T (no-aggregate q)
-  unfolding side no-aggregate
-  side-free (source s) t = tt
-  side-free (pick c q) t = side-free q t
-  side-free (keep cs q) t = side-free q t
-  side-free (join a b q r) t = absurd t
-  side-free (aggregate f c size offset q) t = absurd t
 
   pub figures-made : (g : Grant) (hs : ℕ → List Col) (q : Query ℕ) → T (allowed hs q) → T (not (no-aggregate q)) → figured d g q ≡ over-sum d q (looked g)
   unfolding figured over-sum allowed no-aggregate
