@@ -2,16 +2,15 @@
 use mathlib.Core.Path.{_≡_, refl, sym, ap, ap₂, _∙_, subst}
 use mathlib.Core.List.{List, [], _∷_, _++_, map, map-map, map-append}
 use mathlib.Core.Bool.{Bool, true, false, _&&_, _||_, not, cond}
-use Prim.Native.Nat.{ℕ, zero, suc, _+_, _*_, _-_, _/_, _%_, _≤_, _<_}
-use native.Mathlib.Decide.{ℕ-discrete, decLt}
+use Prim.Native.Nat.{ℕ, suc, _-_, _≤_, _<_}
 use native.Mathlib.Omega.{arith}
 use lib.Bits.{bitAnd, bitOr}
 use lib.Dec.{T, eqb, eqb→eq}
 use lib.ListN.{length, getD, length-map}
 use borrow.Author.Tests.{eq-eqb, ne-eqb}
-use Rattle.lists.specs.Lists.{select, every, some?, empty?, gather, same-list, distinct, count-from}
+use Rattle.lists.specs.Lists.{select, every, some?, empty?, gather, same-list, distinct}
 use Rattle.lists.proofs.Laws.{All, all-nil, all-cons, all-head, all-tail, all-any, all-both, all-select, all-weaken, all-append, all-map, all-gather, and-l, and-r, parts, T-true, append-nil, select-map, gather-same, map-same}
-use Rattle.syntax.specs.Grammar.{Right, Fn}
+use Rattle.syntax.specs.Grammar.{Right}
 use Rattle.model.specs.Queries.{Schema, Col, Query, sources, Grant, Caller}
 use Rattle.model.specs.Grants.{belongs}
 use Rattle.model.specs.Checks.{timed, allowed, placed}
@@ -23,7 +22,6 @@ use Rattle.model.proofs.OneRow.{select-same, select-both, and-swap}
 use Rattle.model.proofs.Ways.{numbered-at, grants-append}
 use Rattle.model.proofs.Found.{routes-found}
 use Rattle.schema.specs.Schemas.{schema-of}
-use Rattle.masks.specs.Masks.{bit?}
 use Rattle.grant.specs.Grants.{grant-of, grant-sound}
 use Rattle.grant.specs.Catalogues.{words-in, catalogue-of, sound-from}
 use Rattle.grant.specs.declared.Grant as D
@@ -31,15 +29,15 @@ use Rattle.grant.proofs.Masked.{declared-stream}
 use Rattle.grant.proofs.Valid.{sound-tidy}
 use Rattle.needs.specs.Asking.{no-stream, needs-of}
 use Rattle.needs.specs.declared.Needs.{Needs}
-use Rattle.needs.proofs.Fields.{Streams, streams-are}
-use Rattle.needs.proofs.Shapes.{Below, Figured, none-there, one-there, figured-is, fn-some}
+use Rattle.needs.proofs.Fields.{streams-are}
+use Rattle.needs.proofs.Shapes.{Figured, none-there, one-there, figured-is}
 use Rattle.openings.specs.Made.{made, lone-kind, made-by}
 use Rattle.openings.proofs.Made.{route-of, routes-made}
 use Rattle.routes.specs.declared.Open.{Open}
 use Rattle.routes.specs.declared.Route as R
-use Rattle.routes.specs.declared.Gate.{Gate}
-use Rattle.routes.specs.Opening.{caller-in, belongs-in, side-opened, right-opened, pair-opened, figures-opened}
-use Rattle.routes.specs.Listing.{open-all, side-route, lone-route, candidate, gate-of, leaves-some, sides-open, is-route, routes-by, routes-in, numbers-of}
+use Rattle.routes.specs.Opening.{caller-in, side-opened, right-opened, pair-opened, figures-opened}
+use Rattle.routes.specs.Listing.{open-all, side-route, lone-route, gate-of, leaves-some, places-in, right-sides, side-routes, opened-routes, routes-by, routes-in, numbers-of}
+use Rattle.routes.proofs.Listed.{by-kinds}
 use Rattle.routes.proofs.Owned.{belongs-is, tidy-laid}
 use Rattle.routes.proofs.Shown.{hs}
 use Rattle.routes.proofs.Matched.{reads-is, one-left, two-left, lone-side, two-sides, pair-test, figures-test}
@@ -47,34 +45,19 @@ use Rattle.routes.proofs.Places.{Slot, slots, numbered-slots, sound-slo
 
 -- ---- lists
 
+and-none : (b : Bool) → (b && false) ≡ false
+and-none true = refl
+and-none false = refl
+
 select-none : {A : Type 0} (xs : List A) → select (λ x. false) xs ≡ []
 unfolding select
 select-none [] = refl
 select-none (x ∷ xs) = select-none xs
 
-all-unselect : {A : Type 0} {P : A → Type 0} (p : A → Bool) (xs : List A) → All P (select p xs) → All (λ x. T (p x) → P x) xs
-unfolding select
-all-unselect p [] h = all-nil
-all-unselect {P} p (x ∷ xs) h = go (p x) refl h (λ k. all-unselect p xs k)
-  where
-    go : (b : Bool) → p x ≡ b → All P (cond b (x ∷ select p xs) (select p xs)) → (All P (select p xs) → All (λ x. T (p x) → P x) xs) → All (λ x. T (p x) → P x) (x ∷ xs)
-    go true e h r = all-cons {x = x} (λ t. all-head h) (r (all-tail h))
-    go false e h r = all-cons {x = x} (λ t. absurd (subst T e t)) (r h)
-
 module _ {A B : Type 0} where
   all-unmap : {P : B → Type 0} (f : A → B) (xs : List A) → All P (map f xs) → All (λ x. P (f x)) xs
   all-unmap f [] h = all-nil
   all-unmap f (x ∷ xs) h = all-cons (all-head h) (all-unmap f xs (all-tail h))
-
-  -- one item each
-  gather-cond : (p : A → Bool) (f : A → B) (xs : List A) → gather (λ x. cond (p x) (f x ∷ []) []) xs ≡ map f (select p xs)
-  unfolding gather select
-  gather-cond p f [] = refl
-  gather-cond p f (x ∷ xs) = go (p x) (gather-cond p f xs)
-    where
-      go : (b : Bool) → gather (λ x. cond (p x) (f x ∷ []) []) xs ≡ map f (select p xs) → cond b (f x ∷ []) [] ++ gather (λ x. cond (p x) (f x ∷ []) []) xs ≡ map f (cond b (x ∷ select p xs) (select p xs))
-      go true e = ap (λ l. f x ∷ l) e
-      go false e = e
 
   -- a test made before
   cond-select : (b : Bool) (f : A → B) (p : A → Bool) (xs : List A) → cond b (map f (select p xs)) [] ≡ map f (select (λ x. b && p x) xs)
@@ -84,36 +67,6 @@ module _ {A B : Type 0} where
 map-each : {A B : Type 0} (f g : A → B) → ((x : A) → f x ≡ g x) → (xs : List A) → map f xs ≡ map g xs
 map-each f g e [] = refl
 map-each f g e (x ∷ xs) = ap₂ _∷_ (e x) (map-each f g e xs)
-
--- of some numbers the one that is given
-pick-none : (i a m : ℕ) (p : ℕ → Bool) → i < a → select (λ j. eqb i j && p j) (count-from a m) ≡ []
-unfolding select count-from
-pick-none i a zero p h = refl
-pick-none i a (suc m) p h = rw (ne-eqb i a (λ e. omega arith)) (pick-none i (suc a) m p (omega arith))
-
-pick-one : (i a m : ℕ) (p : ℕ → Bool) → a ≤ i → i < a + m → select (λ j. eqb i j && p j) (count-from a m) ≡ cond (p i) (i ∷ []) []
-unfolding select count-from
-pick-one i a zero p h l = absurd (omega arith)
-pick-one i a (suc m) p h l = go (ℕ-discrete i a) (λ e. pick-none i (suc a) m p e) (λ e. pick-one i (suc a) m p e)
-  where
-    go : Dec (i ≡ a) → (i < suc a → select (λ j. eqb i j && p j) (count-from (suc a) m) ≡ []) → (suc a ≤ i → i < suc a + m → select (λ j. eqb i j && p j) (count-from (suc a) m) ≡ cond (p i) (i ∷ []) [])
-        → cond (eqb i a && p a) (a ∷ select (λ j. eqb i j && p j) (count-from (suc a) m)) (select (λ j. eqb i j && p j) (count-from (suc a) m)) ≡ cond (p i) (i ∷ []) []
-    go (yes e) f g = rw (eq-eqb i a e, f (omega arith)) (ap (λ x. cond (p x) (x ∷ []) []) (sym e))
-    go (no e) f g = rw (ne-eqb i a e) (g (omega arith) (omega arith))
-
-counted-below : (a m : ℕ) → All (λ j. j < a + m) (count-from a m)
-unfolding count-from
-counted-below a zero = all-nil
-counted-below a (suc m) = all-cons {x = a} (omega arith) (all-weaken (λ j h. omega arith) (counted-below (suc a) m))
-
--- ---- candidates by their kinds
-
-abbrev places : List ℕ
-places = count-from 0 24
-
-candidates-are : map candidate (count-from 0 624) ≡ gather (λ i. map (side-route i) places) places ++ (map (lone-route 2) places ++ map (lone-route 3) places)
-unfolding candidate count-from gather
-candidates-are = refl
 
 -- ---- the routes of a query
 
@@ -211,11 +164,11 @@ module _ (ns ws roles profile : List ℕ) (gs : List D.Grant) (q : Query ℕ) (p
   -- ---- routes with one grant
 
   lone-numbers : (k i : ℕ) → (k ≡ 1 → ⊥) → numbers-of n (lone-route k i) ≡ suc i ∷ []
-  unfolding numbers-of lone-route
+  unfolding numbers-of
   lone-numbers k i e = rw (ne-eqb k 1 e)
 
-  lone-map : (f : ℕ → R.Route) → ((i : ℕ) → numbers-of n (f i) ≡ suc i ∷ []) → (xs : List Slot) → map (λ i. numbers-of n (f i)) (map (λ (s : Slot). s .place) xs) ≡ map one xs
-  lone-map f e xs = map-map (λ i. numbers-of n (f i)) (λ (s : Slot). s .place) xs ∙ map-each (λ (s : Slot). numbers-of n (f (s .place))) one (λ s. e (s .place)) xs
+  lone-map : (k : ℕ) → ((i : ℕ) → numbers-of n (lone-route k i) ≡ suc i ∷ []) → (xs : List Slot) → map (λ i. numbers-of n (lone-route k i)) (map (λ (s : Slot). s .place) xs) ≡ map one xs
+  lone-map k e xs = map-map (λ i. numbers-of n (lone-route k i)) (λ (s : Slot). s .place) xs ∙ map-each (λ (s : Slot). numbers-of n (lone-route k (s .place))) one (λ s. e (s .place)) xs
 
   -- of places that are those of some grants, the ones that pass a test
   places-left : (test : Slot → Bool) (js : List ℕ) (u : ℕ → Bool) (v : Slot → Bool) → js ≡ map (λ (s : Slot). s .place) (select test ss) → ((s : Slot) → Known s → u (s .place) ≡ v s)
@@ -224,107 +177,74 @@ module _ (ns ws roles profile : List ℕ) (gs : List D.Grant) (q : Query ℕ) (p
       ap (select u) e ∙ select-map u (λ (s : Slot). s .place) (select test ss)
       ∙ ap (map (λ (s : Slot). s .place)) (select-both (λ (s : Slot). u (s .place)) test ss ∙ select-same _ _ (all-weaken (λ s k. ap (λ y. y && test s) (f s k)) all-known))
 
-  abbrev there : R.Route → Bool
-  there x = is-route (gate-of o n) (o .shown) x
+  abbrev leaving : R.Route → Bool
+  leaving x = leaves-some (gate-of o n) (o .shown) x
 
-  lone-known : (s : Slot) → Known s → (k : ℕ) → leaves-some (gate-of o n) (o .shown) (lone-route k (s .place)) ≡ leaves s s
-  lone-known s h k = leaves-known s s h h (lone-route k (s .place)) (unfold lone-route in refl) (unfold lone-route in refl)
+  lone-list : (k : ℕ) → ((i : ℕ) → numbers-of n (lone-route k i) ≡ suc i ∷ []) → (mask : ℕ) (test : Slot → Bool) → places-in mask ≡ map (λ (s : Slot). s .place) (select test ss)
+      → map (numbers-of n) (select leaving (map (lone-route k) (places-in mask))) ≡ map one (select (λ s. leaves s s && test s) ss)
+  lone-list k m mask test e =
+      ap (map (numbers-of n)) (select-map leaving (lone-route k) (places-in mask))
+      ∙ map-map (numbers-of n) (lone-route k) (select (λ i. leaving (lone-route k i)) (places-in mask))
+      ∙ ap (map (λ i. numbers-of n (lone-route k i)))
+      (places-left test (places-in mask) (λ i. leaving (lone-route k i)) (λ s. leaves s s) e (λ s h. leaves-known s s h h (lone-route k (s .place)) refl refl))
+      ∙ lone-map k m (select (λ s. leaves s s && test s) ss)
 
-  pair-list : map (numbers-of n) (select there (map (lone-route 2) places)) ≡ map one (select (λ (s : Slot). leaves s s && (mine n ws roles profile s && pair-opened n (s .grant) (s .words))) ss)
-  pair-list =
-      ap (map (numbers-of n)) (select-map there (lone-route 2) places)
-      ∙ map-map (numbers-of n) (lone-route 2) (select (λ i. there (lone-route 2 i)) places)
-      ∙ ap (map (λ i. numbers-of n (lone-route 2 i))) (tests ∙ sym (select-both (λ i. leaves-some (gate-of o n) (o .shown) (lone-route 2 i)) (bit? (o .pair)) places)
-      ∙ places-left (λ (s : Slot). mine n ws roles profile s && pair-opened n (s .grant) (s .words)) (select (bit? (o .pair)) places) (λ i. leaves-some (gate-of o n) (o .shown) (lone-route 2 i)) (λ s. leaves s s) (pair-places n ws roles profile gs few) (λ s k. lone-known s k 2))
-      ∙ lone-map (lone-route 2) (λ i. lone-numbers 2 i (λ e. omega arith)) (select (λ (s : Slot). leaves s s && (mine n ws roles profile s && pair-opened n (s .grant) (s .words))) ss)
-    where
-      pair-there : (i : ℕ) → there (lone-route 2 i) ≡ (leaves-some (gate-of o n) (o .shown) (lone-route 2 i) && bit? (o .pair) i)
-      pair-there i = opened ∙ and-swap (bit? (o .pair) i) (leaves-some (gate-of o n) (o .shown) (lone-route 2 i))
-        where
-          opened : there (lone-route 2 i) ≡ (bit? (o .pair) i && leaves-some (gate-of o n) (o .shown) (lone-route 2 i))
-          opened = unfold is-route lone-route gate-of in refl
-
-      tests : select (λ i. there (lone-route 2 i)) places ≡ select (λ i. leaves-some (gate-of o n) (o .shown) (lone-route 2 i) && bit? (o .pair) i) places
-      tests = select-same _ _ (all-weaken (λ i u. pair-there i) (all-any places))
-
-  figures-list : map (numbers-of n) (select there (map (lone-route 3) places)) ≡ map one (select (λ (s : Slot). mine n ws roles profile s && figures-opened n (s .grant) (s .words)) ss)
-  figures-list =
-      ap (map (numbers-of n)) (select-map there (lone-route 3) places)
-      ∙ map-map (numbers-of n) (lone-route 3) (select (λ i. there (lone-route 3 i)) places)
-      ∙ ap (map (λ i. numbers-of n (lone-route 3 i))) (tests ∙ figures-places n ws roles profile gs few)
-      ∙ lone-map (lone-route 3) (λ i. lone-numbers 3 i (λ e. omega arith)) (select (λ (s : Slot). mine n ws roles profile s && figures-opened n (s .grant) (s .words)) ss)
-    where
-      figures-there : (i : ℕ) → there (lone-route 3 i) ≡ bit? (o .figures) i
-      figures-there i = unfold is-route lone-route gate-of in refl
-
-      tests : select (λ i. there (lone-route 3 i)) places ≡ select (bit? (o .figures)) places
-      tests = select-same _ _ (all-weaken (λ i u. figures-there i) (all-any places))
+  -- where no grant opens them
+  none-left : (f : Slot → Bool) → ((s : Slot) → f s ≡ false) → map one (select (λ s. leaves s s && (mine n ws roles profile s && f s)) ss) ≡ []
+  none-left f e =
+      ap (map one) (select-same _ (λ s. false) (all-weaken (λ s u. ap (λ x. leaves s s && (mine n ws roles profile s && x)) (e s)
+      ∙ ap (λ x. leaves s s && x) (and-none (mine n ws roles profile s)) ∙ and-none (leaves s s)) (all-any ss)) ∙ select-none ss)
 
   -- ---- second and third kinds
 
-  second-agrees : map (numbers-of n) (select there (map (lone-route 2) places)) ≡ select L (second-kind d who cat q)
-  second-agrees = pair-list ∙ go (single (sources q)) refl
+  abbrev on-pair : Slot → Bool
+  on-pair s = mine n ws roles profile s && pair-opened n (s .grant) (s .words)
+
+  abbrev on-figures : Slot → Bool
+  on-figures s = mine n ws roles profile s && figures-opened n (s .grant) (s .words)
+
+  pair-numbers : (i : ℕ) → numbers-of n (lone-route 2 i) ≡ suc i ∷ []
+  pair-numbers i = lone-numbers 2 i (λ e. omega arith)
+
+  figures-numbers : (i : ℕ) → numbers-of n (lone-route 3 i) ≡ suc i ∷ []
+  figures-numbers i = lone-numbers 3 i (λ e. omega arith)
+
+  second-agrees : map (numbers-of n) (select leaving (map (lone-route 2) (places-in (o .pair)))) ≡ select L (second-kind d who cat q)
+  second-agrees = lone-list 2 pair-numbers (o .pair) on-pair (pair-places n ws roles profile gs few) ∙ go (single (sources q)) refl
     where
-      go : (x : Bool) → single (sources q) ≡ x → map one (select (λ (s : Slot). leaves s s && (mine n ws roles profile s && pair-opened n (s .grant) (s .words))) ss) ≡ select L (second-kind d who cat q)
-      go true e = ap (map one) (select-same _ (λ s. false) (all-weaken (λ s k. none s (streams-are ns (hs ns) q may b .lone (rw e tt) .1)) all-known) ∙ select-none ss) ∙ sym (lone-second e)
+      go : (x : Bool) → single (sources q) ≡ x → map one (select (λ s. leaves s s && on-pair s) ss) ≡ select L (second-kind d who cat q)
+      go true e = none-left (λ (s : Slot). pair-opened n (s .grant) (s .words)) (λ s. shut s (streams-are ns (hs ns) q may b .lone (rw e tt) .1)) ∙ sym lone-second
         where
-          and-none : (a c : Bool) → (a && (c && false)) ≡ false
-          and-none true true = refl
-          and-none true false = refl
-          and-none false c = refl
+          shut : (s : Slot) → n .right ≡ no-stream → pair-opened n (s .grant) (s .words) ≡ false
+          shut s f = unfold pair-opened in rw (eq-eqb (n .right) no-stream f)
 
-          none : (s : Slot) → n .right ≡ no-stream → (leaves s s && (mine n ws roles profile s && pair-opened n (s .grant) (s .words))) ≡ false
-          none s f = ap (λ x. leaves s s && (mine n ws roles profile s && x)) shut ∙ and-none (leaves s s) (mine n ws roles profile s)
-            where
-              shut : pair-opened n (s .grant) (s .words) ≡ false
-              shut = unfold pair-opened in rw (eq-eqb (n .right) no-stream f)
-
-          lone-second : single (sources q) ≡ true → select L (second-kind d who cat q) ≡ []
-          lone-second e = unfold second-kind select in rw e
+          lone-second : select L (second-kind d who cat q) ≡ []
+          lone-second = unfold second-kind select in rw e
       go false e =
-          sym (two-second e ∙ numbers-left L (λ s. leaves s s) reads (sources q) _ (λ (s : Slot). leaves s s && (mine n ws roles profile s && pair-opened n (s .grant) (s .words)))
-          L-one (λ s k. ap₂ (λ x y. leaves s s && (x && y)) (theirs s k) (pair-test ns q may b (s .grant) (s .words) (k .safe) e)))
+          sym (two-second ∙ numbers-left L (λ s. leaves s s) reads (sources q) _ (λ s. leaves s s && on-pair s) L-one
+          (λ s k. ap₂ (λ x y. leaves s s && (x && y)) (theirs s k) (pair-test ns q may b (s .grant) (s .words) (k .safe) e)))
         where
-          two-second : single (sources q) ≡ false → select L (second-kind d who cat q)
+          two-second : select L (second-kind d who cat q)
               ≡ select L (numbers d who cat reads (sources q) (λ g. has-equality q g && (every (shown-by d (g ∷ [])) (asked-cols q) && not (some? timed (side-picks q)))))
-          two-second e = unfold second-kind in ap (λ x. select L (cond x [] (numbers d who cat reads (sources q) (λ g. has-equality q g && (every (shown-by d (g ∷ [])) (asked-cols q) && not (some? timed (side-picks q))))))) e
+          two-second = unfold second-kind in ap (λ x. select L (cond x [] (numbers d who cat reads (sources q) (λ g. has-equality q g && (every (shown-by d (g ∷ [])) (asked-cols q) && not (some? timed (side-picks q))))))) e
 
-  third-agrees : map (numbers-of n) (select there (map (lone-route 3) places)) ≡ select L (third-kind d who cat q)
-  third-agrees = figures-list ∙ go (figured-is ns q may)
+  third-agrees : map (numbers-of n) (select leaving (map (lone-route 3) (places-in (o .figures)))) ≡ select L (third-kind d who cat q)
+  third-agrees = lone-list 3 figures-numbers (o .figures) on-figures (figures-places n ws roles profile gs few) ∙ go (figured-is ns q may)
     where
-      go : Figured ns q → map one (select (λ (s : Slot). mine n ws roles profile s && figures-opened n (s .grant) (s .words)) ss) ≡ select L (third-kind d who cat q)
-      go (none-there a e k) = ap (map one) (select-same _ (λ s. false) (all-weaken (λ s u. none s) all-known) ∙ select-none ss) ∙ sym (ap (select L) (k who cat) ∙ nothing)
+      go : Figured ns q → map one (select (λ s. leaves s s && on-figures s) ss) ≡ select L (third-kind d who cat q)
+      go (none-there a e k) = none-left (λ (s : Slot). figures-opened n (s .grant) (s .words)) shut ∙ sym (ap (select L) (k who cat) ∙ nothing)
         where
           nothing : select L [] ≡ []
           nothing = unfold select in refl
 
-          and-none : (c : Bool) → (c && false) ≡ false
-          and-none true = refl
-          and-none false = refl
-
-          none : (s : Slot) → (mine n ws roles profile s && figures-opened n (s .grant) (s .words)) ≡ false
-          none s = ap (λ x. mine n ws roles profile s && x) shut ∙ and-none (mine n ws roles profile s)
-            where
-              shut : figures-opened n (s .grant) (s .words) ≡ false
-              shut = unfold figures-opened in rw (eq-eqb (n .aggregate) 0 e)
+          shut : (s : Slot) → figures-opened n (s .grant) (s .words) ≡ false
+          shut s = unfold figures-opened in rw (eq-eqb (n .aggregate) 0 e)
       go (one-there {f} {c} {q′} k) =
           sym (ap (select L) (k .routes who cat)
-          ∙ numbers-left L (λ s. true) (gives f) (sources q′) _ (λ (s : Slot). mine n ws roles profile s && figures-opened n (s .grant) (s .words))
-          (λ s h. L-one s h ∙ ap (λ x. not x || not (eqb (bitAnd (bitOr (s .grant .shown) (s .grant .shown)) (n .header)) 0)) (ne-eqb (n .aggregate) 0 (λ e. fn-some ns f (sym (k .number) ∙ e))))
-          (λ s h. ap₂ _&&_ (theirs s h) (figures-test ns q may b (s .grant) (s .words) (h .safe) f c q′ k)))
+          ∙ numbers-left L (λ s. leaves s s) (gives f) (sources q′) _ (λ s. leaves s s && on-figures s) L-one
+          (λ s h. ap₂ (λ x y. leaves s s && (x && y)) (theirs s h) (figures-test ns q may b (s .grant) (s .words) (h .safe) f c q′ k)))
 
   -- ---- first kind
-
-  sides-list : select there (gather (λ i. map (side-route i) places) places)
-      ≡ gather (λ i. map (side-route i) (select (λ j. there (side-route i j)) places)) places
-  sides-list = select-gather there (λ i. map (side-route i) places) places ∙ gather-same (all-weaken (λ i u. select-map there (side-route i) places) (all-any places))
-
-  side-there : (i j : ℕ) → there (side-route i j) ≡ ((bit? (o .left) i && cond (eqb (n .right) no-stream) (eqb i j) (bit? (o .right) j)) && leaves-some (gate-of o n) (o .shown) (side-route i j))
-  unfolding is-route sides-open side-route gate-of
-  side-there i j = refl
-
-  side-known : (s t : Slot) → Known s → Known t → leaves-some (gate-of o n) (o .shown) (side-route (s .place) (t .place)) ≡ leaves s t
-  side-known s t k l = leaves-known s t k l (side-route (s .place) (t .place)) (unfold side-route in refl) (unfold side-route in refl)
 
   for-one : (s : ℕ) → for-each d who cat (s ∷ []) ≡ numbers d who cat reads (s ∷ []) (λ g. true)
   unfolding for-each
@@ -351,52 +271,24 @@ module _ (ns ws roles profile : List ℕ) (gs : List D.Grant) (q : Query ℕ) (p
     streams-lone : (sources q ≡ n .left ∷ []) × (n .right ≡ no-stream)
     streams-lone = streams-are ns (hs ns) q may b .lone e
 
-    abbrev both-there : ℕ → Bool
-    both-there i = leaves-some (gate-of o n) (o .shown) (side-route i i) && bit? (o .left) i
+    right-alone : (i : ℕ) → right-sides (gate-of o n) i ≡ i ∷ []
+    unfolding right-sides gate-of
+    right-alone i = rw (eq-eqb (n .right) no-stream (streams-lone .1))
 
-    lone-there : (i j : ℕ) → there (side-route i j) ≡ (eqb i j && (leaves-some (gate-of o n) (o .shown) (side-route i j) && bit? (o .left) i))
-    lone-there i j =
-        side-there i j ∙ ap (λ x. (bit? (o .left) i && cond x (eqb i j) (bit? (o .right) j)) && leaves-some (gate-of o n) (o .shown) (side-route i j)) (eq-eqb (n .right) no-stream (streams-lone .1))
-        ∙ turn (bit? (o .left) i) (eqb i j) (leaves-some (gate-of o n) (o .shown) (side-route i j))
-      where
-        turn : (x y z : Bool) → ((x && y) && z) ≡ (y && (z && x))
-        turn true true z = and-true z
-          where
-            and-true : (z : Bool) → z ≡ (z && true)
-            and-true true = refl
-            and-true false = refl
-        turn true false z = refl
-        turn false true z = sym (and-none z)
-          where
-            and-none : (z : Bool) → (z && false) ≡ false
-            and-none true = refl
-            and-none false = refl
-        turn false false z = refl
+    sides-lone : side-routes (gate-of o n) ≡ map (lone-route 1) (places-in (o .left))
+    unfolding side-routes gate-of
+    sides-lone =
+        gather-same (all-weaken (λ i u. ap (map (side-route i)) (right-alone i)) (all-any (places-in (o .left))))
+        ∙ sym (gather-map (λ x. x ∷ []) (lone-route 1) (places-in (o .left))) ∙ gather-ones (map (lone-route 1) (places-in (o .left)))
 
-    lone-row : (i : ℕ) → i < 24 → map (side-route i) (select (λ j. there (side-route i j)) places) ≡ cond (both-there i) (side-route i i ∷ []) []
-    lone-row i h =
-        ap (map (side-route i)) (select-same _ _ (all-weaken (λ j u. lone-there i j) (all-any places)) ∙ pick-one i 0 24 (λ j. leaves-some (gate-of o n) (o .shown) (side-route i j) && bit? (o .left) i) (omega arith) (omega arith))
-        ∙ go (both-there i)
-      where
-        go : (x : Bool) → map (side-route i) (cond x (i ∷ []) []) ≡ cond x (side-route i i ∷ []) []
-        go true = refl
-        go false = refl
-
-    lone-side-numbers : (i : ℕ) → numbers-of n (side-route i i) ≡ suc i ∷ []
-    unfolding numbers-of side-route
+    lone-side-numbers : (i : ℕ) → numbers-of n (lone-route 1 i) ≡ suc i ∷ []
+    unfolding numbers-of
     lone-side-numbers i = rw (eq-eqb (n .right) no-stream (streams-lone .1))
 
-    lone-list : map (numbers-of n) (select there (gather (λ i. map (side-route i) places) places)) ≡ map one (select (λ s. leaves s s && on-left s) ss)
-    lone-list =
-        ap (map (numbers-of n)) (sides-list ∙ gather-same (all-weaken (λ i h. lone-row i (omega arith)) (counted-below 0 24)) ∙ gather-cond both-there (λ i. side-route i i) places)
-        ∙ map-map (numbers-of n) (λ i. side-route i i) (select both-there places)
-        ∙ ap (map (λ i. numbers-of n (side-route i i))) (sym (select-both (λ i. leaves-some (gate-of o n) (o .shown) (side-route i i)) (bit? (o .left)) places)
-        ∙ places-left on-left (select (bit? (o .left)) places) (λ i. leaves-some (gate-of o n) (o .shown) (side-route i i)) (λ s. leaves s s) (left-places n ws roles profile gs few) (λ s k. side-known s s k k))
-        ∙ lone-map (λ i. side-route i i) lone-side-numbers (select (λ s. leaves s s && on-left s) ss)
-
-    lone-first : map (numbers-of n) (select there (gather (λ i. map (side-route i) places) places)) ≡ select L (first-kind d who cat q)
+    lone-first : map (numbers-of n) (select leaving (side-routes (gate-of o n))) ≡ select L (first-kind d who cat q)
     lone-first =
-        lone-list
+        ap (λ l. map (numbers-of n) (select leaving l)) sides-lone
+        ∙ lone-list 1 lone-side-numbers (o .left) on-left (left-places n ws roles profile gs few)
         ∙ sym (left-first (n .left ∷ []) (streams-lone .0) ∙ ap (select (λ ms. L ms && S ms)) (for-one (n .left))
         ∙ numbers-left (λ ms. L ms && S ms) (λ s. leaves s s && every (shown-by d (G s ∷ [])) named) reads (n .left ∷ []) (λ g. true) (λ s. leaves s s && on-left s)
         (λ s k. ap₂ _&&_ (L-one s k) (ap (λ hs. every (shown-by d hs) named) (k .at)))
@@ -426,42 +318,32 @@ module _ (ns ws roles profile : List ℕ) (gs : List D.Grant) (q : Query ℕ) (p
     abbrev two : Slot → Slot → List ℕ
     two s t = suc (s .place) ∷ (suc (t .place) ∷ [])
 
-    abbrev left-some : ℕ → ℕ → Bool
-    left-some i j = leaves-some (gate-of o n) (o .shown) (side-route i j)
-
-    both-there′ : (i j : ℕ) → there (side-route i j) ≡ (bit? (o .left) i && (left-some i j && bit? (o .right) j))
-    both-there′ i j =
-        side-there i j ∙ ap (λ x. (bit? (o .left) i && cond x (eqb i j) (bit? (o .right) j)) && left-some i j) right-some
-        ∙ turn (bit? (o .left) i) (bit? (o .right) j) (left-some i j)
-      where
-        turn : (x y z : Bool) → ((x && y) && z) ≡ (x && (z && y))
-        turn true y z = and-swap y z
-        turn false y z = refl
-
-    abbrev row : ℕ → List R.Route
-    row i = map (side-route i) (select (λ j. left-some i j && bit? (o .right) j) places)
-
-    rows-are : gather (λ i. map (side-route i) (select (λ j. there (side-route i j)) places)) places ≡ gather row (select (bit? (o .left)) places)
-    rows-are =
-        gather-same (all-weaken (λ i u. ap (map (side-route i)) (select-same _ _ (all-weaken (λ j v. both-there′ i j) (all-any places))) ∙ sym (cond-select (bit? (o .left) i) (side-route i) (λ j. left-some i j && bit? (o .right) j) places)) (all-any places))
-        ∙ sym (gather-select row (bit? (o .left)) places)
+    sides-both : side-routes (gate-of o n) ≡ gather (λ i. map (side-route i) (places-in (o .right))) (places-in (o .left))
+    unfolding side-routes right-sides gate-of
+    sides-both = rw right-some
 
     two-numbers : (i j : ℕ) → numbers-of n (side-route i j) ≡ suc i ∷ (suc j ∷ [])
-    unfolding numbers-of side-route
+    unfolding numbers-of
     two-numbers i j = rw right-some
+
+    abbrev row : ℕ → List R.Route
+    row i = select leaving (map (side-route i) (places-in (o .right)))
 
     row-known : (s : Slot) → Known s → map (numbers-of n) (row (s .place)) ≡ map (two s) (select (λ t. leaves s t && on-right t) ss)
     row-known s k =
-        map-map (numbers-of n) (side-route (s .place)) (select (λ j. left-some (s .place) j && bit? (o .right) j) places)
-        ∙ ap (map (λ j. numbers-of n (side-route (s .place) j))) (sym (select-both (left-some (s .place)) (bit? (o .right)) places)
-        ∙ places-left on-right (select (bit? (o .right)) places) (left-some (s .place)) (λ t. leaves s t) (right-places n ws roles profile gs few) (λ t l. side-known s t k l))
+        ap (map (numbers-of n)) (select-map leaving (side-route (s .place)) (places-in (o .right)))
+        ∙ map-map (numbers-of n) (side-route (s .place)) (select (λ j. leaving (side-route (s .place) j)) (places-in (o .right)))
+        ∙ ap (map (λ j. numbers-of n (side-route (s .place) j)))
+        (places-left on-right (places-in (o .right)) (λ j. leaving (side-route (s .place) j)) (λ t. leaves s t) (right-places n ws roles profile gs few)
+        (λ t l. leaves-known s t k l (side-route (s .place) (t .place)) refl refl))
         ∙ map-map (λ j. numbers-of n (side-route (s .place) j)) (λ (t : Slot). t .place) (select (λ t. leaves s t && on-right t) ss)
         ∙ map-each (λ (t : Slot). numbers-of n (side-route (s .place) (t .place))) (two s) (λ t. two-numbers (s .place) (t .place)) (select (λ t. leaves s t && on-right t) ss)
 
-    both-list : map (numbers-of n) (select there (gather (λ i. map (side-route i) places) places)) ≡ gather (λ s. map (two s) (select (λ t. on-left s && (leaves s t && on-right t)) ss)) ss
+    both-list : map (numbers-of n) (select leaving (side-routes (gate-of o n))) ≡ gather (λ s. map (two s) (select (λ t. on-left s && (leaves s t && on-right t)) ss)) ss
     both-list =
-        ap (map (numbers-of n)) (sides-list ∙ rows-are)
-        ∙ map-gather (numbers-of n) row (select (bit? (o .left)) places)
+        ap (λ l. map (numbers-of n) (select leaving l)) sides-both
+        ∙ ap (map (numbers-of n)) (select-gather leaving (λ i. map (side-route i) (places-in (o .right))) (places-in (o .left)))
+        ∙ map-gather (numbers-of n) row (places-in (o .left))
         ∙ ap (gather (λ i. map (numbers-of n) (row i))) (left-places n ws roles profile gs few)
         ∙ gather-map (λ i. map (numbers-of n) (row i)) (λ (s : Slot). s .place) (select on-left ss)
         ∙ gather-same (all-select on-left (λ s t k. row-known s k) all-known)
@@ -516,32 +398,31 @@ module _ (ns ws roles profile : List ℕ) (gs : List D.Grant) (q : Query ℕ) (p
         (sym (ap (λ hs. not (empty? (left d hs q))) (grants-two s t k l) ∙ two-left ns q may b (s .grant) (t .grant) (s .words) (t .words) (k .safe) (l .safe)))
         (sym (ap (λ hs. every (shown-by d hs) named) (grants-two s t k l)))
 
-    both-first : map (numbers-of n) (select there (gather (λ i. map (side-route i) places) places)) ≡ select L (first-kind d who cat q)
+    both-first : map (numbers-of n) (select leaving (side-routes (gate-of o n))) ≡ select L (first-kind d who cat q)
     both-first =
         both-list ∙ gather-same (all-weaken (λ s k. ap (map (two s)) (select-same _ _ (all-weaken (λ t l. pair-known s t k l) all-known))) all-known) ∙ sym first-two
 
-  first-agrees : map (numbers-of n) (select there (gather (λ i. map (side-route i) places) places)) ≡ select L (first-kind d who cat q)
+  first-agrees : map (numbers-of n) (select leaving (side-routes (gate-of o n))) ≡ select L (first-kind d who cat q)
   first-agrees = go (single (sources q)) refl
     where
-      go : (x : Bool) → single (sources q) ≡ x → map (numbers-of n) (select there (gather (λ i. map (side-route i) places) places)) ≡ select L (first-kind d who cat q)
+      go : (x : Bool) → single (sources q) ≡ x → map (numbers-of n) (select leaving (side-routes (gate-of o n))) ≡ select L (first-kind d who cat q)
       go true e = lone-first (rw e tt)
       go false e = both-first e
 
   -- ---- all kinds
 
-  listed : map (numbers-of n) (routes-in o n) ≡ map (numbers-of n) (select there (gather (λ i. map (side-route i) places) places ++ (map (lone-route 2) places ++ map (lone-route 3) places)))
-  unfolding routes-in routes-by
-  listed = ap (λ l. map (numbers-of n) (select there l)) candidates-are
+  listed : routes-in o n ≡ select leaving (side-routes (gate-of o n)) ++ (select leaving (map (lone-route 2) (places-in (o .pair))) ++ select leaving (map (lone-route 3) (places-in (o .figures))))
+  unfolding routes-in gate-of
+  listed = by-kinds (gate-of o n) (o .shown)
 
   -- The routes that are listed have the numbers of the grants of the query's routes, in their order.
   pub routes-agree : map (numbers-of n) (routes-in o n) ≡ kinds d who cat q
   unfolding kinds
   routes-agree =
-      listed
-      ∙ ap (map (numbers-of n)) (select-append there (gather (λ i. map (side-route i) places) places) (map (lone-route 2) places ++ map (lone-route 3) places)
-      ∙ ap (λ l. select there (gather (λ i. map (side-route i) places) places) ++ l) (select-append there (map (lone-route 2) places) (map (lone-route 3) places)))
-      ∙ map-append (numbers-of n) (select there (gather (λ i. map (side-route i) places) places)) (select there (map (lone-route 2) places) ++ select there (map (lone-route 3) places))
-      ∙ ap₂ _++_ first-agrees (map-append (numbers-of n) (select there (map (lone-route 2) places)) (select there (map (lone-route 3) places)) ∙ ap₂ _++_ second-agrees third-agrees)
+      ap (map (numbers-of n)) listed
+      ∙ map-append (numbers-of n) (select leaving (side-routes (gate-of o n))) (select leaving (map (lone-route 2) (places-in (o .pair))) ++ select leaving (map (lone-route 3) (places-in (o .figures))))
+      ∙ ap₂ _++_ first-agrees
+      (map-append (numbers-of n) (select leaving (map (lone-route 2) (places-in (o .pair)))) (select leaving (map (lone-route 3) (places-in (o .figures)))) ∙ ap₂ _++_ second-agrees third-agrees)
       ∙ sym (select-append L (first-kind d who cat q) (second-kind d who cat q ++ third-kind d who cat q) ∙ ap (λ l. select L (first-kind d who cat q) ++ l) (select-append L (second-kind d who cat q) (third-kind d who cat q)))
 
   -- And so the routes of the query are those that are listed, each with the query that its grants make.
@@ -569,12 +450,11 @@ module _ (ns ws roles profile : List ℕ) (gs : List D.Grant) (q : Query ℕ) (p
         let h : s .place - 0 ≡ s .place = omega arith in
         ap₂ (grant-of ns) (e ∙ ap (λ i. getD gs i z) h) f
 
-    found-at : (test : Slot → Bool) (mask : ℕ) → select (bit? mask) places ≡ map (λ (s : Slot). s .place) (select test ss) → All (λ i. T (bit? mask i) → Found test i) places
+    found-at : (test : Slot → Bool) (mask : ℕ) → places-in mask ≡ map (λ (s : Slot). s .place) (select test ss) → All (Found test) (places-in mask)
     found-at test mask e =
-        all-unselect (bit? mask) places
-        (subst (All (Found test)) (sym e)
+        subst (All (Found test)) (sym e)
         (all-map {P = λ s. Known s × (G s ≡ placed-grant (s .place)) × T (test s)} (λ (s : Slot). s .place) (λ s h. (s, h .0, h .1, refl, h .2))
-        (all-select test (λ s t h. (h .0, placed-same s (h .1 .0) (h .1 .1), t)) (all-both all-known (slots-at ws z 0 gs)))))
+        (all-select test (λ s t h. (h .0, placed-same s (h .1 .0) (h .1 .1), t)) (all-both all-known (slots-at ws z 0 gs))))
 
     -- its query is that of its kind
     abbrev Right-made : R.Route → Type 0
@@ -607,115 +487,65 @@ module _ (ns ws roles profile : List ℕ) (gs : List D.Grant) (q : Query ℕ) (p
     unfolding side-opened
     side-reads s x t = and-l (eqb (s .grant .right) 0) _ t
 
-    sides-made : All Right-made (select there (gather (λ i. map (side-route i) places) places))
-    sides-made =
-        subst (All Right-made) (sym sides-list)
-        (all-gather {P = λ i. T (bit? (o .left) i) → Found on-left i}
-        (λ i f. all-map {P = λ j. T (there (side-route i j)) × (T (bit? (o .right) j) → Found on-right j)} (side-route i) (λ j h. one-side i j f (h .1) (h .0))
-        (all-select (λ j. there (side-route i j)) (λ j t h. (t, h)) (found-at on-right (o .right) (right-places n ws roles profile gs few))))
-        (found-at on-left (o .left) (left-places n ws roles profile gs few)))
+    one-made : (k : ℕ) → ((i : ℕ) → numbers-of n (lone-route k i) ≡ suc i ∷ []) → (mask : ℕ) (test : Slot → Bool) → places-in mask ≡ map (λ (s : Slot). s .place) (select test ss)
+        → ((s : Slot) → T (test s) → lone-kind d q (G s) ≡ k) → All Right-made (map (lone-route k) (places-in mask))
+    one-made k m mask test e f =
+        all-map {P = Found test} (lone-route k) (λ i h. ap (λ l. made-by d g q (grants-at cat l)) (m i) ∙ lone-made k i (h .0) (h .1) (h .2) (h .3) (f (h .0) (h .4))) (found-at test mask e)
+
+    sides-made : All Right-made (side-routes (gate-of o n))
+    sides-made = go (single (sources q)) refl
       where
-        one-side : (i j : ℕ) → (T (bit? (o .left) i) → Found on-left i) → (T (bit? (o .right) j) → Found on-right j) → T (there (side-route i j)) → Right-made (side-route i j)
-        one-side i j f h t = go (single (sources q)) refl
-          where
-            opened : T ((bit? (o .left) i && cond (eqb (n .right) no-stream) (eqb i j) (bit? (o .right) j)) && leaves-some (gate-of o n) (o .shown) (side-route i j))
-            opened = rw (side-there i j) at t
+        go : (x : Bool) → single (sources q) ≡ x → All Right-made (side-routes (gate-of o n))
+        go true e =
+            subst (All Right-made) (sym (sides-lone (rw e tt)))
+            (one-made 1 (lone-side-numbers (rw e tt)) (o .left) on-left (left-places n ws roles profile gs few)
+            (λ s t. reading-kind s true (side-reads s (n .left) (and-r (mine n ws roles profile s) _ t)) e))
+        go false e =
+            subst (All Right-made) (sym (sides-both e))
+            (all-gather {P = Found on-left}
+            (λ i f. all-map {P = Found on-right} (side-route i)
+            (λ j h. ap (λ l. made-by d g q (grants-at cat l)) (two-numbers e i j) ∙ two-made i j (f .0) (h .0) (f .1) (h .1) (f .2) (h .2) (f .3) (h .3))
+            (found-at on-right (o .right) (right-places n ws roles profile gs few)))
+            (found-at on-left (o .left) (left-places n ws roles profile gs few)))
 
-            sides : T (bit? (o .left) i && cond (eqb (n .right) no-stream) (eqb i j) (bit? (o .right) j))
-            sides = and-l (bit? (o .left) i && cond (eqb (n .right) no-stream) (eqb i j) (bit? (o .right) j)) _ opened
-
-            parts-same : made d q 1 (placed-grant i) (placed-grant j) ≡ made d q (side-route i j .kind) (placed-grant (side-route i j .left)) (placed-grant (side-route i j .right))
-            parts-same = unfold side-route in refl
-
-            go : (x : Bool) → single (sources q) ≡ x → Right-made (side-route i j)
-            go true e =
-                let s = f (and-l (bit? (o .left) i) _ sides) in
-                let r = streams-lone (rw e tt) .1 in
-                let u : i ≡ j = eqb→eq i j (rw (eq-eqb (n .right) no-stream r) at (and-r (bit? (o .left) i) _ sides)) in
-                ap (λ k. made-by d g q (grants-at cat (numbers-of n (side-route i k)))) (sym u)
-                ∙ ap (λ l. made-by d g q (grants-at cat l)) (lone-side-numbers (rw e tt) i)
-                ∙ lone-made 1 i (s .0) (s .1) (s .2) (s .3) (reading-kind (s .0) true (side-reads (s .0) (n .left) (and-r (mine n ws roles profile (s .0)) _ (s .4))) e)
-                ∙ ap (λ k. made d q 1 (placed-grant i) (placed-grant k)) u ∙ parts-same
-            go false e =
-                let s = f (and-l (bit? (o .left) i) _ sides) in
-                let v : T (bit? (o .right) j) = rw (right-some e) at (and-r (bit? (o .left) i) _ sides) in
-                let r = h v in
-                ap (λ l. made-by d g q (grants-at cat l)) (two-numbers e i j) ∙ two-made i j (s .0) (r .0) (s .1) (r .1) (s .2) (r .2) (s .3) (r .3) ∙ parts-same
-
-    lone-parts : (k i : ℕ) → made d q k (placed-grant i) (placed-grant i) ≡ made d q (lone-route k i .kind) (placed-grant (lone-route k i .left)) (placed-grant (lone-route k i .right))
-    unfolding lone-route
-    lone-parts k i = refl
-
-    pair-made : All Right-made (select there (map (lone-route 2) places))
+    pair-made : All Right-made (map (lone-route 2) (places-in (o .pair)))
     pair-made =
-        subst (All Right-made) (sym (select-map there (lone-route 2) places))
-        (all-map {P = λ i. T (there (lone-route 2 i)) × (T (bit? (o .pair) i) → Found on-pair i)} (lone-route 2) (λ i h. one-pair i (h .1) (h .0))
-        (all-select (λ i. there (lone-route 2 i)) (λ i t h. (t, h)) (found-at on-pair (o .pair) (pair-places n ws roles profile gs few))))
+        one-made 2 pair-numbers (o .pair) on-pair (pair-places n ws roles profile gs few)
+        (λ s t. let u = and-r (mine n ws roles profile s) (pair-opened n (s .grant) (s .words)) t in reading-kind s false (reading-pair s u) (both s u))
       where
-        on-pair : Slot → Bool
-        on-pair s = mine n ws roles profile s && pair-opened n (s .grant) (s .words)
+        reading-pair : (s : Slot) → T (pair-opened n (s .grant) (s .words)) → T (eqb (s .grant .right) 0)
+        reading-pair s u = unfold pair-opened in and-l (eqb (s .grant .right) 0) _ (and-r (not (eqb (n .right) no-stream)) _ u)
 
-        one-pair : (i : ℕ) → (T (bit? (o .pair) i) → Found on-pair i) → T (there (lone-route 2 i)) → Right-made (lone-route 2 i)
-        one-pair i f t =
-            let s = f (set t) in
-            let u = and-r (mine n ws roles profile (s .0)) (pair-opened n (s .0 .grant) (s .0 .words)) (s .4) in
-            ap (λ l. made-by d g q (grants-at cat l)) (lone-numbers 2 i (λ e. omega arith))
-            ∙ lone-made 2 i (s .0) (s .1) (s .2) (s .3) (reading-kind (s .0) false (reading (s .0) u) (both (s .0) u)) ∙ lone-parts 2 i
+        both : (s : Slot) → T (pair-opened n (s .grant) (s .words)) → single (sources q) ≡ false
+        both s u = go (single (sources q)) refl
           where
-            set : T (there (lone-route 2 i)) → T (bit? (o .pair) i)
-            set t = unfold is-route lone-route gate-of in and-l (bit? (o .pair) i) _ t
+            some-right : T (not (eqb (n .right) no-stream))
+            some-right = unfold pair-opened in and-l (not (eqb (n .right) no-stream)) _ u
 
-            reading : (s : Slot) → T (pair-opened n (s .grant) (s .words)) → T (eqb (s .grant .right) 0)
-            reading s u = unfold pair-opened in and-l (eqb (s .grant .right) 0) _ (and-r (not (eqb (n .right) no-stream)) _ u)
+            go : (x : Bool) → single (sources q) ≡ x → x ≡ false
+            go true e = absurd (rw (eq-eqb (n .right) no-stream (streams-lone (rw e tt) .1)) at some-right)
+            go false e = refl
 
-            both : (s : Slot) → T (pair-opened n (s .grant) (s .words)) → single (sources q) ≡ false
-            both s u = go (single (sources q)) refl
-              where
-                some-right : T (not (eqb (n .right) no-stream))
-                some-right = unfold pair-opened in and-l (not (eqb (n .right) no-stream)) _ u
-
-                go : (x : Bool) → single (sources q) ≡ x → x ≡ false
-                go true e = absurd (rw (eq-eqb (n .right) no-stream (streams-lone (rw e tt) .1)) at some-right)
-                go false e = refl
-
-    figures-made : All Right-made (select there (map (lone-route 3) places))
+    figures-made : All Right-made (map (lone-route 3) (places-in (o .figures)))
     figures-made =
-        subst (All Right-made) (sym (select-map there (lone-route 3) places))
-        (all-map {P = λ i. T (there (lone-route 3 i)) × (T (bit? (o .figures) i) → Found on-figures i)} (lone-route 3) (λ i h. one-figure i (h .1) (h .0))
-        (all-select (λ i. there (lone-route 3 i)) (λ i t h. (t, h)) (found-at on-figures (o .figures) (figures-places n ws roles profile gs few))))
+        one-made 3 figures-numbers (o .figures) on-figures (figures-places n ws roles profile gs few)
+        (λ s t. figures-kind-of s (other s (and-r (mine n ws roles profile s) (figures-opened n (s .grant) (s .words)) t)))
       where
-        on-figures : Slot → Bool
-        on-figures s = mine n ws roles profile s && figures-opened n (s .grant) (s .words)
-
-        one-figure : (i : ℕ) → (T (bit? (o .figures) i) → Found on-figures i) → T (there (lone-route 3 i)) → Right-made (lone-route 3 i)
-        one-figure i f t =
-            let s = f (set t) in
-            let u = and-r (mine n ws roles profile (s .0)) (figures-opened n (s .0 .grant) (s .0 .words)) (s .4) in
-            ap (λ l. made-by d g q (grants-at cat l)) (lone-numbers 3 i (λ e. omega arith))
-            ∙ lone-made 3 i (s .0) (s .1) (s .2) (s .3) (figures-kind-of (s .0) (other (s .0) u)) ∙ lone-parts 3 i
+        other : (s : Slot) → T (figures-opened n (s .grant) (s .words)) → s .grant .right ≡ 0 → ⊥
+        other s u e = no-right (s .grant .right) (n .aggregate) some-aggregate same-right e
           where
-            set : T (there (lone-route 3 i)) → T (bit? (o .figures) i)
-            set t = unfold is-route lone-route gate-of in t
+            some-aggregate : T (not (eqb (n .aggregate) 0))
+            some-aggregate = unfold figures-opened in and-l (not (eqb (n .aggregate) 0)) _ u
 
-            other : (s : Slot) → T (figures-opened n (s .grant) (s .words)) → s .grant .right ≡ 0 → ⊥
-            other s u e = no-right (s .grant .right) (n .aggregate) (some-aggregate s u) (same-right s u) e
-              where
-                some-aggregate : (s : Slot) → T (figures-opened n (s .grant) (s .words)) → T (not (eqb (n .aggregate) 0))
-                some-aggregate s u = unfold figures-opened in and-l (not (eqb (n .aggregate) 0)) _ u
+            same-right : T (eqb (s .grant .right) (n .aggregate))
+            same-right = unfold figures-opened in and-l (eqb (s .grant .right) (n .aggregate)) _ (and-r (not (eqb (n .aggregate) 0)) _ u)
 
-                same-right : (s : Slot) → T (figures-opened n (s .grant) (s .words)) → T (eqb (s .grant .right) (n .aggregate))
-                same-right s u = unfold figures-opened in and-l (eqb (s .grant .right) (n .aggregate)) _ (and-r (not (eqb (n .aggregate) 0)) _ u)
-
-                no-right : (r a : ℕ) → T (not (eqb a 0)) → T (eqb r a) → r ≡ 0 → ⊥
-                no-right r a t v e = rw (eq-eqb a 0 (sym (eqb→eq r a v) ∙ e)) at t
+            no-right : (r a : ℕ) → T (not (eqb a 0)) → T (eqb r a) → r ≡ 0 → ⊥
+            no-right r a t v e = rw (eq-eqb a 0 (sym (eqb→eq r a v) ∙ e)) at t
 
     all-made : All Right-made (routes-in o n)
-    unfolding routes-in routes-by
-    all-made =
-        subst (All Right-made)
-        (sym (ap (select there) candidates-are ∙ select-append there (gather (λ i. map (side-route i) places) places) (map (lone-route 2) places ++ map (lone-route 3) places)
-        ∙ ap (λ l. select there (gather (λ i. map (side-route i) places) places) ++ l) (select-append there (map (lone-route 2) places) (map (lone-route 3) places))))
-        (all-append sides-made (all-append pair-made figures-made))
+    unfolding routes-in routes-by opened-routes gate-of
+    all-made = all-select leaving (λ x t h. h) (all-append sides-made (all-append pair-made figures-made))
 
     -- The routes of the query are those that are listed, each with the query of its kind over the grants in its places.
     pub routes-placed : routes d who cat q ≡ map (λ (x : R.Route). record { grants = numbers-of n x; query = made d q (x .kind) (placed-grant (x .left)) (placed-grant (x .right)) }) (routes-in o n)

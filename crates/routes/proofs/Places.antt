@@ -1,29 +1,29 @@
 -- Opened grants by their places: which bits are set, and what stands there.
 use mathlib.Core.Path.{_≡_, refl, sym, ap, ap₂, _∙_, subst}
-use mathlib.Core.List.{List, [], _∷_, _++_, map}
+use mathlib.Core.List.{List, [], _∷_, map}
 use mathlib.Core.Bool.{Bool, true, false, _&&_, _||_, not, cond}
-use Prim.Native.Nat.{ℕ, zero, suc, _+_, _*_, _-_, _^_, _≤_, _<_}
+use Prim.Native.Nat.{ℕ, zero, suc, _+_, _-_, _≤_, _<_}
 use native.Mathlib.Omega.{arith}
-use lib.Bits.{bitOr}
-use lib.Dec.{T, ltb, eqb}
-use lib.ListN.{length, getD, set, length-set, replicate, length-replicate}
+use lib.Dec.{T, eqb}
+use lib.ListN.{length, getD, set, length-set}
 use lib.Seq.{getD-set-same, getD-set-other}
 use borrow.Author.Tests.{eq-eqb, ne-eqb, lt-ltb}
 use Rattle.lists.specs.Lists.{select, some?, count-from}
 use Rattle.lists.proofs.Laws.{All, all-nil, all-cons, all-any, all-both, all-weaken, and-l, and-r}
 use Rattle.lists.proofs.Counting.{count-left}
-use Rattle.model.specs.Routes.{Numbered, numbered}
+use Rattle.model.specs.Routes.{numbered}
 use Rattle.model.proofs.OneRow.{select-same}
 use Rattle.masks.specs.Masks.{bit?, with-bit}
-use Rattle.masks.proofs.Bits.{bit-or, bit-alone}
 use Rattle.masks.proofs.Lists.{bit-none}
+use Rattle.rows.specs.Masks.{bits-from}
 use Rattle.grant.specs.Grants.{grant-of, grant-sound}
 use Rattle.grant.specs.Catalogues.{words-in, grants-from, sound-from}
 use Rattle.grant.specs.declared.Grant.{Grant}
 use Rattle.needs.specs.declared.Needs.{Needs}
 use Rattle.routes.specs.declared.Open.{Open}
 use Rattle.routes.specs.Opening.{belongs-in, side-opened, right-opened, pair-opened, figures-opened, opened-bits}
-use Rattle.routes.specs.Listing.{none-open, bit-also, with-opened, caller-bits, open-from, open-all}
+use Rattle.routes.specs.Listing.{none-open, bit-also, with-opened, caller-bits, open-from, open-all, places-in}
+use Rattle.routes.proofs.Listed.{bit-with}
 
 -- ---- grants with their places
 
@@ -67,15 +67,15 @@ slots-at ws z i (g ∷ gs) =
 -- ---- bits
 
 also-bit : (bits k mask p j : ℕ) → p < 24 → bit? (bit-also bits k mask p) j ≡ (bit? mask j || (bit? bits k && eqb p j))
-unfolding bit-also with-bit
+unfolding bit-also
 also-bit bits k mask p j h = go (bit? bits k)
   where
     or-false : (b : Bool) → b ≡ (b || false)
     or-false true = refl
     or-false false = refl
 
-    go : (b : Bool) → bit? (cond b (cond (ltb p 32) (bitOr mask (2 ^ p)) mask) mask) j ≡ (bit? mask j || (b && eqb p j))
-    go true = rw (lt-ltb p 32 (omega arith)) (bit-or mask (2 ^ p) j ∙ ap (λ b. bit? mask j || b) (bit-alone p j))
+    go : (b : Bool) → bit? (cond b (with-bit mask p) mask) j ≡ (bit? mask j || (b && eqb p j))
+    go true = bit-with mask p j (omega arith)
     go false = or-false (bit? mask j)
 
 or-assoc : (a b c : Bool) → ((a || b) || c) ≡ (a || (b || c))
@@ -172,10 +172,11 @@ module _ (n : Needs) (ws roles profile : List ℕ) where
         go true f r = rw (here ∙ f, f) (ap (λ l. i ∷ l) r)
         go false f r = rw (here ∙ f, f) r
 
-    pub bits-placed : (gs : List Grant) (o : Open) → length gs ≤ 24 → field o ≡ 0 → select (bit? (field (open-from n ws roles profile 0 gs o))) (count-from 0 24) ≡ map (λ (s : Slot). s .place) (select test (slots ws 0 gs))
+    pub bits-placed : (gs : List Grant) (o : Open) → length gs ≤ 24 → field o ≡ 0 → places-in (field (open-from n ws roles profile 0 gs o)) ≡ map (λ (s : Slot). s .place) (select test (slots ws 0 gs))
+    unfolding bits-from
     bits-placed gs o h e =
-        select-same _ _ (all-weaken (λ j u. open-bit 0 gs o j (omega arith) ∙ ap (λ b. b || stands 0 gs j) (ap (λ (m : ℕ). bit? m j) e ∙ bit-none j)) (all-any (count-from 0 24)))
-        ∙ places-are 0 24 gs (omega arith)
+        select-same _ _ (all-weaken (λ j u. open-bit 0 gs o j (omega arith) ∙ ap (λ b. b || stands 0 gs j) (ap (λ (m : ℕ). bit? m j) e ∙ bit-none j)) (all-any (count-from 0 32)))
+        ∙ places-are 0 32 gs (omega arith)
 
   -- ---- the four masks
 
@@ -236,19 +237,19 @@ module _ (n : Needs) (ws roles profile : List ℕ) where
     shown-law = rw (lt-ltb p 24 h)
 
   module _ (gs : List Grant) (h : length gs ≤ 24) where
-    pub left-places : select (bit? (open-all n ws roles profile gs .left)) (count-from 0 24) ≡ map (λ (s : Slot). s .place) (select (λ (s : Slot). mine s && side-opened n (s .grant) (n .left)) (slots ws 0 gs))
+    pub left-places : places-in (open-all n ws roles profile gs .left) ≡ map (λ (s : Slot). s .place) (select (λ (s : Slot). mine s && side-opened n (s .grant) (n .left)) (slots ws 0 gs))
     unfolding open-all
     left-places = bits-placed (λ (o : Open). o .left) 0 left-law (λ (s : Slot). mine s && side-opened n (s .grant) (n .left)) (λ s. caller-bit s 0 _ (four s .0)) gs none-open h (unfold none-open in refl)
 
-    pub right-places : select (bit? (open-all n ws roles profile gs .right)) (count-from 0 24) ≡ map (λ (s : Slot). s .place) (select (λ (s : Slot). mine s && right-opened n (s .grant)) (slots ws 0 gs))
+    pub right-places : places-in (open-all n ws roles profile gs .right) ≡ map (λ (s : Slot). s .place) (select (λ (s : Slot). mine s && right-opened n (s .grant)) (slots ws 0 gs))
     unfolding open-all
     right-places = bits-placed (λ (o : Open). o .right) 1 right-law (λ (s : Slot). mine s && right-opened n (s .grant)) (λ s. caller-bit s 1 _ (four s .1)) gs none-open h (unfold none-open in refl)
 
-    pub pair-places : select (bit? (open-all n ws roles profile gs .pair)) (count-from 0 24) ≡ map (λ (s : Slot). s .place) (select (λ (s : Slot). mine s && pair-opened n (s .grant) (s .words)) (slots ws 0 gs))
+    pub pair-places : places-in (open-all n ws roles profile gs .pair) ≡ map (λ (s : Slot). s .place) (select (λ (s : Slot). mine s && pair-opened n (s .grant) (s .words)) (slots ws 0 gs))
     unfolding open-all
     pair-places = bits-placed (λ (o : Open). o .pair) 2 pair-law (λ (s : Slot). mine s && pair-opened n (s .grant) (s .words)) (λ s. caller-bit s 2 _ (four s .2)) gs none-open h (unfold none-open in refl)
 
-    pub figures-places : select (bit? (open-all n ws roles profile gs .figures)) (count-from 0 24) ≡ map (λ (s : Slot). s .place) (select (λ (s : Slot). mine s && figures-opened n (s .grant) (s .words)) (slots ws 0 gs))
+    pub figures-places : places-in (open-all n ws roles profile gs .figures) ≡ map (λ (s : Slot). s .place) (select (λ (s : Slot). mine s && figures-opened n (s .grant) (s .words)) (slots ws 0 gs))
     unfolding open-all
     figures-places = bits-placed (λ (o : Open). o .figures) 3 figures-law (λ (s : Slot). mine s && figures-opened n (s .grant) (s .words)) (λ s. caller-bit s 3 _ (four s .3)) gs none-open h (unfold none-open in refl)
 

@@ -1,13 +1,15 @@
 -- The routes that opened grants give, in the order of the answer, by the places of their grants.
-use mathlib.Core.List.{List, [], _∷_, map}
+use mathlib.Core.List.{List, [], _∷_, _++_, map}
 use mathlib.Core.Bool.{Bool, _&&_, _||_, not, cond}
-use Prim.Native.Nat.{ℕ, suc, _+_, _*_, _-_, _/_, _%_}
+use Prim.Native.Nat.{ℕ, suc, _+_, _*_, _/_, _%_, _≤_, _<_}
 use lib.Bits.{bitAnd, bitOr}
 use lib.Dec.{ltb, eqb}
-use lib.ListN.{getD, set, replicate}
-use Rattle.lists.specs.Lists.{select, count-from}
-use Rattle.syntax.specs.Limits.{max-grants}
+use lib.ListN.{length, getD, set, replicate}
+use Rattle.lists.specs.Lists.{select, gather}
+use Rattle.syntax.specs.Limits.{max-grants, max-routes}
+use Rattle.items.specs.Items.{first-of}
 use Rattle.masks.specs.Masks.{bit?, with-bit}
+use Rattle.rows.specs.Masks.{bits-from}
 use Rattle.grant.specs.declared.Grant.{Grant}
 use Rattle.grant.specs.Catalogues.{words-in}
 use Rattle.needs.specs.Asking.{no-stream}
@@ -17,6 +19,7 @@ use Rattle.routes.specs.Opening.{belongs-in, opened-bits}
 use Rattle.routes.specs.declared.Open.{Open}
 use Rattle.routes.specs.declared.Route.{Route}
 use Rattle.routes.specs.declared.Gate.{Gate}
+use Rattle.routes.specs.declared.Routes.{Routes}
 
 -- ---- opened grants
 
@@ -70,38 +73,13 @@ open-all n ws roles profile gs = open-from n ws roles profile 0 gs none-open
 unfoldable pub no-route : Route
 no-route = record { kind = 0; left = 0; right = 0 }
 
--- how many grants, pairs of grants, or both can open a route
-abbrev pub all-pairs : ℕ
-all-pairs = max-grants * max-grants
-
-abbrev pub all-candidates : ℕ
-all-candidates = all-pairs + max-grants + max-grants
-
-unfoldable pub side-route : ℕ → ℕ → Route
+abbrev pub side-route : ℕ → ℕ → Route
 side-route i j = record { kind = sides-kind; left = i; right = j }
 
-unfoldable pub lone-route : ℕ → ℕ → Route
+abbrev pub lone-route : ℕ → ℕ → Route
 lone-route k i = record { kind = k; left = i; right = i }
 
--- every pair of places by the first and then the second, then every place as one of both streams, then every place as one of the aggregate
-unfoldable pub candidate : ℕ → Route
-candidate k =
-    cond (ltb k all-pairs) (side-route (k / max-grants) (k % max-grants))
-    (cond (ltb k (all-pairs + max-grants)) (lone-route pair-kind (k - all-pairs)) (lone-route figures-kind (k - (all-pairs + max-grants))))
-
--- the pair of places after one, or the first place alone
-unfoldable pub after-pair : Route → Route
-after-pair x =
-    cond (ltb (x .right + 1) max-grants) (record { kind = x .kind; left = x .left; right = x .right + 1 })
-    (cond (ltb (x .left + 1) max-grants) (record { kind = x .kind; left = x .left + 1; right = 0 }) (lone-route pair-kind 0))
-
--- the one after
-unfoldable pub after : Route → Route
-after x =
-    cond (eqb (x .kind) sides-kind) (after-pair x)
-    (cond (eqb (x .kind) pair-kind) (cond (ltb (x .left + 1) max-grants) (lone-route pair-kind (x .left + 1)) (lone-route figures-kind 0)) (lone-route figures-kind (x .left + 1)))
-
--- what decides whether a route is there, beside what its grants show
+-- what decides which routes there are, beside what their grants show
 unfoldable pub gate-of : Open → Needs → Gate
 gate-of o n =
     record {
@@ -118,17 +96,25 @@ gate-of o n =
 unfoldable pub leaves-some : Gate → List ℕ → Route → Bool
 leaves-some g shown x = g .whole || not (eqb (bitAnd (bitOr (getD shown (x .left) 0) (getD shown (x .right) 0)) (g .header)) 0)
 
--- both its grants open their sides; of one stream there is one grant
-unfoldable pub sides-open : Gate → Route → Bool
-sides-open g x = bit? (g .left) (x .left) && cond (g .lone) (eqb (x .left) (x .right)) (bit? (g .right) (x .right))
+-- the places of a mask, in rising order
+abbrev pub places-in : ℕ → List ℕ
+places-in mask = bits-from mask 0
 
-unfoldable pub is-route : Gate → List ℕ → Route → Bool
-is-route g shown x =
-    cond (eqb (x .kind) sides-kind) (sides-open g x && leaves-some g shown x)
-    (cond (eqb (x .kind) pair-kind) (bit? (g .pair) (x .left) && leaves-some g shown x) (bit? (g .figures) (x .left)))
+-- the places on the right that go with one on the left: of one stream there is one grant
+unfoldable pub right-sides : Gate → ℕ → List ℕ
+right-sides g i = cond (g .lone) (i ∷ []) (places-in (g .right))
 
+-- a grant for each stream, by the left one and then the right one
+unfoldable pub side-routes : Gate → List Route
+side-routes g = gather (λ i. map (side-route i) (right-sides g i)) (places-in (g .left))
+
+-- all that grants open: a grant for each stream, then one for both streams, then one of the aggregate
+unfoldable pub opened-routes : Gate → List Route
+opened-routes g = side-routes g ++ (map (lone-route pair-kind) (places-in (g .pair)) ++ map (lone-route figures-kind) (places-in (g .figures)))
+
+-- and of these the routes that leave a column
 unfoldable pub routes-by : Gate → List ℕ → List Route
-routes-by g shown = select (is-route g shown) (map candidate (count-from 0 all-candidates))
+routes-by g shown = select (leaves-some g shown) (opened-routes g)
 
 unfoldable pub routes-in : Open → Needs → List Route
 routes-in o n = routes-by (gate-of o n) (o .shown)
@@ -136,3 +122,38 @@ routes-in o n = routes-by (gate-of o n) (o .shown)
 -- the numbers of its grants, counted from 1: of two streams a number each
 unfoldable pub numbers-of : Needs → Route → List ℕ
 numbers-of n x = cond (eqb (x .kind) sides-kind && not (eqb (n .right) no-stream)) (suc (x .left) ∷ (suc (x .right) ∷ [])) (suc (x .left) ∷ [])
+
+-- ---- routes in memory
+
+-- a route as one number, and back
+unfoldable pub packed : Route → ℕ
+packed x = x .kind * 65536 + x .left * 256 + x .right
+
+unfoldable pub unpacked : ℕ → Route
+unpacked w = record { kind = w / 65536; left = w / 256 % 256; right = w % 256 }
+
+-- how many routes there are, and the first of them; 0 in the places past the last
+unfoldable pub routes-of : List Route → Routes
+routes-of xs = record { count = length xs; list = first-of max-routes 0 (map packed xs) }
+
+-- the route in a place, a route of zeros where there is none
+unfoldable pub route-at : Routes → ℕ → Route
+route-at r i = unpacked (getD (r .list) i 0)
+
+-- one route more, which is in the list where there is a place for it; and some more, one after the other
+unfoldable pub with-route : Routes → Route → Routes
+with-route r x = record { count = r .count + 1; list = cond (ltb (r .count) max-routes) (set (r .list) (r .count) (packed x)) (r .list) }
+
+unfoldable pub with-routes : Routes → List Route → Routes
+with-routes r [] = r
+with-routes r (x ∷ xs) = with-routes (with-route r x) xs
+
+-- how many routes 32 places open at the most: every pair of them, and each for both streams and for the aggregate
+abbrev pub most-opened : ℕ
+most-opened = 32 * 32 + 32 + 32
+
+-- a route's grants are among 32
+pub record Low (x : Route) : Type 0 where
+  pub kind : x .kind ≤ figures-kind
+  pub left : x .left < 32
+  pub right : x .right < 32

@@ -2,19 +2,20 @@
 ghost use mathlib.Core.Path.{_≡_};
 ghost use mathlib.Core.List.{[], _∷_, map};
 ghost use mathlib.Core.Bool.{_&&_, _||_, cond};
-ghost use Prim.Native.Nat.{_<_, _≤_};
+ghost use Prim.Native.Nat.{_+_, _<_, _≤_};
 ghost use lib.Dec.{leb, eqb};
-ghost use lib.ListN.{length, getD};
-ghost use Rattle.lists.specs.Lists.{some?, same-list, nth};
-ghost use Rattle.syntax.specs.Limits.{max-grants};
+ghost use lib.ListN.{getD};
+ghost use Rattle.lists.specs.Lists.{some?, same-list, select};
+ghost use Rattle.syntax.specs.Limits.{max-routes};
 ghost use Rattle.text.specs.Words.{name-of};
 ghost use Rattle.masks.specs.Masks.{bit?};
 ghost use Rattle.grant.specs.Grants.{streams-of};
 ghost use Rattle.needs.specs.Asking.{no-stream};
 ghost use Rattle.routes.specs.Opening.{belongs-in, stream-bits, streams-asked, equality-held, side-opened, right-opened, pair-opened, figures-opened, opened-bits};
-ghost use Rattle.routes.specs.Listing.{none-open, bit-also, with-opened, no-route, candidate, after-pair, after, gate-of, leaves-some, sides-open, is-route, routes-by, routes-in};
+ghost use Rattle.routes.specs.Listing.{none-open, bit-also, with-opened, side-route, lone-route, gate-of, leaves-some, places-in, right-sides, side-routes, routes-in, packed, routes-of, route-at, with-route, with-routes, most-opened, Low};
 use grant::Grant;
 use needs::Needs;
+use rows::Rows;
 
 // ---- whose a grant is
 
@@ -247,58 +248,12 @@ impl Route {
     // A grant of the aggregate.
     pub const FIGURES: u32 = 3;
 
-    // A route with one grant.
-    fn lone(kind: u32, place: u32) -> Self
-        ensures { λ r. ⌜ r ≡ record { kind = kind; left = place; right = place } ⌝ }
+    // The route as one number.
+    fn packed(self) -> u32
+        requires { ⌜ Low self ⌝ }
+        ensures { λ r. ⌜ r ≡ packed self ⌝ }
     {
-        Route {
-            kind: kind,
-            left: place,
-            right: place,
-        }
-    }
-
-    // The first of all that there could be.
-    fn first() -> Self
-        ensures { λ r. ⌜ r ≡ candidate 0 ⌝ }
-    {
-        Route::lone(Route::SIDES, 0)
-    }
-
-    // The pair of places after this, or the first place alone.
-    fn after_pair(self) -> Self
-        requires { ⌜ (self .left < max-grants) × (self .right < max-grants) ⌝ }
-        ensures { λ r. ⌜ r ≡ after-pair self ⌝ }
-    {
-        let mut x = self;
-        x.right = self.right + 1;
-        if x.right < Open::PLACES {
-            return x;
-        }
-        x.right = 0;
-        x.left = self.left + 1;
-        if x.left < Open::PLACES {
-            return x;
-        }
-        Route::lone(Route::PAIR, 0)
-    }
-
-    // The one after this of all that there could be.
-    fn after(self) -> Self
-        requires { ⌜ (self .left < max-grants) × (self .right < max-grants) ⌝ }
-        ensures { λ r. ⌜ r ≡ after self ⌝ }
-    {
-        if self.kind == Route::SIDES {
-            return self.after_pair();
-        }
-        let place = self.left + 1;
-        if self.kind != Route::PAIR {
-            return Route::lone(Route::FIGURES, place);
-        }
-        if place < Open::PLACES {
-            return Route::lone(Route::PAIR, place);
-        }
-        Route::lone(Route::FIGURES, 0)
+        self.kind * 65536 + self.left * 256 + self.right
     }
 }
 
@@ -314,7 +269,7 @@ fn bit_also(bits: u32, i: u32, mask: u32, place: u32) -> u32
 
 // ---- routes
 
-// What decides whether a route is there, beside what its grants show: `lone` means one stream, `whole` an aggregate.
+// What decides which routes there are, beside what their grants show: `lone` means one stream, `whole` an aggregate.
 pub struct Gate {
     pub left: u32,
     pub right: u32,
@@ -348,70 +303,138 @@ fn leaves_some(g: Gate, shown: &[u32], x: Route) -> bool
     (a | b) & g.header != 0
 }
 
-// Whether the grants of a route open its sides.
-fn sides_open(g: Gate, x: Route) -> bool
-    ensures { λ r. ⌜ r ≡ sides-open g x ⌝ }
+// The places on the right that go with one on the left, as bits: of one stream there is one grant.
+fn right_sides(g: Gate, place: u32) -> u32
+    requires { ⌜ place < 32 ⌝ }
+    ensures { λ r. ⌜ places-in r ≡ right-sides g place ⌝ }
 {
-    if !masks::shows(g.left, x.left) {
-        return false;
-    }
     if g.lone {
-        return x.left == x.right;
+        return masks::with(0, place);
     }
-    masks::shows(g.right, x.right)
+    g.right
 }
 
-// Whether a route is there.
-fn is_route(g: Gate, shown: &[u32], x: Route) -> bool
-    ensures { λ r. ⌜ r ≡ is-route g (now (shown .entry)) x ⌝ }
-{
-    if x.kind == Route::SIDES {
-        if !sides_open(g, x) {
-            return false;
-        }
-        return leaves_some(g, shown, x);
-    }
-    if x.kind == Route::PAIR {
-        if !masks::shows(g.pair, x.left) {
-            return false;
-        }
-        return leaves_some(g, shown, x);
-    }
-    masks::shows(g.figures, x.left)
+// How many routes there are, and the first of them in the order of the answer, each as kind * 65536 + left * 256 + right; 0 in the places past the last.
+pub struct Routes {
+    pub count: u32,
+    pub list: [u32; Routes::MOST],
 }
 
-// How many routes there are.
-fn count_routes(g: Gate, shown: &[u32]) -> u32
-    ensures { λ r. ⌜ r ≡ length (routes-by g (now (shown .entry))) ⌝ }
-{
-    let mut c: u32 = 0;
-    let mut x = Route::first();
-    let mut k: u32 = 0;
-    while k < Open::ROUTES {
-        c = c + flag(is_route(g, shown, x), 1);
-        x = x.after();
-        k += 1;
-    }
-    c
-}
+impl Routes {
+    // How many routes an answer may have.
+    pub const MOST: usize = 16;
 
-// Route r, a route of zeros where there is none.
-fn find_route(g: Gate, shown: &[u32], r: u32) -> Route
-    ensures { λ x. ⌜ x ≡ nth no-route (routes-by g (now (shown .entry))) r ⌝ }
-{
-    let mut left = r;
-    let mut x = Route::first();
-    let mut k: u32 = 0;
-    while k < Open::ROUTES {
-        let t = flag(is_route(g, shown, x), 1);
-        if left < t {
-            return x;
-        }
-        left = left - t;
-        x = x.after();
-        k += 1;
+    // Returns Routes::MOST, which is the bound of the definitions.
+    pub fn most() -> usize
+        ensures { λ r. ⌜ r ≡ max-routes ⌝ }
+    {
+        Routes::MOST
     }
-    Route::lone(0, 0)
+
+    // Returns the route in a place, a route of zeros where there is none.
+    pub fn route(self, i: u32) -> Route
+        ensures { λ r. ⌜ r ≡ route-at self i ⌝ }
+    {
+        let k = i as usize;
+        if Routes::MOST <= k {
+            return Route {
+                kind: 0,
+                left: 0,
+                right: 0,
+            };
+        }
+        let w = self.list[k];
+        Route {
+            kind: w / 65536,
+            left: w / 256 % 256,
+            right: w % 256,
+        }
+    }
+
+    // With a route more: counted, and in the list where there is a place for it.
+    fn with(self, x: Route) -> Self
+        requires { ⌜ Low x × (self .count < most-opened) ⌝ }
+        ensures { λ r. ⌜ r ≡ with-route self x ⌝ }
+    {
+        let k = self.count as usize;
+        let mut r = self;
+        r.count = self.count + 1;
+        if Routes::MOST <= k {
+            return r;
+        }
+        r.list[k] = x.packed();
+        r
+    }
+
+    // With a route more where it leaves a column.
+    fn with_leaving(self, g: Gate, shown: &[u32], x: Route) -> Self
+        requires { ⌜ Low x × (self .count < most-opened) ⌝ }
+        ensures { λ r. ⌜ (r ≡ with-routes self (select (leaves-some g (now (shown .entry))) (x ∷ []))) × (r .count ≤ self .count + 1) ⌝ }
+    {
+        if !leaves_some(g, shown, x) {
+            return self;
+        }
+        self.with(x)
+    }
+
+    // With the routes of a place on the left.
+    fn with_rights(self, g: Gate, shown: &[u32], place: u32) -> Self
+        requires { ⌜ (place < 32) × (self .count + 32 ≤ most-opened) ⌝ }
+        ensures { λ r. ⌜ (r ≡ with-routes self (select (leaves-some g (now (shown .entry))) (map (side-route place) (right-sides g place)))) × (r .count ≤ self .count + 32) ⌝ }
+    {
+        let m = right_sides(g, place);
+        let mut r = self;
+        let mut j = rows::next_bit(m, 0);
+        while j < Rows::WORD {
+            r = r.with_leaving(
+                g,
+                shown,
+                Route {
+                    kind: Route::SIDES,
+                    left: place,
+                    right: j,
+                },
+            );
+            j = rows::next_bit(m, j + 1);
+        }
+        r
+    }
+
+    // With the routes of all places on the left.
+    fn with_sides(self, g: Gate, shown: &[u32]) -> Self
+        requires { ⌜ self .count + 1024 ≤ most-opened ⌝ }
+        ensures { λ r. ⌜ (r ≡ with-routes self (select (leaves-some g (now (shown .entry))) (side-routes g))) × (r .count ≤ self .count + 1024) ⌝ }
+    {
+        let mut r = self;
+        let mut i = rows::next_bit(g.left, 0);
+        while i < Rows::WORD {
+            r = r.with_rights(g, shown, i);
+            i = rows::next_bit(g.left, i + 1);
+        }
+        r
+    }
+
+    // With the routes of a kind that has one grant, by the places of a mask.
+    fn with_lone(self, g: Gate, shown: &[u32], kind: u32, m: u32) -> Self
+        requires { ⌜ (kind ≤ 3) × (self .count + 32 ≤ most-opened) ⌝ }
+        ensures { λ r. ⌜ (r ≡ with-routes self (select (leaves-some g (now (shown .entry))) (map (lone-route kind) (places-in m)))) × (r .count ≤ self .count + 32) ⌝ }
+    {
+        let mut r = self;
+        let mut i = rows::next_bit(m, 0);
+        while i < Rows::WORD {
+            r = r.with_leaving(
+                g,
+                shown,
+                Route {
+                    kind: kind,
+                    left: i,
+                    right: i,
+                },
+            );
+            i = rows::next_bit(m, i + 1);
+        }
+        r
+    }
 }
 
 impl Open {
@@ -423,12 +446,8 @@ impl Open {
     pub const PAIR: u32 = 4;
 
     pub const FIGURES: u32 = 8;
-    // How many places there are, pairs of them, and all that there could be of routes.
+    // How many places there are.
     pub const PLACES: u32 = Grant::GRANTS as u32;
-
-    pub const PAIRS: u32 = Open::PLACES * Open::PLACES;
-
-    pub const ROUTES: u32 = Open::PAIRS + Open::PLACES + Open::PLACES;
 
     // Returns no grant.
     pub fn new() -> Self
@@ -481,21 +500,18 @@ impl Open {
         }
     }
 
-    // Returns how many routes there are.
-    pub fn count(self, n: Needs) -> u32
-        ensures { λ r. ⌜ r ≡ length (routes-in self n) ⌝ }
+    // Returns the routes that the grants open for what a query asks.
+    pub fn routes(self, n: Needs) -> Routes
+        ensures { λ r. ⌜ r ≡ routes-of (routes-in self n) ⌝ }
     {
         let g = self.gate(n);
         let shown = self.shown;
-        count_routes(g, &shown)
-    }
-
-    // Returns route r in the order of the answer, a route of zeros where there is none.
-    pub fn route(self, n: Needs, r: u32) -> Route
-        ensures { λ x. ⌜ x ≡ nth no-route (routes-in self n) r ⌝ }
-    {
-        let g = self.gate(n);
-        let shown = self.shown;
-        find_route(g, &shown, r)
+        let none = Routes {
+            count: 0,
+            list: [0; Routes::MOST],
+        };
+        let sides = none.with_sides(g, &shown);
+        let pairs = sides.with_lone(g, &shown, Route::PAIR, g.pair);
+        pairs.with_lone(g, &shown, Route::FIGURES, g.figures)
     }
 }
