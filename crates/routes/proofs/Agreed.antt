@@ -9,11 +9,11 @@ use lib.Dec.{T, eqb, eqb→eq}
 use lib.ListN.{length, getD, length-map}
 use borrow.Author.Tests.{eq-eqb, ne-eqb}
 use Rattle.lists.specs.Lists.{select, every, some?, empty?, gather, same-list, distinct}
-use Rattle.lists.proofs.Laws.{All, all-nil, all-cons, all-head, all-tail, all-any, all-both, all-select, all-weaken, all-append, all-map, all-gather, and-l, and-r, parts, T-true, append-nil, select-map, gather-same, map-same}
+use Rattle.lists.proofs.Laws.{same-list→eq, All, all-nil, all-cons, all-head, all-tail, all-any, all-both, all-select, all-weaken, all-append, all-map, all-gather, and-l, and-r, parts, T-true, append-nil, select-map, gather-same, map-same}
 use Rattle.syntax.specs.Grammar.{Right}
 use Rattle.model.specs.Queries.{Schema, Col, Query, sources, Grant, Caller}
 use Rattle.model.specs.Grants.{belongs}
-use Rattle.model.specs.Checks.{timed, allowed, placed}
+use Rattle.model.specs.Checks.{no-aggregate, timed, allowed, placed}
 use Rattle.model.specs.Routes.{reads, gives, Numbered, Route, numbered, single, routes}
 use Rattle.model.proofs.Asked.{shown-by, left, grants-at}
 use Rattle.model.proofs.RouteKinds.{asked-cols, equal-cols, side-picks, has-equality, numbers, for-each, first-kind, second-kind, third-kind, kinds}
@@ -22,7 +22,7 @@ use Rattle.model.proofs.OneRow.{select-same, select-both, and-swap}
 use Rattle.model.proofs.Ways.{numbered-at, grants-append}
 use Rattle.model.proofs.Found.{routes-found}
 use Rattle.schema.specs.Schemas.{schema-of}
-use Rattle.grant.specs.Grants.{grant-of, grant-sound}
+use Rattle.grant.specs.Grants.{streams-of, grant-of, grant-sound}
 use Rattle.grant.specs.Catalogues.{words-in, catalogue-of, sound-from}
 use Rattle.grant.specs.declared.Grant as D
 use Rattle.grant.proofs.Masked.{declared-stream}
@@ -30,18 +30,18 @@ use Rattle.grant.proofs.Valid.{sound-tidy}
 use Rattle.needs.specs.Asking.{no-stream, needs-of}
 use Rattle.needs.specs.declared.Needs.{Needs}
 use Rattle.needs.proofs.Fields.{streams-are}
-use Rattle.needs.proofs.Shapes.{Figured, none-there, one-there, figured-is}
+use Rattle.needs.proofs.Shapes.{Figured, none-there, one-there, figured-is, plain-picks}
 use Rattle.openings.specs.Made.{made, lone-kind, made-by}
 use Rattle.openings.proofs.Made.{route-of, routes-made}
 use Rattle.routes.specs.declared.Open.{Open}
 use Rattle.routes.specs.declared.Route as R
-use Rattle.routes.specs.Opening.{caller-in, side-opened, right-opened, pair-opened, figures-opened}
+use Rattle.routes.specs.Opening.{streams-asked, caller-in, side-opened, right-opened, pair-opened, figures-opened}
 use Rattle.routes.specs.Listing.{open-all, side-route, lone-route, gate-of, leaves-some, places-in, right-sides, side-routes, opened-routes, routes-by, routes-in, numbers-of}
 use Rattle.routes.proofs.Listed.{by-kinds}
 use Rattle.routes.proofs.Owned.{belongs-is, tidy-laid}
 use Rattle.routes.proofs.Shown.{hs}
 use Rattle.routes.proofs.Matched.{reads-is, one-left, two-left, lone-side, two-sides, pair-test, figures-test}
-use Rattle.routes.proofs.Places.{Slot, slots, numbered-slots, sound-slots, slots-at, mine, left-places, right-places, pair-places, figures-places, shown-placed}
+use Rattle.routes.proofs.Places.{Slot, slots, numbered-slots, sound-slots, slots-at, mine, left-places, right-places, pair-places, figures-places, Held, all-held, slots-below}
 
 -- ---- lists
 
@@ -67,6 +67,21 @@ module _ {A B : Type 0} where
 map-each : {A B : Type 0} (f g : A → B) → ((x : A) → f x ≡ g x) → (xs : List A) → map f xs ≡ map g xs
 map-each f g e [] = refl
 map-each f g e (x ∷ xs) = ap₂ _∷_ (e x) (map-each f g e xs)
+
+-- ---- a route's grants
+
+-- A place of a catalogue: its grant is sound, and the numbers in the place of opened grants are its own.
+pub record Standing (ns ws : List ℕ) (o : Open) (gs : List D.Grant) (z : D.Grant) (i : ℕ) : Type 0 where
+  pub within : i < length gs
+  pub sound : T (grant-sound ns (getD gs i z) (words-in ws i))
+  pub held : Held o i (getD gs i z)
+
+-- by the kind of a route, the streams of the grants in its places
+pub data Granting (q : Query ℕ) (placed-grant : ℕ → Grant) (x : R.Route) : Type 0 where
+  on-one : (s : ℕ) → x .kind ≡ 1 → x .right ≡ x .left → sources q ≡ s ∷ [] → placed-grant (x .left) .of ≡ s ∷ [] → Granting q placed-grant x
+  on-two : (s t : ℕ) → x .kind ≡ 1 → sources q ≡ s ∷ (t ∷ []) → placed-grant (x .left) .of ≡ s ∷ [] → placed-grant (x .right) .of ≡ t ∷ [] → Granting q placed-grant x
+  on-both : x .kind ≡ 2 → x .right ≡ x .left → length (sources q) ≡ 2 → placed-grant (x .left) .of ≡ sources q → Granting q placed-grant x
+  on-told : x .kind ≡ 3 → x .right ≡ x .left → T (not (no-aggregate q)) → placed-grant (x .left) .of ≡ sources q → Granting q placed-grant x
 
 -- ---- the routes of a query
 
@@ -105,7 +120,8 @@ module _ (ns ws roles profile : List ℕ) (gs : List D.Grant) (q : Query ℕ) (p
 
   record Known (s : Slot) : Type 0 where
     safe : T (grant-sound ns (s .grant) (s .words))
-    shows : getD (o .shown) (s .place) 0 ≡ s .grant .shown
+    within : s .place < length gs
+    held : Held o (s .place) (s .grant)
     at : grants-at cat (suc (s .place) ∷ []) ≡ G s ∷ []
 
   numbered-are : numbered 1 cat ≡ map (λ (s : Slot). record { no = suc (s .place); grant = G s }) ss
@@ -114,8 +130,8 @@ module _ (ns ws roles profile : List ℕ) (gs : List D.Grant) (q : Query ℕ) (p
 
   all-known : All Known ss
   all-known =
-      all-weaken (λ s h. record { safe = h .0 .0; shows = h .0 .1; at = h .1 })
-      (all-both (all-both (sound-slots ns ws 0 gs sound) (shown-placed n ws roles profile gs few))
+      all-weaken (λ s h. let l = h .0 .0 .1 in record { safe = h .0 .0 .0; within = omega arith; held = h .0 .1; at = h .1 })
+      (all-both (all-both (all-both (sound-slots ns ws 0 gs sound) (slots-below ws 0 gs)) (all-held n ws roles profile gs few))
       (all-unmap (λ (s : Slot). record { no = suc (s .place); grant = G s }) ss (subst (All (λ (m : Numbered). grants-at cat (m .no ∷ []) ≡ m .grant ∷ [])) numbered-are (numbered-at cat))))
 
   -- it is the caller's
@@ -129,7 +145,7 @@ module _ (ns ws roles profile : List ℕ) (gs : List D.Grant) (q : Query ℕ) (p
   leaves-known : (s t : Slot) → Known s → Known t → (x : R.Route) → x .left ≡ s .place → x .right ≡ t .place → leaves-some (gate-of o n) (o .shown) x ≡ leaves s t
   unfolding leaves-some gate-of
   leaves-known s t k l x e f =
-      ap₂ (λ y z. not (eqb (n .aggregate) 0) || not (eqb (bitAnd (bitOr y z) (n .header)) 0)) (ap (λ i. getD (o .shown) i 0) e ∙ k .shows) (ap (λ i. getD (o .shown) i 0) f ∙ l .shows)
+      ap₂ (λ y z. not (eqb (n .aggregate) 0) || not (eqb (bitAnd (bitOr y z) (n .header)) 0)) (ap (λ i. getD (o .shown) i 0) e ∙ k .held .shown) (ap (λ i. getD (o .shown) i 0) f ∙ l .held .shown)
 
   abbrev one : Slot → List ℕ
   one s = suc (s .place) ∷ []
@@ -442,19 +458,27 @@ module _ (ns ws roles profile : List ℕ) (gs : List D.Grant) (q : Query ℕ) (p
     abbrev pub placed-grant : ℕ → Grant
     placed-grant i = grant-of ns (getD gs i z) (words-in ws i)
 
-    abbrev Found : (Slot → Bool) → ℕ → Type 0
-    Found test i = (s : Slot) × Known s × (G s ≡ placed-grant i) × (s .place ≡ i) × T (test s)
+    -- a grant that passes a test is in a place
+    record Found (test : Slot → Bool) (i : ℕ) : Type 0 where
+      slot : Slot
+      known : Known slot
+      place : slot .place ≡ i
+      grant : slot .grant ≡ getD gs i z
+      words : slot .words ≡ words-in ws i
+      passes : T (test slot)
 
-    placed-same : (s : Slot) → s .grant ≡ getD gs (s .place - 0) z → s .words ≡ words-in ws (s .place) → G s ≡ placed-grant (s .place)
-    placed-same s e f =
+    found : (test : Slot → Bool) (s : Slot) → Known s → s .grant ≡ getD gs (s .place - 0) z → s .words ≡ words-in ws (s .place) → T (test s) → Found test (s .place)
+    found test s k e f t =
         let h : s .place - 0 ≡ s .place = omega arith in
-        ap₂ (grant-of ns) (e ∙ ap (λ i. getD gs i z) h) f
+        record { slot = s; known = k; place = refl; grant = e ∙ ap (λ i. getD gs i z) h; words = f; passes = t }
 
     found-at : (test : Slot → Bool) (mask : ℕ) → places-in mask ≡ map (λ (s : Slot). s .place) (select test ss) → All (Found test) (places-in mask)
     found-at test mask e =
         subst (All (Found test)) (sym e)
-        (all-map {P = λ s. Known s × (G s ≡ placed-grant (s .place)) × T (test s)} (λ (s : Slot). s .place) (λ s h. (s, h .0, h .1, refl, h .2))
-        (all-select test (λ s t h. (h .0, placed-same s (h .1 .0) (h .1 .1), t)) (all-both all-known (slots-at ws z 0 gs))))
+        (all-map {P = λ s. Found test (s .place)} (λ (s : Slot). s .place) (λ s h. h) (all-select test (λ s t h. found test s (h .0) (h .1 .0) (h .1 .1) t) (all-both all-known (slots-at ws z 0 gs))))
+
+    is-placed : {test : Slot → Bool} {i : ℕ} (f : Found test i) → G (f .slot) ≡ placed-grant i
+    is-placed f = ap₂ (grant-of ns) (f .grant) (f .words)
 
     -- its query is that of its kind
     abbrev Right-made : R.Route → Type 0
@@ -490,7 +514,7 @@ module _ (ns ws roles profile : List ℕ) (gs : List D.Grant) (q : Query ℕ) (p
     one-made : (k : ℕ) → ((i : ℕ) → numbers-of n (lone-route k i) ≡ suc i ∷ []) → (mask : ℕ) (test : Slot → Bool) → places-in mask ≡ map (λ (s : Slot). s .place) (select test ss)
         → ((s : Slot) → T (test s) → lone-kind d q (G s) ≡ k) → All Right-made (map (lone-route k) (places-in mask))
     one-made k m mask test e f =
-        all-map {P = Found test} (lone-route k) (λ i h. ap (λ l. made-by d g q (grants-at cat l)) (m i) ∙ lone-made k i (h .0) (h .1) (h .2) (h .3) (f (h .0) (h .4))) (found-at test mask e)
+        all-map {P = Found test} (lone-route k) (λ i h. ap (λ l. made-by d g q (grants-at cat l)) (m i) ∙ lone-made k i (h .slot) (h .known) (is-placed h) (h .place) (f (h .slot) (h .passes))) (found-at test mask e)
 
     sides-made : All Right-made (side-routes (gate-of o n))
     sides-made = go (single (sources q)) refl
@@ -504,9 +528,17 @@ module _ (ns ws roles profile : List ℕ) (gs : List D.Grant) (q : Query ℕ) (p
             subst (All Right-made) (sym (sides-both e))
             (all-gather {P = Found on-left}
             (λ i f. all-map {P = Found on-right} (side-route i)
-            (λ j h. ap (λ l. made-by d g q (grants-at cat l)) (two-numbers e i j) ∙ two-made i j (f .0) (h .0) (f .1) (h .1) (f .2) (h .2) (f .3) (h .3))
+            (λ j h. ap (λ l. made-by d g q (grants-at cat l)) (two-numbers e i j) ∙ two-made i j (f .slot) (h .slot) (f .known) (h .known) (is-placed f) (is-placed h) (f .place) (h .place))
             (found-at on-right (o .right) (right-places n ws roles profile gs few)))
             (found-at on-left (o .left) (left-places n ws roles profile gs few)))
+
+    -- a stream is asked for on the right
+    two-asked : T (not (eqb (n .right) no-stream)) → single (sources q) ≡ false
+    two-asked t = go (single (sources q)) refl
+      where
+        go : (x : Bool) → single (sources q) ≡ x → x ≡ false
+        go true e = absurd (rw (eq-eqb (n .right) no-stream (streams-lone (rw e tt) .1)) at t)
+        go false e = refl
 
     pair-made : All Right-made (map (lone-route 2) (places-in (o .pair)))
     pair-made =
@@ -517,14 +549,7 @@ module _ (ns ws roles profile : List ℕ) (gs : List D.Grant) (q : Query ℕ) (p
         reading-pair s u = unfold pair-opened in and-l (eqb (s .grant .right) 0) _ (and-r (not (eqb (n .right) no-stream)) _ u)
 
         both : (s : Slot) → T (pair-opened n (s .grant) (s .words)) → single (sources q) ≡ false
-        both s u = go (single (sources q)) refl
-          where
-            some-right : T (not (eqb (n .right) no-stream))
-            some-right = unfold pair-opened in and-l (not (eqb (n .right) no-stream)) _ u
-
-            go : (x : Bool) → single (sources q) ≡ x → x ≡ false
-            go true e = absurd (rw (eq-eqb (n .right) no-stream (streams-lone (rw e tt) .1)) at some-right)
-            go false e = refl
+        both s u = two-asked (unfold pair-opened in and-l (not (eqb (n .right) no-stream)) _ u)
 
     figures-made : All Right-made (map (lone-route 3) (places-in (o .figures)))
     figures-made =
@@ -552,3 +577,95 @@ module _ (ns ws roles profile : List ℕ) (gs : List D.Grant) (q : Query ℕ) (p
     routes-placed =
         routes-listed g
         ∙ map-same _ _ (all-weaken (λ x e i. record { grants = numbers-of n x; query = e i }) all-made)
+
+    -- ---- what is known of a listed route's grants
+
+    abbrev Stands : ℕ → Type 0
+    Stands i = Standing ns ws o gs z i
+
+    stands : {test : Slot → Bool} {i : ℕ} → Found test i → Stands i
+    stands {test} {i} f =
+        record {
+          within = subst (λ j. j < length gs) (f .place) (f .known .within);
+          sound = subst (λ v. T (grant-sound ns (getD gs i z) v)) (f .words) (subst (λ h. T (grant-sound ns h (f .slot .words))) (f .grant) (f .known .safe));
+          held = subst (λ h. Held o i h) (f .grant) (subst (λ j. Held o j (f .slot .grant)) (f .place) (f .known .held));
+        }
+
+    -- the streams of a grant that is in a place
+    its-streams : {test : Slot → Bool} {i : ℕ} (ts : List ℕ) (f : Found test i) → T (same-list (streams-of (f .slot .grant)) ts) → placed-grant i .of ≡ ts
+    unfolding grant-of
+    its-streams ts f t = ap streams-of (sym (f .grant)) ∙ same-list→eq (streams-of (f .slot .grant)) ts t
+
+    side-streams : (s : Slot) (x : ℕ) → T (side-opened n (s .grant) x) → T (same-list (streams-of (s .grant)) (x ∷ []))
+    unfolding side-opened
+    side-streams s x t = search parts
+
+    right-streams : (s : Slot) → T (right-opened n (s .grant)) → T (same-list (streams-of (s .grant)) (n .right ∷ []))
+    unfolding right-opened
+    right-streams s t = side-streams s (n .right) (and-r (not (eqb (n .right) no-stream)) _ t)
+
+    abbrev Known-route : R.Route → Type 0
+    Known-route x = Stands (x .left) × Stands (x .right) × Granting q placed-grant x
+
+    sides-known : All Known-route (side-routes (gate-of o n))
+    sides-known = go (single (sources q)) refl
+      where
+        left-known : All (Found on-left) (places-in (o .left))
+        left-known = found-at on-left (o .left) (left-places n ws roles profile gs few)
+
+        left-of : {i : ℕ} (f : Found on-left i) → placed-grant i .of ≡ n .left ∷ []
+        left-of f = its-streams (n .left ∷ []) f (side-streams (f .slot) (n .left) (and-r (mine n ws roles profile (f .slot)) _ (f .passes)))
+
+        go : (x : Bool) → single (sources q) ≡ x → All Known-route (side-routes (gate-of o n))
+        go true e =
+            subst (All Known-route) (sym (sides-lone (rw e tt)))
+            (all-map {P = Found on-left} (lone-route 1) (λ i f. (stands f, stands f, on-one (n .left) refl refl (streams-lone (rw e tt) .0) (left-of f))) left-known)
+        go false e =
+            subst (All Known-route) (sym (sides-both e))
+            (all-gather {P = Found on-left}
+            (λ i f. all-map {P = Found on-right} (side-route i)
+            (λ j h. (stands f, stands h, on-two (n .left) (n .right) refl (streams-both e .0) (left-of f)
+            (its-streams (n .right ∷ []) h (right-streams (h .slot) (and-r (mine n ws roles profile (h .slot)) _ (h .passes))))))
+            (found-at on-right (o .right) (right-places n ws roles profile gs few)))
+            left-known)
+
+    pair-known-routes : All Known-route (map (lone-route 2) (places-in (o .pair)))
+    unfolding pair-opened
+    pair-known-routes =
+        all-map {P = Found on-pair} (lone-route 2)
+        (λ i f. let t = and-r (mine n ws roles profile (f .slot)) _ (f .passes) in (stands f, stands f, by-pair i f t))
+        (found-at on-pair (o .pair) (pair-places n ws roles profile gs few))
+      where
+        by-pair : (i : ℕ) (f : Found on-pair i) → T (pair-opened n (f .slot .grant) (f .slot .words)) → Granting q placed-grant (lone-route 2 i)
+        by-pair i f t =
+            let e = two-asked (and-l (not (eqb (n .right) no-stream)) _ t) in
+            on-both refl refl (ap length (streams-both e .0)) (its-streams (n .left ∷ (n .right ∷ [])) f (search parts) ∙ sym (streams-both e .0))
+
+    figures-known : All Known-route (map (lone-route 3) (places-in (o .figures)))
+    unfolding figures-opened streams-asked
+    figures-known =
+        all-map {P = Found on-figures} (lone-route 3)
+        (λ i f. let t = and-r (mine n ws roles profile (f .slot)) _ (f .passes) in (stands f, stands f, by-figures i f t))
+        (found-at on-figures (o .figures) (figures-places n ws roles profile gs few))
+      where
+        asked-are : streams-asked n ≡ sources q
+        asked-are = go (single (sources q)) refl
+          where
+            go : (x : Bool) → single (sources q) ≡ x → cond (eqb (n .right) no-stream) (n .left ∷ []) (n .left ∷ (n .right ∷ [])) ≡ sources q
+            go true e = rw (eq-eqb (n .right) no-stream (streams-lone (rw e tt) .1)) (sym (streams-lone (rw e tt) .0))
+            go false e = rw (right-some e) (sym (streams-both e .0))
+
+        some-aggregate : T (not (eqb (n .aggregate) 0)) → T (not (no-aggregate q))
+        some-aggregate t = go (no-aggregate q) refl
+          where
+            go : (x : Bool) → no-aggregate q ≡ x → T (not x)
+            go true e = rw (eq-eqb (n .aggregate) 0 (plain-picks ns q (rw e tt) .1)) at t
+            go false e = tt
+
+        by-figures : (i : ℕ) (f : Found on-figures i) → T (figures-opened n (f .slot .grant) (f .slot .words)) → Granting q placed-grant (lone-route 3 i)
+        by-figures i f t = on-told refl refl (some-aggregate (and-l (not (eqb (n .aggregate) 0)) _ t)) (its-streams (streams-asked n) f (search parts) ∙ asked-are)
+
+    -- Of every route that is listed: its grants are sound, their numbers are those of opened grants, and their streams are those that are asked for.
+    pub routes-known : All Known-route (routes-in o n)
+    unfolding routes-in routes-by opened-routes gate-of
+    routes-known = all-select leaving (λ x t h. h) (all-append sides-known (all-append pair-known-routes figures-known))

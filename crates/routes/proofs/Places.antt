@@ -32,6 +32,13 @@ pub record Slot : Type 0 where
   pub grant : Grant
   pub words : List ℕ
 
+-- the numbers in a place of opened grants are those of a grant
+pub record Held (o : Open) (i : ℕ) (g : Grant) : Type 0 where
+  pub shown : getD (o .shown) i 0 ≡ g .shown
+  pub words : getD (o .words) i 0 ≡ g .words
+  pub from : getD (o .from) i 0 ≡ g .from
+  pub to : getD (o .to) i 0 ≡ g .to
+
 unfoldable pub slots : List ℕ → ℕ → List Grant → List Slot
 slots ws i [] = []
 slots ws i (g ∷ gs) = record { place = i; grant = g; words = words-in ws i } ∷ slots ws (suc i) gs
@@ -51,6 +58,12 @@ slots-from : (ws : List ℕ) (j i : ℕ) (gs : List Grant) → j ≤ i → All (
 unfolding slots
 slots-from ws j i [] h = all-nil
 slots-from ws j i (g ∷ gs) h = all-cons {x = record { place = i; grant = g; words = words-in ws i }} h (slots-from ws j (suc i) gs (omega arith))
+
+-- places are those of grants
+pub slots-below : (ws : List ℕ) (i : ℕ) (gs : List Grant) → All (λ (s : Slot). s .place < i + length gs) (slots ws i gs)
+unfolding slots
+slots-below ws i [] = all-nil
+slots-below ws i (g ∷ gs) = all-cons {x = record { place = i; grant = g; words = words-in ws i }} (omega arith) (all-weaken (λ s h. omega arith) (slots-below ws (suc i) gs))
 
 -- a place's grant and words
 pub slots-at : (ws : List ℕ) (z : Grant) (i : ℕ) (gs : List Grant) → All (λ (s : Slot). (s .grant ≡ getD gs (s .place - i) z) × (s .words ≡ words-in ws (s .place))) (slots ws i gs)
@@ -236,6 +249,18 @@ module _ (n : Needs) (ws roles profile : List ℕ) where
     unfolding with-opened
     shown-law = rw (lt-ltb p 24 h)
 
+    words-law : with-opened o p bits g .words ≡ set (o .words) p (g .words)
+    unfolding with-opened
+    words-law = rw (lt-ltb p 24 h)
+
+    from-law : with-opened o p bits g .from ≡ set (o .from) p (g .from)
+    unfolding with-opened
+    from-law = rw (lt-ltb p 24 h)
+
+    to-law : with-opened o p bits g .to ≡ set (o .to) p (g .to)
+    unfolding with-opened
+    to-law = rw (lt-ltb p 24 h)
+
   module _ (gs : List Grant) (h : length gs ≤ 24) where
     pub left-places : places-in (open-all n ws roles profile gs .left) ≡ map (λ (s : Slot). s .place) (select (λ (s : Slot). mine s && side-opened n (s .grant) (n .left)) (slots ws 0 gs))
     unfolding open-all
@@ -253,25 +278,46 @@ module _ (n : Needs) (ws roles profile : List ℕ) where
     unfolding open-all
     figures-places = bits-placed (λ (o : Open). o .figures) 3 figures-law (λ (s : Slot). mine s && figures-opened n (s .grant) (s .words)) (λ s. caller-bit s 3 _ (four s .3)) gs none-open h (unfold none-open in refl)
 
-  -- ---- what they show
+  -- ---- what stands in a place
 
-  kept-shown : (i : ℕ) (gs : List Grant) (o : Open) (j : ℕ) → i + length gs ≤ 24 → j < i → getD (open-from n ws roles profile i gs o .shown) j 0 ≡ getD (o .shown) j 0
-  unfolding open-from
-  kept-shown i [] o j h l = refl
-  kept-shown i (g ∷ gs) o j h l =
-      kept-shown (suc i) gs (with-opened o i (caller-bits n g (words-in ws i) roles profile) g) j (omega arith) (omega arith)
-      ∙ ap (λ (xs : List ℕ). getD xs j 0) (shown-law o i (caller-bits n g (words-in ws i) roles profile) g (omega arith)) ∙ getD-set-other (o .shown) i j (g .shown) 0 (λ e. omega arith)
+  -- one of the lists of numbers, and the number of a grant that goes into it
+  module _ (field : Open → List ℕ) (value : Grant → ℕ) (law : (o : Open) (p bits : ℕ) (g : Grant) → p < 24 → field (with-opened o p bits g) ≡ set (field o) p (value g)) where
+    number-kept : (i : ℕ) (gs : List Grant) (o : Open) (j : ℕ) → i + length gs ≤ 24 → j < i → getD (field (open-from n ws roles profile i gs o)) j 0 ≡ getD (field o) j 0
+    unfolding open-from
+    number-kept i [] o j h l = refl
+    number-kept i (g ∷ gs) o j h l =
+        number-kept (suc i) gs (with-opened o i (caller-bits n g (words-in ws i) roles profile) g) j (omega arith) (omega arith)
+        ∙ ap (λ (xs : List ℕ). getD xs j 0) (law o i (caller-bits n g (words-in ws i) roles profile) g (omega arith)) ∙ getD-set-other (field o) i j (value g) 0 (λ e. omega arith)
 
-  shown-from : (i : ℕ) (gs : List Grant) (o : Open) → i + length gs ≤ 24 → length (o .shown) ≡ 24 → All (λ (s : Slot). getD (open-from n ws roles profile i gs o .shown) (s .place) 0 ≡ s .grant .shown) (slots ws i gs)
-  unfolding open-from slots
-  shown-from i [] o h l = all-nil
-  shown-from i (g ∷ gs) o h l =
-      let p = with-opened o i (caller-bits n g (words-in ws i) roles profile) g in
-      let e : p .shown ≡ set (o .shown) i (g .shown) = shown-law o i (caller-bits n g (words-in ws i) roles profile) g (omega arith) in
-      all-cons {x = record { place = i; grant = g; words = words-in ws i }}
-      (kept-shown (suc i) gs p i (omega arith) (omega arith) ∙ ap (λ (xs : List ℕ). getD xs i 0) e ∙ getD-set-same (o .shown) i (g .shown) 0 (omega arith))
-      (shown-from (suc i) gs p (omega arith) (ap length e ∙ length-set (o .shown) i (g .shown) ∙ l))
+    numbers-placed : (i : ℕ) (gs : List Grant) (o : Open) → i + length gs ≤ 24 → length (field o) ≡ 24 → All (λ (s : Slot). getD (field (open-from n ws roles profile i gs o)) (s .place) 0 ≡ value (s .grant)) (slots ws i gs)
+    unfolding open-from slots
+    numbers-placed i [] o h l = all-nil
+    numbers-placed i (g ∷ gs) o h l =
+        let p = with-opened o i (caller-bits n g (words-in ws i) roles profile) g in
+        let e : field p ≡ set (field o) i (value g) = law o i (caller-bits n g (words-in ws i) roles profile) g (omega arith) in
+        all-cons {x = record { place = i; grant = g; words = words-in ws i }}
+        (number-kept (suc i) gs p i (omega arith) (omega arith) ∙ ap (λ (xs : List ℕ). getD xs i 0) e ∙ getD-set-same (field o) i (value g) 0 (omega arith))
+        (numbers-placed (suc i) gs p (omega arith) (ap length e ∙ length-set (field o) i (value g) ∙ l))
 
-  pub shown-placed : (gs : List Grant) → length gs ≤ 24 → All (λ (s : Slot). getD (open-all n ws roles profile gs .shown) (s .place) 0 ≡ s .grant .shown) (slots ws 0 gs)
+  pub all-held : (gs : List Grant) → length gs ≤ 24 → All (λ (s : Slot). Held (open-all n ws roles profile gs) (s .place) (s .grant)) (slots ws 0 gs)
   unfolding open-all
-  shown-placed gs h = shown-from 0 gs none-open (omega arith) (unfold none-open in refl)
+  all-held gs h =
+      all-weaken (λ s k. record { shown = k .0 .0; words = k .0 .1; from = k .1 .0; to = k .1 .1 })
+      (all-both (all-both (of (λ (o : Open). o .shown) (λ (g : Grant). g .shown) shown-law none-shown) (of (λ (o : Open). o .words) (λ (g : Grant). g .words) words-law none-words))
+      (all-both (of (λ (o : Open). o .from) (λ (g : Grant). g .from) from-law none-from) (of (λ (o : Open). o .to) (λ (g : Grant). g .to) to-law none-to)))
+    where
+      of : (field : Open → List ℕ) (value : Grant → ℕ) → ((o : Open) (p bits : ℕ) (g : Grant) → p < 24 → field (with-opened o p bits g) ≡ set (field o) p (value g)) → length (field none-open) ≡ 24
+          → All (λ (s : Slot). getD (field (open-from n ws roles profile 0 gs none-open)) (s .place) 0 ≡ value (s .grant)) (slots ws 0 gs)
+      of field value law l = numbers-placed field value law 0 gs none-open (omega arith) l
+
+      none-shown : length (none-open .shown) ≡ 24
+      none-shown = unfold none-open in refl
+
+      none-words : length (none-open .words) ≡ 24
+      none-words = unfold none-open in refl
+
+      none-from : length (none-open .from) ≡ 24
+      none-from = unfold none-open in refl
+
+      none-to : length (none-open .to) ≡ 24
+      none-to = unfold none-open in refl
