@@ -162,7 +162,7 @@ pub ruleset at-ends = (at-none, at-start, at-on, at-end)
 -- ---- orders made column by column
 
 -- a column that is passed
-passed : (p : ℕ → Bool) (m c : ℕ) (cs : List ℕ) → order-from m (select p (c ∷ cs)) ≡ order-from (cond (p c) (with-code m c) m) (select p cs)
+pub passed : (p : ℕ → Bool) (m c : ℕ) (cs : List ℕ) → order-from m (select p (c ∷ cs)) ≡ order-from (cond (p c) (with-code m c) m) (select p cs)
 unfolding order-from select
 passed p m c cs = go (p c)
   where

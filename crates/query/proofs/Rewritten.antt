@@ -139,3 +139,6 @@ table-forms ws fs h k =
     ap rewritten-forms (table-stored ws fs h k)
     ∙ ap₂ (λ l n. map (form-at l) (count-from 0 n)) (sets-eq (gather words-of fs) ws 0 (omega arith)) m
     ∙ read-back fs (drop (0 + length (gather words-of fs)) ws)
+
+pub stored-forms : (ws : List ℕ) (fs : List Form) {ws′ : List ℕ} {n : ℕ} → table-words ≤ length ws → length fs ≤ max-rewritten → held ws′ n ≡ rewritten-table ws fs → forms-in ws′ n ≡ fs
+stored-forms ws fs h k e = ap rewritten-forms e ∙ table-forms ws fs h k
