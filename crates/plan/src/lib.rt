@@ -170,7 +170,7 @@ impl Plan {
         ensures { λ r. ⌜ r ≡ with-join f self ⌝ }
     {
         let mut p = self;
-        let view = self.view;
+        let lview = self.view;
         p.joined = true;
         p.first = f.first;
         p.second = f.second;
@@ -182,7 +182,7 @@ impl Plan {
         p.lefts = self.count;
         p.uppers = 0;
         p.view = View::none();
-        p.lview = view;
+        p.lview = lview;
         p
     }
 

@@ -1,17 +1,13 @@
 -- A query's table: its forms with one more, how many they are, and the form at a place.
 use mathlib.Core.Path.{_≡_, refl, sym, ap, _∙_}
 use mathlib.Core.List.{List, [], _∷_, _++_, map}
-use mathlib.Core.Bool.{Bool, true, false, cond}
 use Prim.Native.Nat.{ℕ, _+_, _≤_, _<_}
 use native.Mathlib.Numerals.{add-one}
-use native.Mathlib.Decide.{decLt}
 use native.Mathlib.Omega.{arith}
-use lib.Dec.{ltb}
-use lib.ListN.{length, take, set, getD, replicate, length-take, length-append, length-map, length-set, List·getD-eq-default}
+use lib.ListN.{length, take, set, getD, replicate, length-take, length-map, List·getD-eq-default}
 use lib.Seq.{take-suc-set, take-all, getD-take, length-take-le}
 use borrow.Author.Tests.{lt-ltb, le-ltb}
-use Rattle.lists.proofs.Laws.{append-nil}
-use Rattle.syntax.specs.Limits.{max-forms, max-rewritten}
+use Rattle.syntax.specs.Limits.{max-forms}
 use Rattle.query.specs.declared.Form.{Form}
 use Rattle.query.specs.declared.Query.{Query}
 use Rattle.query.specs.Tables.{blank, forms-with, query-forms, new-query, query-with, QueryWith}

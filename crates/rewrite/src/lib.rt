@@ -176,7 +176,15 @@ fn put_picks(table: &mut [u32], r: u32, q: Query, from: u32) -> u32
 }
 
 // A table with a grant's view of a join of two streams.
-fn put_view(table: &mut [u32], n: u32, names: &[u64], g: Granted, join: Form, a: Form, b: Form) -> u32
+fn put_view(
+    table: &mut [u32],
+    n: u32,
+    names: &[u64],
+    g: Granted,
+    join: Form,
+    a: Form,
+    b: Form,
+) -> u32
     ensures { λ r. ⌜ held (now (table .exit)) r ≡ rewritten-from (held (now (table .entry)) n) (view-forms (now (names .entry)) g join a b) ⌝ }
 {
     let left = with_columns(0, names, a.first, g.shown);

@@ -29,9 +29,9 @@ laid-spec =
     (λ c κs. search needs)
     {- loop-holds -}
     (λ c.
-      let s = c .before .before .before .before .args in
-      let e = c .before .count-in .ensures ∙ sym (forms-many (s .table .now) (s .n)) in
-      (omega arith, plan-start (s .names .now) (forms-in (s .table .now) (s .n)) (c .new .ensures) e))
+    let s = c .before .before .before .before .args in
+    let e = c .before .count-in .ensures ∙ sym (forms-many (s .table .now) (s .n)) in
+    (omega arith, plan-start (s .names .now) (forms-in (s .table .now) (s .n)) (c .new .ensures) e))
     {- sub-i -}
     (λ c. search needs)
     {- form-in-requires -}
