@@ -10,7 +10,7 @@ use Rattle.lists.specs.Lists.{gather, count-from}
 use Rattle.lists.proofs.Counting.{map-shift, map-length}
 use Rattle.syntax.specs.Limits.{max-rewritten}
 use Rattle.query.specs.Forms.{keep-of, form-order}
-use Rattle.query.specs.Tables.{blank, words-of, table-words, form-at, forms-in, Rewritten, held, rewritten-forms, rewritten-with, rewritten-from, rewritten-table}
+use Rattle.query.specs.Tables.{blank, fields-of, table-words, form-at, forms-in, Rewritten, held, rewritten-forms, rewritten-with, rewritten-from, rewritten-table}
 use Rattle.query.specs.declared.Form.{Form}
 
 -- ---- a keep's order
@@ -30,13 +30,13 @@ module _ (ws : List ℕ) (n : ℕ) (f : Form) where
   unfolding rewritten-with
   put-short h k = rw (lt-ltb n 16 h, lt-leb 80 (length ws) k)
 
-  with-room : n < 16 → 80 ≤ length ws → rewritten-with (held ws n) f ≡ held (sets ws (n * 5) (words-of f)) (n + 1)
+  with-room : n < 16 → 80 ≤ length ws → rewritten-with (held ws n) f ≡ held (sets ws (n * 5) (fields-of f)) (n + 1)
   unfolding rewritten-with
   with-room h k = rw (lt-ltb n 16 h, le-leb 80 (length ws) k)
 
   -- its words one by one
-  words-set : (k : ℕ) → set (set (set (set (set ws k (f .kind)) (k + 1) (f .first)) (k + 2) (f .second)) (k + 3) (f .third)) (k + 4) (f .fourth) ≡ sets ws k (words-of f)
-  unfolding words-of
+  words-set : (k : ℕ) → set (set (set (set (set ws k (f .kind)) (k + 1) (f .first)) (k + 2) (f .second)) (k + 3) (f .third)) (k + 4) (f .fourth) ≡ sets ws k (fields-of f)
+  unfolding fields-of
   words-set k =
       let b : k + 1 ≡ suc k = omega arith in
       let c : k + 2 ≡ suc (suc k) = omega arith in
@@ -83,30 +83,30 @@ unfolding rewritten-from
 from-append t [] gs = refl
 from-append t (f ∷ fs) gs = from-append (rewritten-with t f) fs gs
 
-gathered : (fs : List Form) → length (gather words-of fs) ≡ length fs * 5
-unfolding gather words-of
+gathered : (fs : List Form) → length (gather fields-of fs) ≡ length fs * 5
+unfolding gather fields-of
 gathered [] = refl
 gathered (f ∷ fs) = let e = gathered fs in omega arith
 
-sets-form : (ws : List ℕ) (k : ℕ) (f : Form) (vs : List ℕ) → sets (sets ws k (words-of f)) (k + 5) vs ≡ sets ws k (words-of f ++ vs)
-unfolding words-of
+sets-form : (ws : List ℕ) (k : ℕ) (f : Form) (vs : List ℕ) → sets (sets ws k (fields-of f)) (k + 5) vs ≡ sets ws k (fields-of f ++ vs)
+unfolding fields-of
 sets-form ws k f vs = let e : k + 5 ≡ suc (suc (suc (suc (suc k)))) = omega arith in rw e
 
-from-words : (ws : List ℕ) (n : ℕ) (fs : List Form) → table-words ≤ length ws → n + length fs ≤ max-rewritten → rewritten-from (held ws n) fs ≡ held (sets ws (n * 5) (gather words-of fs)) (n + length fs)
+from-words : (ws : List ℕ) (n : ℕ) (fs : List Form) → table-words ≤ length ws → n + length fs ≤ max-rewritten → rewritten-from (held ws n) fs ≡ held (sets ws (n * 5) (gather fields-of fs)) (n + length fs)
 unfolding rewritten-from gather
 from-words ws n [] h k = let z : n ≡ n + 0 = omega arith in ap (held ws) z
 from-words ws n (f ∷ fs) h k =
-    let l = length-sets ws (n * 5) (words-of f) in
+    let l = length-sets ws (n * 5) (fields-of f) in
     let a : (n + 1) * 5 ≡ n * 5 + 5 = omega arith in
     let b : n + 1 + length fs ≡ n + suc (length fs) = omega arith in
     ap (λ t. rewritten-from t fs) (with-room ws n f (omega arith) h)
-    ∙ from-words (sets ws (n * 5) (words-of f)) (n + 1) fs (omega arith) (omega arith)
-    ∙ ap₂ held (ap (λ i. sets (sets ws (n * 5) (words-of f)) i (gather words-of fs)) a ∙ sets-form ws (n * 5) f (gather words-of fs)) b
+    ∙ from-words (sets ws (n * 5) (fields-of f)) (n + 1) fs (omega arith) (omega arith)
+    ∙ ap₂ held (ap (λ i. sets (sets ws (n * 5) (fields-of f)) i (gather fields-of fs)) a ∙ sets-form ws (n * 5) f (gather fields-of fs)) b
 
 -- where the words are enough and the forms not too many: the forms' words from the first on, and all others as they were
-pub table-stored : (ws : List ℕ) (fs : List Form) → table-words ≤ length ws → length fs ≤ max-rewritten → rewritten-table ws fs ≡ held (sets ws 0 (gather words-of fs)) (length fs)
+pub table-stored : (ws : List ℕ) (fs : List Form) → table-words ≤ length ws → length fs ≤ max-rewritten → rewritten-table ws fs ≡ held (sets ws 0 (gather fields-of fs)) (length fs)
 unfolding rewritten-table
-table-stored ws fs h k = from-words ws 0 fs h (omega arith) ∙ ap (held (sets ws 0 (gather words-of fs))) (omega arith)
+table-stored ws fs h k = from-words ws 0 fs h (omega arith) ∙ ap (held (sets ws 0 (gather fields-of fs))) (omega arith)
 
 next-form : (a b c d e : ℕ) (ws : List ℕ) (i : ℕ) → form-at (a ∷ b ∷ c ∷ d ∷ e ∷ ws) (suc i) ≡ form-at ws i
 unfolding form-at
@@ -118,11 +118,11 @@ next-form a b c d e ws i =
     let t : suc i * 5 + 4 ≡ suc (suc (suc (suc (suc (i * 5 + 4))))) = omega arith in
     rw (q, r, s, t, p)
 
-read-back : (fs : List Form) (ws : List ℕ) → map (form-at (gather words-of fs ++ ws)) (count-from 0 (length fs)) ≡ fs
-unfolding count-from gather words-of form-at
+read-back : (fs : List Form) (ws : List ℕ) → map (form-at (gather fields-of fs ++ ws)) (count-from 0 (length fs)) ≡ fs
+unfolding count-from gather fields-of form-at
 read-back [] ws = refl
 read-back (f ∷ fs) ws =
-    let xs = gather words-of fs ++ ws in
+    let xs = gather fields-of fs ++ ws in
     ap (λ l. f ∷ l)
     (map-shift (form-at (f .kind ∷ f .first ∷ f .second ∷ f .third ∷ f .fourth ∷ xs)) 0 (length fs)
     ∙ simp (next-form (f .kind) (f .first) (f .second) (f .third) (f .fourth) xs) (read-back fs ws))
@@ -134,8 +134,8 @@ table-forms ws fs h k =
     let m : min (length fs) max-rewritten ≡ length fs = omega arith in
     let g = gathered fs in
     ap rewritten-forms (table-stored ws fs h k)
-    ∙ ap₂ (λ l n. map (form-at l) (count-from 0 n)) (sets-eq (gather words-of fs) ws 0 (omega arith)) m
-    ∙ read-back fs (drop (0 + length (gather words-of fs)) ws)
+    ∙ ap₂ (λ l n. map (form-at l) (count-from 0 n)) (sets-eq (gather fields-of fs) ws 0 (omega arith)) m
+    ∙ read-back fs (drop (0 + length (gather fields-of fs)) ws)
 
 pub stored-forms : (ws : List ℕ) (fs : List Form) {ws′ : List ℕ} {n : ℕ} → table-words ≤ length ws → length fs ≤ max-rewritten → held ws′ n ≡ rewritten-table ws fs → forms-in ws′ n ≡ fs
 stored-forms ws fs h k e = ap rewritten-forms e ∙ table-forms ws fs h k

@@ -41,8 +41,8 @@ pub record QueryWith (q : Query) (f : Form) (r : Query) : Type 0 where
 abbrev pub form-words : ℕ
 form-words = 5
 
-unfoldable pub words-of : Form → List ℕ
-words-of f = f .kind ∷ f .first ∷ f .second ∷ f .third ∷ f .fourth ∷ []
+unfoldable pub fields-of : Form → List ℕ
+fields-of f = f .kind ∷ f .first ∷ f .second ∷ f .third ∷ f .fourth ∷ []
 
 -- words for all forms that there may be
 abbrev pub table-words : ℕ
@@ -78,13 +78,13 @@ rewritten-forms t = forms-in (t .words) (t .count)
 unfoldable pub rewritten-with : Rewritten → Form → Rewritten
 rewritten-with t f =
     cond (ltb (t .count) max-rewritten && leb table-words (length (t .words)))
-    (held (sets (t .words) (t .count * form-words) (words-of f)) (t .count + 1)) t
+    (held (sets (t .words) (t .count * form-words) (fields-of f)) (t .count + 1)) t
 
 -- some more
 unfoldable pub rewritten-from : Rewritten → List Form → Rewritten
 rewritten-from t [] = t
 rewritten-from t (f ∷ fs) = rewritten-from (rewritten-with t f) fs
 
--- some forms in lent words, the first of them where they are too many
+-- some forms in lent words: the first of them where they are too many, none where the words are too few
 unfoldable pub rewritten-table : List ℕ → List Form → Rewritten
 rewritten-table ws fs = rewritten-from (held ws 0) fs
