@@ -19,7 +19,7 @@ use Rattle.orders.specs.Orders.{codes-in}
 use Rattle.nodes.specs.Nodes.{link}
 use Rattle.nodes.proofs.Reaching.{cond-of}
 use Rattle.grant.specs.Grants.{linked-from}
-use Rattle.query.specs.Forms.{Words, coded-col, cols-in, numbered-fn, cond-at, limits-at, outer, inner, with-form, queries-in, query-in}
+use Rattle.query.specs.Forms.{Words, coded-col, cols-in, form-order, numbered-fn, cond-at, limits-at, outer, inner, with-form, queries-in, query-in}
 use Rattle.query.specs.declared.Form.{Form}
 use Rattle.comparisons.specs.Compared.{compared, named-by, column-code}
 use Rattle.comparisons.proofs.Walked.{cond-tests}
@@ -123,7 +123,7 @@ module _ (ns : List ℕ) (w : Words) where
         go (no a) (yes b) c d e =
             let u : T (ltb 0 (f .first) && linked-from (suc (f .first)) (w .own) (f .first)) = rw (eq-eqb (f .kind) 1 b) at (and-r (ltb (f .kind) 5) _ t) in
             rw (ne-eqb (f .kind) 0 a, eq-eqb (f .kind) 1 b) (pick-fit (f .first) (ltb→lt 0 (f .first) (search parts)) (search parts))
-        go (no a) (no b) (yes c) d e = rw (ne-eqb (f .kind) 0 a, ne-eqb (f .kind) 1 b, eq-eqb (f .kind) 2 c) (keep-fit (f .columns))
+        go (no a) (no b) (yes c) d e = rw (ne-eqb (f .kind) 0 a, ne-eqb (f .kind) 1 b, eq-eqb (f .kind) 2 c) (keep-fit (form-order f))
         go (no a) (no b) (no c) (yes d) e = rw (ne-eqb (f .kind) 0 a, ne-eqb (f .kind) 1 b, ne-eqb (f .kind) 2 c, eq-eqb (f .kind) 3 d) (join-fit (f .first) (f .second))
         go (no a) (no b) (no c) (no d) (yes e) =
             rw (ne-eqb (f .kind) 0 a, ne-eqb (f .kind) 1 b, ne-eqb (f .kind) 2 c, ne-eqb (f .kind) 3 d, eq-eqb (f .kind) 4 e) (aggregate-fit (f .first) (f .second) (f .third) (f .fourth))

@@ -12,6 +12,7 @@ use Rattle.masks.specs.Masks.{mask-of}
 use Rattle.orders.specs.Orders.{codes-in}
 use Rattle.nodes.specs.Nodes.{link}
 use Rattle.query.specs.Tables.{blank}
+use Rattle.query.specs.Forms.{form-order}
 use Rattle.query.specs.declared.Form.{Form}
 use Rattle.comparisons.specs.Compared.{compared, named-by, column-code}
 use Rattle.needs.specs.declared.Needs.{Needs}
@@ -48,9 +49,10 @@ module _ (ns ws : List ℕ) (f : Form) (s : Sides) {r : Sides} where
     form-pick e a b g = g ∙ rw (ne-eqb (f .kind) 0 x, eq-eqb (f .kind) 1 e) (ap (λ n. outer-needs n s) (b ∙ ap (λ k. pick-needs k (s .outer)) a))
 
     module _ (y : f .kind ≡ 1 → ⊥) where
-      pub form-keep : f .kind ≡ 2 → {k : ℕ} {n : Needs} → k ≡ bitAnd (mask-of (codes-in (f .columns))) all-columns → n ≡ keep-needs k (s .outer) → r ≡ outer-needs n s → r ≡ form-needs ns ws f s
+      pub form-keep : f .kind ≡ 2 → {o k : ℕ} {n : Needs} → o ≡ form-order f → k ≡ bitAnd (mask-of (codes-in o)) all-columns → n ≡ keep-needs k (s .outer) → r ≡ outer-needs n s → r ≡ form-needs ns ws f s
       unfolding form-needs
-      form-keep e a b g = g ∙ rw (ne-eqb (f .kind) 0 x, ne-eqb (f .kind) 1 y, eq-eqb (f .kind) 2 e) (ap (λ n. outer-needs n s) (b ∙ ap (λ k. keep-needs k (s .outer)) a))
+      form-keep e o a b g =
+          g ∙ rw (ne-eqb (f .kind) 0 x, ne-eqb (f .kind) 1 y, eq-eqb (f .kind) 2 e) (ap (λ n. outer-needs n s) (b ∙ ap (λ k. keep-needs k (s .outer)) (a ∙ ap (λ m. bitAnd (mask-of (codes-in m)) all-columns) o)))
 
       pub form-wide : (f .kind ≡ 2 → ⊥) → r ≡ wide-needs f s → r ≡ form-needs ns ws f s
       unfolding form-needs

@@ -15,7 +15,7 @@ use Rattle.orders.specs.Orders.{codes-in}
 use Rattle.terms.specs.Terms.{time-code, figure-code}
 use Rattle.nodes.specs.Nodes.{link}
 use Rattle.grant.specs.Grants.{streams-mask, linked-from}
-use Rattle.query.specs.Forms.{rows-form, pick-form, keep-form, join-form, aggregate-form, under-form}
+use Rattle.query.specs.Forms.{rows-form, pick-form, keep-form, form-order, join-form, aggregate-form, under-form}
 use Rattle.query.specs.declared.Form.{Form}
 use Rattle.comparisons.specs.Compared.{compared, col-codes, named-by, column-code}
 use Rattle.needs.specs.declared.Needs.{Needs}
@@ -174,7 +174,7 @@ unfoldable pub form-needs : List ℕ → List ℕ → Form → Sides → Sides
 form-needs ns ws f s =
     cond (eqb (f .kind) rows-form) (record { outer = rows-needs ns (f .first); inner = s .outer })
     (cond (eqb (f .kind) pick-form) (outer-needs (pick-needs (named-by (compared ws (link ws (f .first)) (f .first))) (s .outer)) s)
-    (cond (eqb (f .kind) keep-form) (outer-needs (keep-needs (bitAnd (mask-of (codes-in (f .columns))) all-columns) (s .outer)) s)
+    (cond (eqb (f .kind) keep-form) (outer-needs (keep-needs (bitAnd (mask-of (codes-in (form-order f))) all-columns) (s .outer)) s)
     (wide-needs f s)))
 
 unfoldable pub no-needs : List ℕ → Sides

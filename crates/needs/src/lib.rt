@@ -282,7 +282,7 @@ impl Sides {
             return self.with_outer(n.with_pick(pick_named(words, f.first)));
         }
         if f.kind == Form::KEEP {
-            return self.with_outer(n.with_keep(order_columns(f.columns)));
+            return self.with_outer(n.with_keep(order_columns(f.order())));
         }
         self.with_wide(f)
     }

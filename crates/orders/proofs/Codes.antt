@@ -190,6 +190,11 @@ codes-within mask m =
     let b = most-codes m in
     codes-of (select (bit? mask) (codes-in m)) (omega arith) (fit-select (bit? mask) (codes-in m) (small-codes m))
 
+-- of an order that is made of some
+pub within-of : (mask : ℕ) (cs : List ℕ) → length cs ≤ max-order → T (codes-fit cs) → order-within mask (order-of cs) ≡ order-of (select (bit? mask) cs)
+unfolding order-within
+within-of mask cs h t = ap (λ l. order-of (select (bit? mask) l)) (codes-of cs h t)
+
 fit-counted : T (codes-fit (count-from 0 max-codes))
 unfolding every count-from
 fit-counted = tt

@@ -1,20 +1,21 @@
 -- The loops over the columns of an order: each return, and each turn.
 use mathlib.Core.Path.{_≡_, refl, sym, ap, _∙_}
-use mathlib.Core.List.{List, [], _∷_, _++_}
+use mathlib.Core.List.{List, [], _∷_, _++_, reverse, reverseAux, reverse-append, reverse-reverse}
 use mathlib.Core.Bool.{Bool, true, false, cond}
 use Prim.Native.Nat.{ℕ, zero, suc, _+_, _*_, _-_, _/_, _%_, _^_, _≤_, _<_}
-use native.Mathlib.Numerals.{add-one}
 use native.Mathlib.Omega.{arith}
 use lib.Bits.{bitOr, or-comm, or-zero-l, or-zero-r}
-use lib.ListN.{length, getD, drop, length-append, List·getD-append, List·getD-eq-default, drop-of-length-le}
-use lib.Seq.{drop-cons, getD-at}
+use lib.Dec.{T, ltb}
+use lib.ListN.{length, getD, length-append, length-reverse, List·getD-append, List·getD-eq-default}
+use lib.Seq.{getD-at}
 use borrow.Author.Tests.{lt-ltb, le-ltb}
-use Rattle.lists.specs.Lists.{select, count-from}
+use Rattle.lists.specs.Lists.{select, every, count-from}
+use Rattle.lists.proofs.Laws.{and-l, and-r, and-both}
 use Rattle.lists.proofs.Counting.{count-left, count-done}
 use Rattle.masks.specs.Masks.{bit?, with-bit, mask-of}
 use Rattle.masks.proofs.Lists.{mask-append, or-assoc}
 use Rattle.orders.specs.Orders.{max-order, max-codes, order-end, codes-before, codes-in, with-code, order-from, order-of, order-within, order-by}
-use Rattle.orders.proofs.Codes.{codes-last, codes-none}
+use Rattle.orders.proofs.Codes.{codes-last, codes-none, codes-fit, codes-of, most-codes, small-codes, length-select, fit-select}
 
 -- ---- one column more
 
@@ -160,7 +161,7 @@ pub ruleset at-ends = (at-none, at-start, at-on, at-end)
 -- ---- orders made column by column
 
 -- a column that is passed
-passed : (p : ℕ → Bool) (m c : ℕ) (cs : List ℕ) → order-from m (select p (c ∷ cs)) ≡ order-from (cond (p c) (with-code m c) m) (select p cs)
+pub passed : (p : ℕ → Bool) (m c : ℕ) (cs : List ℕ) → order-from m (select p (c ∷ cs)) ≡ order-from (cond (p c) (with-code m c) m) (select p cs)
 unfolding order-from select
 passed p m c cs = go (p c)
   where
@@ -168,22 +169,99 @@ passed p m c cs = go (p c)
     go true = refl
     go false = refl
 
+-- ---- from the last column to the first
+
+reverse-last : (m n : ℕ) → n < 12 → (m ≡ 0 → ⊥) → reverse (left m n) ≡ (m % 32 - 1) ∷ reverse (left (m / 32) (n + 1))
+reverse-last m n h z = ap reverse (left-last m n h z) ∙ reverse-append (left (m / 32) (n + 1)) ((m % 32 - 1) ∷ [])
+
+module _ (a b : ℕ) where
+  pub turned-start : order-from a (reverse (codes-in b)) ≡ order-from a (reverse (left b 0))
+  unfolding codes-in
+  turned-start = refl
+
+  module _ (m rest n : ℕ) (inv : order-from a (reverse (codes-in b)) ≡ order-from m (reverse (left rest n))) where
+    pub turned-on : {c k : ℕ} → n < 12 → (rest ≡ 0 → ⊥) → c ≡ rest % 32 - 1 → k ≡ with-code m c → order-from a (reverse (codes-in b)) ≡ order-from k (reverse (left (rest / 32) (n + 1)))
+    unfolding order-from
+    turned-on h z e f = inv ∙ ap (order-from m) (reverse-last rest n h z) ∙ rw (f, e)
+
+    turned-done : left rest n ≡ [] → m ≡ order-from a (reverse (codes-in b))
+    unfolding order-from
+    turned-done e = sym (inv ∙ ap (λ l. order-from m (reverse l)) e)
+
+    pub turned-stop : rest ≡ 0 → m ≡ order-from a (reverse (codes-in b))
+    turned-stop z = turned-done (codes-none (12 - n) rest z)
+
+    pub turned-full : 12 ≤ n → m ≡ order-from a (reverse (codes-in b))
+    turned-full h = turned-done (left-over rest n h)
+
+pub ruleset turned-ends = (turned-start, turned-on, turned-stop, turned-full)
+
 module _ (order mask : ℕ) where
-  pub within-start : order-within mask order ≡ order-from 0 (select (bit? mask) (drop 0 (codes-in order)))
-  unfolding order-within order-of
-  within-start = refl
+  abbrev shown-turned : ℕ
+  shown-turned = order-of (select (bit? mask) (reverse (codes-in order)))
 
-  module _ (n m i : ℕ) (e : n ≡ length (codes-in order)) (inv : order-within mask order ≡ order-from m (select (bit? mask) (drop i (codes-in order)))) where
-    pub within-on : {c k : ℕ} → i < n → c ≡ getD (codes-in order) i 0 → k ≡ cond (bit? mask c) (with-code m c) m → order-within mask order ≡ order-from k (select (bit? mask) (drop (i + 1) (codes-in order)))
-    within-on h f g =
-        inv ∙ ap (λ l. order-from m (select (bit? mask) l)) (drop-cons (codes-in order) i 0 (omega arith))
-        ∙ passed (bit? mask) m (getD (codes-in order) i 0) (drop (suc i) (codes-in order)) ∙ rw (g, f, add-one i)
+  pub shown-start : shown-turned ≡ order-from 0 (select (bit? mask) (reverse (left order 0)))
+  unfolding codes-in order-of
+  shown-start = refl
 
-    pub within-end : n ≤ i → m ≡ order-within mask order
+  module _ (m rest n : ℕ) (inv : shown-turned ≡ order-from m (select (bit? mask) (reverse (left rest n)))) where
+    pub shown-on : {c k : ℕ} → n < 12 → (rest ≡ 0 → ⊥) → c ≡ rest % 32 - 1 → k ≡ cond (bit? mask c) (with-code m c) m → shown-turned ≡ order-from k (select (bit? mask) (reverse (left (rest / 32) (n + 1))))
+    shown-on h z e f =
+        inv ∙ ap (λ l. order-from m (select (bit? mask) l)) (reverse-last rest n h z)
+        ∙ passed (bit? mask) m (rest % 32 - 1) (reverse (left (rest / 32) (n + 1))) ∙ rw (f, e)
+
+    shown-done : left rest n ≡ [] → m ≡ shown-turned
     unfolding order-from select
-    within-end h = sym (inv ∙ rw (drop-of-length-le (codes-in order) {i = i} (omega arith)))
+    shown-done e = sym (inv ∙ ap (λ l. order-from m (select (bit? mask) (reverse l))) e)
 
-pub ruleset within-ends = (within-start, within-on, within-end)
+    pub shown-stop : rest ≡ 0 → m ≡ shown-turned
+    shown-stop z = shown-done (codes-none (12 - n) rest z)
+
+    pub shown-full : 12 ≤ n → m ≡ shown-turned
+    shown-full h = shown-done (left-over rest n h)
+
+pub ruleset within-ends = (shown-start, shown-on, shown-stop, shown-full)
+
+-- ---- turned twice
+
+fit-turned : (xs ys : List ℕ) → T (codes-fit xs) → T (codes-fit ys) → T (codes-fit (reverseAux xs ys))
+unfolding every
+fit-turned [] ys t u = u
+fit-turned (x ∷ xs) ys t u = fit-turned xs (x ∷ ys) (and-r (ltb x 31) (codes-fit xs) t) (and-both (ltb x 31) (codes-fit ys) (and-l (ltb x 31) (codes-fit xs) t) u)
+
+select-turned : (p : ℕ → Bool) (xs ys : List ℕ) → select p (reverseAux xs ys) ≡ reverseAux (select p xs) (select p ys)
+unfolding select
+select-turned p [] ys = refl
+select-turned p (x ∷ xs) ys = select-turned p xs (x ∷ ys) ∙ go (p x)
+  where
+    go : (b : Bool) → reverseAux (select p xs) (cond b (x ∷ select p ys) (select p ys)) ≡ reverseAux (cond b (x ∷ select p xs) (select p xs)) (select p ys)
+    go true = refl
+    go false = refl
+
+reverse-select : (p : ℕ → Bool) (xs : List ℕ) → select p (reverse xs) ≡ reverse (select p xs)
+unfolding select
+reverse-select p xs = select-turned p xs []
+
+module _ (a : ℕ) (cs : List ℕ) (h : length cs ≤ 12) (t : T (codes-fit cs)) {m k : ℕ} (e : m ≡ order-of (reverse cs)) (f : k ≡ order-from a (reverse (codes-in m))) where
+  turned-twice : k ≡ order-from a cs
+  unfolding every
+  turned-twice =
+      let l = length-reverse cs in
+      f ∙ ap (λ x. order-from a (reverse (codes-in x))) e ∙ ap (λ l. order-from a (reverse l)) (codes-of (reverse cs) (omega arith) (fit-turned cs [] t tt)) ∙ ap (order-from a) (reverse-reverse cs)
+
+pub joined-turned : (a b : ℕ) {m k : ℕ} → m ≡ order-from 0 (reverse (codes-in b)) → k ≡ order-from a (reverse (codes-in m)) → k ≡ order-from a (codes-in b)
+unfolding order-of
+joined-turned a b e f = turned-twice a (codes-in b) (most-codes b) (small-codes b) e f
+
+pub within-turned : (order mask : ℕ) {m k : ℕ} → m ≡ order-of (select (bit? mask) (reverse (codes-in order))) → k ≡ order-from 0 (reverse (codes-in m)) → k ≡ order-within mask order
+unfolding order-within order-of
+within-turned order mask e f =
+    let cs = codes-in order in
+    let l = length-select (bit? mask) cs in
+    let n = most-codes order in
+    turned-twice 0 (select (bit? mask) cs) (omega arith) (fit-select (bit? mask) cs (small-codes order)) (e ∙ ap (λ l. order-from 0 l) (reverse-select (bit? mask) cs)) f
+
+-- ---- the columns of a mask
 
 module _ (mask : ℕ) where
   pub by-start : order-by mask ≡ order-from 0 (select (bit? mask) (count-from 0 (max-codes - 0)))
@@ -199,18 +277,3 @@ module _ (mask : ℕ) where
     by-end h = sym (inv ∙ rw (count-done i 24 h))
 
 pub ruleset by-ends = (by-start, by-on, by-end)
-
-module _ (a b : ℕ) where
-  pub joined-start : order-from a (codes-in b) ≡ order-from a (drop 0 (codes-in b))
-  joined-start = refl
-
-  module _ (n m i : ℕ) (e : n ≡ length (codes-in b)) (inv : order-from a (codes-in b) ≡ order-from m (drop i (codes-in b))) where
-    pub joined-on : {c k : ℕ} → i < n → c ≡ getD (codes-in b) i 0 → k ≡ with-code m c → order-from a (codes-in b) ≡ order-from k (drop (i + 1) (codes-in b))
-    unfolding order-from
-    joined-on h f g = inv ∙ ap (order-from m) (drop-cons (codes-in b) i 0 (omega arith)) ∙ rw (g, f, add-one i)
-
-    pub joined-end : n ≤ i → m ≡ order-from a (codes-in b)
-    unfolding order-from
-    joined-end h = sym (inv ∙ rw (drop-of-length-le (codes-in b) {i = i} (omega arith)))
-
-pub ruleset joined-ends = (joined-start, joined-on, joined-end)

@@ -1,10 +1,12 @@
 // Columns in an order, as one number: five bits a column, its code and one, the last column lowest.
 ghost use mathlib.Core.Path.{_≡_};
 ghost use mathlib.Core.Bool.{cond};
+ghost use mathlib.Core.List.{reverse};
 ghost use Prim.Native.Nat.{_-_, _%_};
 ghost use lib.ListN.{length, getD};
+ghost use Rattle.lists.specs.Lists.{select};
 ghost use Rattle.masks.specs.Masks.{bit?, mask-of};
-ghost use Rattle.orders.specs.Orders.{max-order, max-codes, order-end, codes-in, with-code, order-from, order-within, order-by};
+ghost use Rattle.orders.specs.Orders.{max-order, max-codes, order-end, codes-in, with-code, order-from, order-of, order-within, order-by};
 
 // An order of columns, and its bounds.
 pub struct Order {
@@ -121,8 +123,8 @@ pub fn mask_of(order: u64) -> u32
     mask
 }
 
-// An order with a column more where a mask has it.
-fn with_shown(order: u64, mask: u32, code: u32) -> u64
+// Returns the order with one column more where a mask has it.
+pub fn with_shown(order: u64, mask: u32, code: u32) -> u64
     ensures { λ r. ⌜ r ≡ cond (bit? mask code) (with-code order code) order ⌝ }
 {
     if masks::shows(mask, code) {
@@ -131,18 +133,47 @@ fn with_shown(order: u64, mask: u32, code: u32) -> u64
     order
 }
 
+// The columns of one order, then those of another from its last to its first.
+fn turned(a: u64, b: u64) -> u64
+    ensures { λ r. ⌜ r ≡ order-from a (reverse (codes-in b)) ⌝ }
+{
+    let mut m = a;
+    let mut rest = b;
+    let mut n: u32 = 0;
+    while n < Order::MOST {
+        if rest == 0 {
+            return m;
+        }
+        m = with_code(m, last(rest));
+        rest = rest / Order::PLACE;
+        n += 1;
+    }
+    m
+}
+
+// The columns of an order that a mask has, from its last to its first.
+fn turned_within(order: u64, mask: u32) -> u64
+    ensures { λ r. ⌜ r ≡ order-of (select (bit? mask) (reverse (codes-in order))) ⌝ }
+{
+    let mut m: u64 = 0;
+    let mut rest = order;
+    let mut n: u32 = 0;
+    while n < Order::MOST {
+        if rest == 0 {
+            return m;
+        }
+        m = with_shown(m, mask, last(rest));
+        rest = rest / Order::PLACE;
+        n += 1;
+    }
+    m
+}
+
 // Returns the columns of an order that a mask has.
 pub fn within(order: u64, mask: u32) -> u64
     ensures { λ r. ⌜ r ≡ order-within mask order ⌝ }
 {
-    let n = count(order);
-    let mut m: u64 = 0;
-    let mut i: u32 = 0;
-    while i < n {
-        m = with_shown(m, mask, code_at(order, i));
-        i += 1;
-    }
-    m
+    turned(0, turned_within(order, mask))
 }
 
 // Returns the columns of a mask by rising codes, the first Order::MOST of them.
@@ -162,12 +193,5 @@ pub fn by_mask(mask: u32) -> u64
 pub fn joined(a: u64, b: u64) -> u64
     ensures { λ r. ⌜ r ≡ order-from a (codes-in b) ⌝ }
 {
-    let n = count(b);
-    let mut m = a;
-    let mut i: u32 = 0;
-    while i < n {
-        m = with_code(m, code_at(b, i));
-        i += 1;
-    }
-    m
+    turned(a, turned(0, b))
 }

@@ -30,9 +30,9 @@ use Rattle.lists.proofs.Counting.{map-length}
 use Rattle.orders.specs.Orders.{order-end, codes-in, order-from}
 use Rattle.orders.proofs.Codes.{from-below, of-below}
 use Rattle.query.specs.declared.Form.{Form}
-use Rattle.query.specs.Forms.{Words, rows-form, pick-form, keep-form, join-form, aggregate-form, numbered-fn, coded-col, cols-in, cond-at, limits-at, outer, inner, with-form, queries-in, query-in}
+use Rattle.query.specs.Forms.{Words, rows-form, pick-form, keep-form, form-order, join-form, aggregate-form, numbered-fn, coded-col, cols-in, cond-at, limits-at, outer, inner, with-form, queries-in, query-in}
 use Rattle.plan.specs.declared.Plan.{Plan}
-use Rattle.plan.specs.Plans.{no-view, view-of, view-limits, no-plan, stream-order, with-rows, with-pick, with-keep, with-join, with-aggregate, viewed, with-view, plan-step, plan-in, picks-in, right-conds, left-conds, inner-table, figure-table, planned, viewless, form-regular, regular, pick-count}
+use Rattle.plan.specs.Plans.{no-view, view-of, view-limits, no-plan, stream-order, with-rows, with-pick, with-keep, with-join, with-aggregate, with-view, plan-step, plan-in, picks-in, right-conds, left-conds, inner-table, figure-table, planned, viewless, form-regular, regular, pick-count}
 use Rattle.plan.proofs.Steps.{step-rows, step-pick, step-keep, step-join, step-aggregate, step-view}
 use Rattle.plan.proofs.Tables.{Placed, result, result-plain, result-figures, inner-alone, left-of-alone, ended-plain, pick-result, right-same, keep-result, rows-result, view-result, join-result, aggregate-result, counted-on}
 use Rattle.plan.proofs.Headers.{distinct-few, stream-header, joined-header}
@@ -67,7 +67,7 @@ module _ (w : Words) (f : Form) (qs : List (Query ℕ)) where
   unfolding with-form
   form-pick e = rw e refl
 
-  form-keep : f .kind ≡ 2 → with-form w f qs ≡ keep (cols-in (f .columns)) (outer qs) ∷ inner qs
+  form-keep : f .kind ≡ 2 → with-form w f qs ≡ keep (cols-in (form-order f)) (outer qs) ∷ inner qs
   unfolding with-form
   form-keep e = rw e refl
 
@@ -143,7 +143,7 @@ module _ (w : Words) (ns : List ℕ) where
           ordered = unfold with-pick in t .ordered;
         }
 
-    top-keep : f .columns < order-end → Top (keep (cols-in (f .columns)) q) (with-keep f p)
+    top-keep : form-order f < order-end → Top (keep (cols-in (form-order f)) q) (with-keep f p)
     top-keep h =
         record {
           rows-are = λ clock tab. unfold upper base in t .rows-are clock tab ∙ keep-result clock tab w f p;
@@ -178,10 +178,10 @@ module _ (w : Words) (ns : List ℕ) where
         let vs = view-limits w (view-of f) in
         record {
           rows-are = λ clock tab. under-rows vs clock tab ∙ (ap (limited vs) (t .rows-are clock tab) ∙ view-result clock tab w f p z v);
-          header-is = λ s. unfold with-view viewed in under-header vs ∙ t .header-is (rw (sym (under-plain vs)) s);
-          plain-is = unfold with-view viewed in under-plain vs ∙ t .plain-is;
-          alone = λ s. unfold with-view viewed in t .alone (rw (sym (under-side vs)) s);
-          ordered = unfold with-view viewed in t .ordered;
+          header-is = λ s. unfold with-view in under-header vs ∙ t .header-is (rw (sym (under-plain vs)) s);
+          plain-is = unfold with-view in under-plain vs ∙ t .plain-is;
+          alone = λ s. unfold with-view in t .alone (rw (sym (under-side vs)) s);
+          ordered = unfold with-view in t .ordered;
         }
 
     top-aggregate : T (no-aggregate q) → eqb (f .first) 0 ≡ false → Top (aggregate (numbered-fn (f .first)) (coded-col (f .second)) (f .third) (f .fourth) q) (with-aggregate f p)
@@ -226,7 +226,7 @@ module _ (w : Words) (ns : List ℕ) where
   behind-keep f r p b = record { rows-are = b .rows-are; header-is = b .header-is }
 
   behind-view : (f : Form) (r : Query ℕ) (p : Plan) → Behind r p → Behind r (with-view f p)
-  unfolding with-view viewed right-conds picks-in
+  unfolding with-view right-conds picks-in
   behind-view f r p b = record { rows-are = b .rows-are; header-is = b .header-is }
 
   -- ---- places
@@ -253,7 +253,7 @@ module _ (w : Words) (ns : List ℕ) where
   placed-keep f p n h = record { room = h .room; counted = h .counted; starts = h .starts; right = h .right; left = h .left; upper = h .upper }
 
   placed-view : (f : Form) (p : Plan) (n : ℕ) → Placed p n → Placed (with-view f p) n
-  unfolding with-view viewed
+  unfolding with-view
   placed-view f p n h = record { room = h .room; counted = h .counted; starts = h .starts; right = h .right; left = h .left; upper = h .upper }
 
   placed-join : (f : Form) (p : Plan) (n : ℕ) → Placed p n → Placed (with-join f p) n
@@ -323,7 +323,7 @@ module _ (w : Words) (ns : List ℕ) where
             unfigured = λ t. unfold with-pick in y .unfigured t;
           }
 
-      says-keep : f .columns < order-end → Says (keep (cols-in (f .columns)) (outer qs) ∷ inner qs) (with-keep f p) n bare
+      says-keep : form-order f < order-end → Says (keep (cols-in (form-order f)) (outer qs) ∷ inner qs) (with-keep f p) n bare
       says-keep l =
           record {
             placed = placed-keep f p n (y .placed);
@@ -414,8 +414,8 @@ module _ (w : Words) (ns : List ℕ) where
     unfolding form-regular
     regular-pick e t = some-query (rw e at t)
 
-    regular-keep : f .kind ≡ 2 → T (form-regular w ns f fs) → T (leb 1 (length qs) && ltb (f .columns) order-end)
-    unfolding form-regular
+    regular-keep : f .kind ≡ 2 → T (form-regular w ns f fs) → T (leb 1 (length qs) && ltb (form-order f) order-end)
+    unfolding form-regular form-order
     regular-keep e t = rw e at t
 
     regular-join : f .kind ≡ 3 → T (form-regular w ns f fs) → 2 ≤ length qs
@@ -465,7 +465,7 @@ module _ (w : Words) (ns : List ℕ) where
     step (k-keep e) t l y =
         let r = regular-keep e t in
         move (form-keep w f qs e) (sym (step-keep ns f (plan-in ns fs) e refl)) (picks-as (λ u. omega arith)) (bare-is 2 e)
-        (says-keep f qs (plan-in ns fs) (pick-count fs) (viewless fs) y (some-query (search parts)) (ltb→lt (f .columns) order-end (search parts)))
+        (says-keep f qs (plan-in ns fs) (pick-count fs) (viewless fs) y (some-query (search parts)) (ltb→lt (form-order f) order-end (search parts)))
     step (k-join e) t l y =
         move (form-join w f qs e) (sym (step-join ns f (plan-in ns fs) e refl)) (picks-as (λ u. omega arith)) (bare-is 3 e)
         (says-join f qs (plan-in ns fs) (pick-count fs) (viewless fs) y (regular-join e t))

@@ -8,10 +8,10 @@ use lib.Dec.{eqb, eqb→eq}
 use lib.ListN.{length}
 use Rattle.lists.proofs.Laws.{true-T}
 use Rattle.orders.specs.Orders.{order-within}
-use Rattle.query.specs.Forms.{rows-form, join-form}
+use Rattle.query.specs.Forms.{rows-form, keep-of, form-order, join-form}
 use Rattle.query.specs.declared.Form.{Form}
 use Rattle.rewrite.specs.declared.Granted.{Granted}
-use Rattle.rewrite.specs.Rewrites.{keep-of, cut-form, seen-forms, cut-forms, side-picks, side-stream, side-rest, view-forms, joined-forms, pair-forms, sum-forms}
+use Rattle.rewrite.specs.Rewrites.{cut-form, seen-forms, cut-forms, side-picks, side-stream, side-rest, view-forms, joined-forms, pair-forms, sum-forms}
 use Rattle.plan.specs.Plans.{pick-count}
 use Rattle.plan.proofs.Rewriter.{stream-kind}
 
@@ -63,7 +63,7 @@ module _ (ns : List ℕ) where
   unfolding cut-form pick-count
   cut-on mask f fs gs h = go (eqb (f .kind) 2) refl
     where
-      go : (b : Bool) → eqb (f .kind) 2 ≡ b → pick-count (cond b (keep-of (order-within mask (f .columns))) f ∷ fs) ≡ pick-count (f ∷ gs)
+      go : (b : Bool) → eqb (f .kind) 2 ≡ b → pick-count (cond b (keep-of (order-within mask (form-order f))) f ∷ fs) ≡ pick-count (f ∷ gs)
       go true e = rw (eqb→eq (f .kind) 2 (true-T (eqb (f .kind) 2) e)) h
       go false e = rw h
 

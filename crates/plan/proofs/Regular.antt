@@ -13,9 +13,10 @@ use Rattle.model.specs.Queries as M
 use Rattle.model.specs.Queries.{sources}
 use Rattle.schema.specs.Schemas.{streams-in}
 use Rattle.orders.specs.Orders.{order-end}
-use Rattle.query.specs.Forms.{Words, rows-form, pick-form, keep-form, join-form, aggregate-form, under-form, inner, queries-in}
+use Rattle.query.specs.Forms.{Words, rows-form, pick-form, keep-form, keep-of, form-order, join-form, aggregate-form, under-form, inner, queries-in}
 use Rattle.query.specs.Shapes.{depth, taken}
 use Rattle.query.specs.declared.Form.{Form}
+use Rattle.query.proofs.Rewritten.{keep-order}
 use Rattle.query.proofs.Shapes.{Laid, laid-rows, laid-pick, laid-keep, laid-join, laid-aggregate, form-rows, form-pick, form-keep, form-join, form-aggregate}
 use Rattle.rewrite.proofs.Shown.{declared-all}
 use Rattle.plan.specs.Plans.{viewless, form-regular, regular, has-number}
@@ -110,9 +111,9 @@ module _ (w : Words) (ns : List ℕ) (f : Form) (fs : List Form) (r : T (regular
   unfolding form-regular
   add-pick e h = with-regular (rw e (some-least 1 h))
 
-  pub add-keep : f .kind ≡ keep-form → 1 ≤ depth fs → f .columns < order-end → T (regular w ns (f ∷ fs))
-  unfolding form-regular
-  add-keep e h l = with-regular (rw e (and-both (leb 1 (length (queries-in w fs))) (ltb (f .columns) order-end) (some-least 1 h) (lt→ltb (f .columns) order-end l)))
+  add-keep : f .kind ≡ keep-form → 1 ≤ depth fs → form-order f < order-end → T (regular w ns (f ∷ fs))
+  unfolding form-regular form-order
+  add-keep e h l = with-regular (rw e (and-both (leb 1 (length (queries-in w fs))) (ltb (form-order f) order-end) (some-least 1 h) (lt→ltb (form-order f) order-end l)))
 
   pub add-join : f .kind ≡ join-form → 2 ≤ depth fs → T (regular w ns (f ∷ fs))
   unfolding form-regular
@@ -125,3 +126,6 @@ module _ (w : Words) (ns : List ℕ) (f : Form) (fs : List Form) (r : T (regular
   pub add-under : f .kind ≡ under-form → 1 ≤ depth fs → T (viewless fs) → T (regular w ns (f ∷ fs))
   unfolding form-regular
   add-under e h t = with-regular (rw e (and-both (leb 1 (length (queries-in w fs))) (viewless fs) (some-least 1 h) t))
+
+pub add-kept : (w : Words) (ns : List ℕ) (m : ℕ) (fs : List Form) → T (regular w ns fs) → 1 ≤ depth fs → m < order-end → T (regular w ns (keep-of m ∷ fs))
+add-kept w ns m fs r h l = add-keep w ns (keep-of m) fs r refl h (rw (keep-order m) l)

@@ -15,18 +15,18 @@ use Rattle.schema.specs.Schemas.{streams-in}
 use Rattle.orders.specs.Orders.{order-of, order-within, codes-in}
 use Rattle.orders.proofs.Codes.{from-below, within-below}
 use Rattle.grant.specs.Grants.{column-codes}
-use Rattle.query.specs.Forms.{Words, rows-form, pick-form, join-form, under-form}
+use Rattle.query.specs.Forms.{Words, rows-form, pick-form, form-order, join-form, under-form}
 use Rattle.query.specs.Shapes.{depth, taken, formed}
 use Rattle.query.specs.declared.Form.{Form}
 use Rattle.query.proofs.Shapes.{Laid, laid-rows, laid-pick, laid-keep, laid-join, laid-aggregate, depth-laid}
 use Rattle.rewrite.specs.declared.Granted.{Granted}
-use Rattle.rewrite.specs.Rewrites.{keep-of, under-of, shown-order, seen-forms, cut-forms, side-picks, side-stream, side-rest, side-order, pair-order, view-forms, joined-forms, pair-forms, sum-forms}
+use Rattle.rewrite.specs.Rewrites.{under-of, shown-order, seen-forms, cut-forms, side-picks, side-stream, side-rest, side-order, pair-order, view-forms, joined-forms, pair-forms, sum-forms}
 use Rattle.rewrite.proofs.SideBySide.{cut-rows, cut-same, cut-kept}
 use Rattle.rewrite.proofs.OnPair.{side-free, pair-same, pair-kept, pair-joined}
 use Rattle.rewrite.proofs.OneStream.{not-free, sum-same, sum-seen}
 use Rattle.plan.specs.Plans.{viewless, regular}
 use Rattle.plan.proofs.Meaning.{Kind, k-rows, k-pick, k-keep, k-join, k-aggregate, k-under, kind-of}
-use Rattle.plan.proofs.Regular.{told, told-stream, told-number, taken-one, taken-two, add-rows, add-pick, add-keep, add-join, add-aggregate, add-under}
+use Rattle.plan.proofs.Regular.{told, told-stream, told-number, taken-one, taken-two, add-rows, add-pick, add-kept, add-join, add-aggregate, add-under}
 
 -- ---- a grant for each stream
 
@@ -37,7 +37,7 @@ module _ (w : Words) (ns : List ℕ) where
   seen-regular g f fs e t r =
       let x = add-rows w ns f fs r e t in
       let y = add-under w ns (under-of g) (f ∷ fs) x refl (rw e (omega arith)) (rw e tt) in
-      add-keep w ns (keep-of (shown-order ns (f .first ∷ []) g)) (under-of g ∷ f ∷ fs) y refl (rw e (omega arith)) (within-below (g .shown) (order-of (column-codes ns (f .first ∷ []))))
+      add-kept w ns (shown-order ns (f .first ∷ []) g) (under-of g ∷ f ∷ fs) y (rw e (omega arith)) (within-below (g .shown) (order-of (column-codes ns (f .first ∷ []))))
 
   module _ (mask : ℕ) where
     pub cut-depth : (g h : Granted) (fs : List Form) → depth (cut-forms ns mask g h fs) ≡ depth fs
@@ -61,7 +61,7 @@ module _ (w : Words) (ns : List ℕ) where
       cut-form-regular (k-pick e) i j = rw (cut-same ns mask g h f fs e refl refl) (add-pick w ns f (cut-forms ns mask g h fs) j e (rw (cut-depth g h fs) (taken-one f fs l e refl refl)))
       cut-form-regular (k-keep e) i j =
           rw (cut-kept ns mask g h f fs e)
-          (add-keep w ns (keep-of (order-within mask (f .columns))) (cut-forms ns mask g h fs) j refl (rw (cut-depth g h fs) (taken-one f fs l e refl refl)) (within-below mask (f .columns)))
+          (add-kept w ns (order-within mask (form-order f)) (cut-forms ns mask g h fs) j (rw (cut-depth g h fs) (taken-one f fs l e refl refl)) (within-below mask (form-order f)))
       cut-form-regular (k-join e) i j = rw (cut-same ns mask g h f fs e refl refl) (add-join w ns f (cut-forms ns mask g h fs) j e (rw (cut-depth g h fs) (taken-two f fs l e)))
       cut-form-regular (k-aggregate e) i j =
           rw (cut-same ns mask g h f fs e refl refl) (add-aggregate w ns f (cut-forms ns mask g h fs) j e (rw (cut-depth g h fs) (taken-one f fs l e refl refl)) (told-number ns f e t))
@@ -160,7 +160,7 @@ module _ (w : Words) (ns : List ℕ) where
         let y = add-rows w ns a (b ∷ []) x k s in
         let z = add-join w ns j (a ∷ b ∷ []) y e (rw (k, l) (omega arith)) in
         let u = add-under w ns (under-of g) (j ∷ a ∷ b ∷ []) z refl (rw (e, k, l) (omega arith)) (rw e tt) in
-        add-keep w ns (keep-of (shown-order ns (a .first ∷ b .first ∷ []) g)) (under-of g ∷ j ∷ a ∷ b ∷ []) u refl (rw (e, k, l) (omega arith)) (within-below (g .shown) (order-of (column-codes ns (a .first ∷ b .first ∷ []))))
+        add-kept w ns (shown-order ns (a .first ∷ b .first ∷ []) g) (under-of g ∷ j ∷ a ∷ b ∷ []) u (rw (e, k, l) (omega arith)) (within-below (g .shown) (order-of (column-codes ns (a .first ∷ b .first ∷ []))))
 
     view-depth : (j a b : Form) → j .kind ≡ join-form → a .kind ≡ rows-form → b .kind ≡ rows-form → depth (view-forms ns g j a b) ≡ 1
     unfolding view-forms depth
@@ -190,7 +190,7 @@ module _ (w : Words) (ns : List ℕ) where
           let v = view-regular f (side-stream fs) (side-stream (side-rest fs)) e (stream-kind fs) (stream-declared fs (omega arith) t) (stream-kind (side-rest fs)) (stream-declared (side-rest fs) (omega arith) (rest-told fs t)) in
           let p = picks-regular (side-picks fs) view (picks-only fs) (omega arith) v in
           let q = picks-regular (side-picks (side-rest fs)) (side-picks fs ++ view) (picks-only (side-rest fs)) (omega arith) p in
-          add-keep w ns (keep-of (pair-order ns (g .shown) fs)) (side-picks (side-rest fs) ++ (side-picks fs ++ view)) q refl (omega arith)
+          add-kept w ns (pair-order ns (g .shown) fs) (side-picks (side-rest fs) ++ (side-picks fs ++ view)) q (omega arith)
           (from-below (order-within (g .shown) (side-order ns fs)) (codes-in (order-within (g .shown) (side-order ns (side-rest fs)))) (within-below (g .shown) (side-order ns fs)))
 
     pub pair-depth : (fs : List Form) → T (formed fs) → 1 ≤ depth fs → 1 ≤ depth (pair-forms ns g fs)
@@ -215,7 +215,7 @@ module _ (w : Words) (ns : List ℕ) where
       pair-form-regular (k-pick e) r = rw (pair-same ns g f fs e refl refl) (add-pick w ns f (pair-forms ns g fs) r e (pair-depth fs t (taken-one f fs l e refl refl)))
       pair-form-regular (k-keep e) r =
           rw (pair-kept ns g f fs e)
-          (add-keep w ns (keep-of (order-within (g .shown) (f .columns))) (pair-forms ns g fs) r refl (pair-depth fs t (taken-one f fs l e refl refl)) (within-below (g .shown) (f .columns)))
+          (add-kept w ns (order-within (g .shown) (form-order f)) (pair-forms ns g fs) r (pair-depth fs t (taken-one f fs l e refl refl)) (within-below (g .shown) (form-order f)))
       pair-form-regular (k-join e) r = rw (pair-joined ns g f fs e) (joined-regular f fs e (taken-two f fs l e) us)
       pair-form-regular (k-aggregate e) r =
           rw (pair-same ns g f fs e refl refl) (add-aggregate w ns f (pair-forms ns g fs) r e (pair-depth fs t (taken-one f fs l e refl refl)) (told-number ns f e u))

@@ -22,10 +22,10 @@ use Rattle.model.proofs.Keeps.{keeps-distinct}
 use Rattle.schema.specs.Schemas.{streams-in, schema-of}
 use Rattle.query.specs.Forms.{Words, query-in}
 use Rattle.query.specs.Shapes.{depth, formed, one-query}
-use Rattle.query.specs.Tables.{rewritten-forms, rewritten-table}
+use Rattle.query.specs.Tables.{table-words, rewritten-forms, rewritten-table}
 use Rattle.query.specs.declared.Form.{Form}
 use Rattle.query.proofs.Shapes.{one-laid}
-use Rattle.query.proofs.Tables.{table-forms}
+use Rattle.query.proofs.Rewritten.{table-forms}
 use Rattle.rewrite.specs.declared.Granted.{Granted}
 use Rattle.rewrite.specs.Rewrites.{cut-forms, side-forms, pair-forms, sum-forms}
 use Rattle.rewrite.specs.Routed.{over-sides, over-sum, Stands}
@@ -67,9 +67,9 @@ module _ (w : Words) (ns : List ℕ) (x : Record) (declared : x .schema ≡ sche
   forms-mean [] h t l a = unfold depth in absurd (omega arith)
   forms-mean (f ∷ fs) h t l a = sym (plan-means w ns x declared f fs t l (rw declared at (a .placing)) (a .once) (a .wide))
 
-  pub table-means : (fs : List Form) (q : M.Query ℕ) → Plannable w ns fs → query-in w (rewritten-forms (rewritten-table fs)) ≡ q → Asked x q → planned x w (plan-in ns (rewritten-forms (rewritten-table fs))) ≡ plain x q
-  table-means fs q p e a =
-      let t = table-forms fs (p .room) in
+  pub table-means : (lent : List ℕ) → table-words ≤ length lent → (fs : List Form) (q : M.Query ℕ) → Plannable w ns fs → query-in w (rewritten-forms (rewritten-table lent fs)) ≡ q → Asked x q → planned x w (plan-in ns (rewritten-forms (rewritten-table lent fs))) ≡ plain x q
+  table-means lent room fs q p e a =
+      let t = table-forms lent fs room (p .room) in
       let i : query-in w fs ≡ q = sym (ap (query-in w) t) ∙ e in
       ap (λ l. planned x w (plan-in ns l)) t ∙ (forms-mean fs (p .some) (p .regularly) (p .few) (rw i a) ∙ ap (plain x) i)
 
@@ -145,13 +145,13 @@ module _ (w : Words) (ns : List ℕ) (fs : List Form) (one : T (one-query fs)) (
 -- ---- the routes
 
 module _ (ns : List ℕ) (w : Words) (who : Caller) (same : who .profile ≡ w .profile) (fs : List Form) (one : T (one-query fs)) (few : length fs ≤ max-forms) (placing : T (placed (schema-of ns) (query-in w fs)))
-    (numbers : T (every has-number fs)) (x : Record) (declared : x .schema ≡ schema-of ns) where
+    (numbers : T (every has-number fs)) (x : Record) (declared : x .schema ≡ schema-of ns) (lent : List ℕ) (room : table-words ≤ length lent) where
   abbrev q : M.Query ℕ
   q = query-in w fs
 
   -- what the plan of a rewriter's table asks for
   abbrev pub table-planned : List Form → Table
-  table-planned forms = planned x w (plan-in ns (rewritten-forms (rewritten-table forms)))
+  table-planned forms = planned x w (plan-in ns (rewritten-forms (rewritten-table lent forms)))
 
   -- the rewritten query of a query over views
   abbrev pub over-streams : M.Query Source → M.Query ℕ
@@ -169,17 +169,17 @@ module _ (ns : List ℕ) (w : Words) (who : Caller) (same : who .profile ≡ w .
   pub one-side-planned : (g : Granted) (n : Numbered) (s : ℕ) → Stands ns w g (n .grant) → n .grant .of ≡ s ∷ [] → sources q ≡ s ∷ []
       → Asked x (over-streams (over-sides (schema-of ns) n n q)) → table-planned (side-forms ns g g fs) ≡ plain x (over-streams (over-sides (schema-of ns) n n q))
   one-side-planned g n s a o e k =
-      table-means w ns x declared (side-forms ns g g fs) (over-streams (over-sides (schema-of ns) n n q))
+      table-means w ns x declared lent room (side-forms ns g g fs) (over-streams (over-sides (schema-of ns) n n q))
       (sides-plannable w ns fs one few placing numbers (rw (e, sym o) (a .declared)) g g (rw e (omega arith)))
-      (one-side ns w who same fs one few placing g n s a o e) k
+      (one-side ns w who same fs one few placing lent room g n s a o e) k
 
   -- a reading grant on each of two streams
   pub two-sides-planned : (g : Granted) (n : Numbered) (h : Granted) (m : Numbered) (s t : ℕ) → Stands ns w g (n .grant) → n .grant .of ≡ s ∷ [] → Stands ns w h (m .grant) → m .grant .of ≡ t ∷ [] → sources q ≡ s ∷ (t ∷ [])
       → Asked x (over-streams (over-sides (schema-of ns) n m q)) → table-planned (side-forms ns g h fs) ≡ plain x (over-streams (over-sides (schema-of ns) n m q))
   two-sides-planned g n h m s t a o b p e k =
-      table-means w ns x declared (side-forms ns g h fs) (over-streams (over-sides (schema-of ns) n m q))
+      table-means w ns x declared lent room (side-forms ns g h fs) (over-streams (over-sides (schema-of ns) n m q))
       (sides-plannable w ns fs one few placing numbers (rw e (both-declared s t (rw o at (a .declared)) (rw p at (b .declared)))) g h (rw e (omega arith)))
-      (two-sides ns w who same fs one few placing g n h m s t a o b p e) k
+      (two-sides ns w who same fs one few placing lent room g n h m s t a o b p e) k
 
   module _ (g : Granted) (n : Numbered) (a : Stands ns w g (n .grant)) (of : n .grant .of ≡ sources q) where
     theirs : T (declared-all ns (sources q))
@@ -189,18 +189,18 @@ module _ (ns : List ℕ) (w : Words) (who : Caller) (same : who .profile ≡ w .
     module _ (once : T (keeps (distinct same-col) q)) (two : length (sources q) ≡ 2) where
       pub pair-planned : Asked x (over-streams (over-view (schema-of ns) q n)) → table-planned (pair-forms ns g fs) ≡ plain x (over-streams (over-view (schema-of ns) q n))
       pair-planned k =
-          table-means w ns x declared (pair-forms ns g fs) (over-streams (over-view (schema-of ns) q n)) (pair-plannable w ns fs one few placing numbers theirs g)
-          (on-pair ns w who same fs one few placing once g n a of two) k
+          table-means w ns x declared lent room (pair-forms ns g fs) (over-streams (over-view (schema-of ns) q n)) (pair-plannable w ns fs one few placing numbers theirs g)
+          (on-pair ns w who same fs one few placing once g n a of two lent room) k
 
       -- an aggregate grant on the pair
       pub sum-pair-planned : Asked x (over-streams (over-sum (schema-of ns) q n)) → table-planned (pair-forms ns g fs) ≡ plain x (over-streams (over-sum (schema-of ns) q n))
       sum-pair-planned k =
-          table-means w ns x declared (pair-forms ns g fs) (over-streams (over-sum (schema-of ns) q n)) (pair-plannable w ns fs one few placing numbers theirs g)
-          (sum-on-pair ns w who same fs one few placing once g n a of two) k
+          table-means w ns x declared lent room (pair-forms ns g fs) (over-streams (over-sum (schema-of ns) q n)) (pair-plannable w ns fs one few placing numbers theirs g)
+          (sum-on-pair ns w who same fs one few placing once g n a of two lent room) k
 
     -- an aggregate grant on the one stream
     pub sum-stream-planned : T (not (no-aggregate q)) → length (sources q) ≡ 1 → Asked x (over-streams (over-sum (schema-of ns) q n))
         → table-planned (sum-forms ns g fs) ≡ plain x (over-streams (over-sum (schema-of ns) q n))
     sum-stream-planned u e k =
-        table-means w ns x declared (sum-forms ns g fs) (over-streams (over-sum (schema-of ns) q n)) (sum-plannable w ns fs one few placing numbers theirs g u)
-        (on-stream ns w who same fs one few placing u g n a of e) k
+        table-means w ns x declared lent room (sum-forms ns g fs) (over-streams (over-sum (schema-of ns) q n)) (sum-plannable w ns fs one few placing numbers theirs g u)
+        (on-stream ns w who same fs one few placing u g n a of e lent room) k

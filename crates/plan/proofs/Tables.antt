@@ -23,7 +23,7 @@ use Rattle.query.specs.declared.Form.{Form}
 use Rattle.query.specs.Forms.{Words, numbered-fn, coded-col, cond-at}
 use Rattle.plan.specs.declared.View.{View}
 use Rattle.plan.specs.declared.Plan.{Plan}
-use Rattle.plan.specs.Plans.{no-view, view-of, view-limits, with-rows, with-pick, with-keep, with-join, with-aggregate, viewed, with-view, picks-in, inner-end, right-conds, left-conds, pair-conds, outer-conds, inner-table, figure-table}
+use Rattle.plan.specs.Plans.{no-view, view-of, view-limits, with-rows, with-pick, with-keep, with-join, with-aggregate, with-view, picks-in, inner-end, right-conds, left-conds, pair-conds, outer-conds, inner-table, figure-table}
 use Rattle.plan.proofs.Limits.{same-swap, picked-last, limited-last, picked-before, limited-before}
 
 -- ---- its picks
@@ -239,27 +239,27 @@ module _ (clock : ℕ) (tab : ℕ → Table) (w : Words) where
     unseen = ap (view-limits w) v ∙ view-none w
 
     same-end : inner-end seen ≡ inner-end p
-    unfolding with-view viewed inner-end
+    unfolding with-view inner-end
     same-end = refl
 
     same-picks : (a : ℕ) → picks-in w seen a (inner-end seen) ≡ picks-in w p a (inner-end p)
-    unfolding with-view viewed inner-end picks-in
+    unfolding with-view inner-end picks-in
     same-picks a = refl
 
     same-pair : p .joined ≡ true → pair-table tab w seen ≡ pair-table tab w p
-    unfolding with-view viewed right-conds picks-in
+    unfolding with-view right-conds picks-in
     same-pair j = ap (λ l. pairs (limited l (tab (p .left))) (limited (right-conds w p) (tab (p .right)))) (left-of-joined w seen j ∙ sym (left-of-joined w p j))
 
     pub view-result : limited vs (result clock tab w p) ≡ result clock tab w seen
-    view-result = ap (limited vs) (result-plain clock tab w p z) ∙ (go (p .joined) refl ∙ sym (unfold with-view viewed in result-plain clock tab w seen z))
+    view-result = ap (limited vs) (result-plain clock tab w p z) ∙ (go (p .joined) refl ∙ sym (unfold with-view in result-plain clock tab w seen z))
       where
         go : (b : Bool) → p .joined ≡ b → limited vs (inner-table tab w p) ≡ inner-table tab w seen
         go true j =
-            unfold with-view viewed pair-conds in ap (limited vs) (inner-joined tab w p j ∙ ap (λ l. limited ((picks-in w p (p .lefts) (inner-end p) ++ l) ++ (link tab w p ∷ [])) (pair-table tab w p)) unseen)
+            unfold with-view pair-conds in ap (limited vs) (inner-joined tab w p j ∙ ap (λ l. limited ((picks-in w p (p .lefts) (inner-end p) ++ l) ++ (link tab w p ∷ [])) (pair-table tab w p)) unseen)
             ∙ (limited-before vs (picks-in w p (p .lefts) (inner-end p)) (link tab w p) (pair-table tab w p)
             ∙ sym (inner-joined tab w seen j ∙ ap₂ (λ l t. limited ((l ++ vs) ++ (link tab w p ∷ [])) t) (same-picks (p .lefts)) (same-pair j)))
         go false j =
-            unfold with-view viewed in ap (limited vs) (inner-alone tab w p j ∙ ap (λ l. limited l (tab (p .left))) (left-of-alone w p j ∙ ap (λ l. picks-in w p (p .rights) (inner-end p) ++ l) unseen))
+            unfold with-view in ap (limited vs) (inner-alone tab w p j ∙ ap (λ l. limited l (tab (p .left))) (left-of-alone w p j ∙ ap (λ l. picks-in w p (p .rights) (inner-end p) ++ l) unseen))
             ∙ (limited-last vs (picks-in w p (p .rights) (inner-end p)) (tab (p .left))
             ∙ sym (inner-alone tab w seen j ∙ ap (λ l. limited l (tab (p .left))) (left-of-alone w seen j ∙ ap (λ l. l ++ vs) (same-picks (p .rights)))))
 

@@ -17,7 +17,7 @@ use Rattle.grant.specs.Catalogues.{words-in}
 use Rattle.nodes.specs.Nodes.{conditions-of}
 use Rattle.orders.specs.Orders.{order-end, codes-in, order-of, order-from}
 use Rattle.query.specs.declared.Form.{Form}
-use Rattle.query.specs.Forms.{Words, rows-form, pick-form, keep-form, join-form, aggregate-form, numbered-fn, coded-col, cols-in, cond-at, queries-in}
+use Rattle.query.specs.Forms.{Words, rows-form, pick-form, keep-form, form-order, join-form, aggregate-form, numbered-fn, coded-col, cols-in, cond-at, queries-in}
 use Rattle.plan.specs.declared.View.{View}
 use Rattle.plan.specs.declared.Plan.{Plan}
 
@@ -127,7 +127,7 @@ with-keep f p =
       joined = p .joined;
       first = p .first;
       second = p .second;
-      order = f .columns;
+      order = form-order f;
       other = p .other;
       number = p .number;
       column = p .column;
@@ -196,9 +196,9 @@ with-aggregate f p =
       rview = p .rview;
     }
 
--- other views
-unfoldable pub viewed : Plan → View → View → Plan
-viewed p v l =
+-- a grant's view
+unfoldable pub with-view : Form → Plan → Plan
+with-view f p =
     record {
       left = p .left;
       right = p .right;
@@ -217,14 +217,10 @@ viewed p v l =
       uppers = p .uppers;
       count = p .count;
       picks = p .picks;
-      view = v;
-      lview = l;
+      view = view-of f;
+      lview = p .lview;
       rview = p .rview;
     }
-
--- a grant's view
-unfoldable pub with-view : Form → Plan → Plan
-with-view f p = viewed p (view-of f) (p .lview)
 
 unfoldable pub plan-step : List ℕ → Form → Plan → Plan
 plan-step ns f p =
@@ -298,7 +294,7 @@ unfoldable pub form-regular : Words → List ℕ → Form → List Form → Bool
 form-regular w ns f fs =
     cond (eqb (f .kind) rows-form) (ltb (f .first) (streams-in ns))
     (cond (eqb (f .kind) pick-form) (leb 1 (length (queries-in w fs)))
-    (cond (eqb (f .kind) keep-form) (leb 1 (length (queries-in w fs)) && ltb (f .columns) order-end)
+    (cond (eqb (f .kind) keep-form) (leb 1 (length (queries-in w fs)) && ltb (form-order f) order-end)
     (cond (eqb (f .kind) join-form) (leb 2 (length (queries-in w fs)))
     (cond (eqb (f .kind) aggregate-form) (leb 1 (length (queries-in w fs)) && not (eqb (f .first) 0)) (leb 1 (length (queries-in w fs)) && viewless fs)))))
 

@@ -1,10 +1,9 @@
 // What a table of forms asks for, laid out flat.
 ghost use mathlib.Core.Path.{_≡_};
-ghost use Rattle.plan.specs.Plans.{no-view, view-of, no-plan, stream-order, with-rows, with-pick, with-keep, with-join, with-aggregate, viewed, with-view, plan-step, plan-in};
-ghost use Rattle.query.specs.Tables.{rewritten-forms};
+ghost use Rattle.plan.specs.Plans.{no-view, view-of, no-plan, stream-order, with-rows, with-pick, with-keep, with-join, with-aggregate, with-view, plan-step, plan-in};
+ghost use Rattle.query.specs.Tables.{forms-in};
 use grant::Grant;
 use query::Form;
-use query::Rewritten;
 use schema::Stream;
 
 // What a grant's view asks of rows: the conditions in so many words at its place in the catalogue, and a first and last time, or Grant::NONE.
@@ -120,30 +119,27 @@ impl Plan {
     fn with_rows(self, f: Form, names: &[u64]) -> Plan
         ensures { λ r. ⌜ r ≡ with-rows (now (names .entry)) f self ⌝ }
     {
-        let picks = self.picks;
+        let mut p = self;
         let view = self.view;
-        Plan {
-            left: f.first,
-            right: self.left,
-            joined: false,
-            first: 0,
-            second: 0,
-            order: stream_order(names, f.first),
-            other: self.order,
-            number: 0,
-            column: 0,
-            size: 0,
-            offset: 0,
-            start: self.rights,
-            rights: self.count,
-            lefts: 0,
-            uppers: 0,
-            count: self.count,
-            picks: picks,
-            view: View::none(),
-            lview: View::none(),
-            rview: view,
-        }
+        p.left = f.first;
+        p.right = self.left;
+        p.joined = false;
+        p.first = 0;
+        p.second = 0;
+        p.order = stream_order(names, f.first);
+        p.other = self.order;
+        p.number = 0;
+        p.column = 0;
+        p.size = 0;
+        p.offset = 0;
+        p.start = self.rights;
+        p.rights = self.count;
+        p.lefts = 0;
+        p.uppers = 0;
+        p.view = View::none();
+        p.lview = View::none();
+        p.rview = view;
+        p
     }
 
     // The plan with a condition more.
@@ -165,69 +161,29 @@ impl Plan {
         ensures { λ r. ⌜ r ≡ with-keep f self ⌝ }
     {
         let mut p = self;
-        p.order = f.columns;
+        p.order = f.order();
         p
-    }
-
-    // The plan with other views.
-    fn with_views(self, view: View, lview: View) -> Plan
-        ensures { λ r. ⌜ r ≡ viewed self view lview ⌝ }
-    {
-        let picks = self.picks;
-        let rview = self.rview;
-        Plan {
-            left: self.left,
-            right: self.right,
-            joined: self.joined,
-            first: self.first,
-            second: self.second,
-            order: self.order,
-            other: self.other,
-            number: self.number,
-            column: self.column,
-            size: self.size,
-            offset: self.offset,
-            start: self.start,
-            rights: self.rights,
-            lefts: self.lefts,
-            uppers: self.uppers,
-            count: self.count,
-            picks: picks,
-            view: view,
-            lview: lview,
-            rview: rview,
-        }
     }
 
     // The plan with its two sides joined.
     fn with_join(self, f: Form) -> Plan
         ensures { λ r. ⌜ r ≡ with-join f self ⌝ }
     {
-        let picks = self.picks;
+        let mut p = self;
         let lview = self.view;
-        let rview = self.rview;
-        Plan {
-            left: self.left,
-            right: self.right,
-            joined: true,
-            first: f.first,
-            second: f.second,
-            order: orders::joined(self.order, self.other),
-            other: self.other,
-            number: 0,
-            column: 0,
-            size: 0,
-            offset: 0,
-            start: self.start,
-            rights: self.rights,
-            lefts: self.count,
-            uppers: 0,
-            count: self.count,
-            picks: picks,
-            view: View::none(),
-            lview: lview,
-            rview: rview,
-        }
+        p.joined = true;
+        p.first = f.first;
+        p.second = f.second;
+        p.order = orders::joined(self.order, self.other);
+        p.number = 0;
+        p.column = 0;
+        p.size = 0;
+        p.offset = 0;
+        p.lefts = self.count;
+        p.uppers = 0;
+        p.view = View::none();
+        p.lview = lview;
+        p
     }
 
     // The plan with an aggregate.
@@ -247,8 +203,9 @@ impl Plan {
     fn with_view(self, f: Form) -> Plan
         ensures { λ r. ⌜ r ≡ with-view f self ⌝ }
     {
-        let lview = self.lview;
-        self.with_views(View::of(f), lview)
+        let mut p = self;
+        p.view = View::of(f);
+        p
     }
 
     // Returns the plan with a form more, in front of those that it has.
@@ -275,15 +232,15 @@ impl Plan {
     }
 }
 
-// Returns the plan of a rewritten table.
-pub fn laid(t: Rewritten, names: &[u64]) -> Plan
-    ensures { λ r. ⌜ r ≡ plan-in (now (names .entry)) (rewritten-forms t) ⌝ }
+// Returns the plan of the forms of a rewritten table.
+pub fn laid(table: &[u32], n: u32, names: &[u64]) -> Plan
+    ensures { λ r. ⌜ r ≡ plan-in (now (names .entry)) (forms-in (now (table .entry)) n) ⌝ }
 {
-    let mut i = t.count();
+    let mut i = query::count_in(n);
     let mut p = Plan::new();
     while 0 < i {
         i -= 1;
-        p = p.with(t.form(i), names);
+        p = p.with(query::form_in(table, n, i), names);
     }
     p
 }

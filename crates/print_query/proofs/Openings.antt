@@ -16,7 +16,7 @@ use Rattle.calls.specs.Names.{ref-of, test-of}
 use Rattle.text.specs.Words.{bytes-from, name-of}
 use Rattle.nodes.specs.Profiles.{profile-in}
 use Rattle.grant.specs.Catalogues.{words-in}
-use Rattle.query.specs.Forms.{Words, coded-col, cols-in, numbered-fn, cond-at}
+use Rattle.query.specs.Forms.{Words, coded-col, cols-in, form-order, numbered-fn, cond-at}
 use Rattle.query.specs.declared.Form.{Form}
 use Rattle.print.specs.Writing.{Put, byte-text}
 use Rattle.print.specs.declared.Bounds.{Bounds}
@@ -55,10 +55,10 @@ module _ (d : Schema) (f : Form) where
   unfolding pick-opening put-open put-name byte-text name-of bytes-from cond-at
   pick-end own granted profile e x y z = put-as (λ r. ap (λ t. bytes "(pick " ++ t) (sym (own-is d e own (f .first) (32 ∷ r)))) (put-then x (put-then y z))
 
-  pub keep-end : {m₀ m₁ m₂ m₃ : Bytes} {p₀ p₁ p₂ p₃ : ℕ}
-      → Put (put-name (name-of 173600499056)) m₀ p₀ m₁ p₁ → Put (columns-text d (f .columns)) m₁ p₁ m₂ p₂ → Put (byte-text 32) m₂ p₂ m₃ p₃ → Put (keep-opening d f) m₀ p₀ m₃ p₃
+  pub keep-end : {o : ℕ} {m₀ m₁ m₂ m₃ : Bytes} {p₀ p₁ p₂ p₃ : ℕ}
+      → o ≡ form-order f → Put (put-name (name-of 173600499056)) m₀ p₀ m₁ p₁ → Put (columns-text d o) m₁ p₁ m₂ p₂ → Put (byte-text 32) m₂ p₂ m₃ p₃ → Put (keep-opening d f) m₀ p₀ m₃ p₃
   unfolding keep-opening put-open put-name byte-text name-of bytes-from
-  keep-end x y z = put-as (λ r. ap (λ t. bytes "(keep" ++ t) (cols-are d (f .columns) (32 ∷ r))) (put-then x (put-then y z))
+  keep-end e x y z = put-as (λ r. ap (λ t. bytes "(keep" ++ t) (cols-are d (form-order f) (32 ∷ r) ∙ ap (λ m. columns-text d m (32 ∷ r)) (sym e))) (put-then x (put-then y z))
 
   pub join-end : {m₀ m₁ m₂ m₃ m₄ m₅ m₆ : Bytes} {p₀ p₁ p₂ p₃ p₄ p₅ p₆ : ℕ}
       → Put (put-name (name-of 44437600824864)) m₀ p₀ m₁ p₁ → Put (put-name (name-of 2637088)) m₁ p₁ m₂ p₂ → Put (col-text d (f .first)) m₂ p₂ m₃ p₃ → Put (byte-text 32) m₃ p₃ m₄ p₄

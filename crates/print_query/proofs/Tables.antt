@@ -16,10 +16,9 @@ use Rattle.model.specs.Queries.{Schema, Query, source}
 use Rattle.model.specs.Rewriting.{under}
 use Rattle.calls.specs.Names.{form-of}
 use Rattle.query.specs.Forms.{Words, outer, inner, limits-at, with-form, queries-in, query-in}
-use Rattle.query.specs.Tables.{blank, rewritten-forms}
+use Rattle.query.specs.Tables.{blank, forms-in}
 use Rattle.query.specs.declared.Form.{Form}
-use Rattle.query.specs.declared.Rewritten.{Rewritten}
-use Rattle.query.proofs.Tables.{rewritten-most}
+use Rattle.query.proofs.Rewritten.{forms-most}
 use Rattle.grant.specs.Catalogues.{words-in}
 use Rattle.print.specs.Writing.{Put}
 use Rattle.print.specs.Texts.{source-text, bounding, bounded, close-text}
@@ -133,10 +132,10 @@ pub record Going (d : Schema) (w : Words) (fs : List Form) (m₀ : Bytes) (p₀ 
   pub small : n < marks-end
   pub near : i + n ≤ 131088
 
-pub going-start : (d : Schema) (w : Words) (t : Rewritten) {m : Bytes} {p : ℕ} → length (t .forms) ≡ 16 → Going d w (rewritten-forms t) m p 0 1 m p
+pub going-start : (d : Schema) (w : Words) (ws : List ℕ) (n : ℕ) {m : Bytes} {p : ℕ} → Going d w (forms-in ws n) m p 0 1 m p
 unfolding table-text query-in left-text closing state-number marks-number
-going-start d w t h =
-    record { state = some []; is = refl; todo = todo-as (λ r. refl) todo-start; few = rewritten-most t h; low = λ l. omega arith; small = omega arith; near = omega arith }
+going-start d w ws n =
+    record { state = some []; is = refl; todo = todo-as (λ r. refl) todo-start; few = forms-most ws n; low = λ l. omega arith; small = omega arith; near = omega arith }
 
 some-open : (s : Option (List Bool)) {n : ℕ} → n ≡ state-number s → 0 < n → (bs : List Bool) × (n ≡ marks-number bs)
 unfolding state-number

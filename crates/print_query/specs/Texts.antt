@@ -13,7 +13,7 @@ use Rattle.model.specs.Conditions.{map-cond}
 use Rattle.calls.specs.Names.{ref-of, test-of, form-of}
 use Rattle.nodes.specs.Profiles.{profile-in}
 use Rattle.grant.specs.Catalogues.{words-in}
-use Rattle.query.specs.Forms.{Words, coded-col, cols-in, rows-form, pick-form, keep-form, join-form, aggregate-form, numbered-fn, cond-at, query-in}
+use Rattle.query.specs.Forms.{Words, coded-col, cols-in, rows-form, pick-form, keep-form, form-order, join-form, aggregate-form, numbered-fn, cond-at, query-in}
 use Rattle.query.specs.declared.Form.{Form}
 use Rattle.print.specs.Writing.{furthest, Put}
 use Rattle.print.specs.declared.Bounds.{Bounds}
@@ -36,7 +36,7 @@ unfoldable pub pick-opening : Schema → Words → Form → Bytes → Bytes
 pick-opening d w f rest = put-open (bytes "pick") (32 ∷ put-cond (map-cond (test-of d) (cond-at (w .own) (f .first))) (32 ∷ rest))
 
 unfoldable pub keep-opening : Schema → Form → Bytes → Bytes
-keep-opening d f rest = put-open (bytes "keep") (put-items put-ref (map (ref-of d) (cols-in (f .columns))) (32 ∷ rest))
+keep-opening d f rest = put-open (bytes "keep") (put-items put-ref (map (ref-of d) (cols-in (form-order f))) (32 ∷ rest))
 
 unfoldable pub join-opening : Schema → Form → Bytes → Bytes
 join-opening d f rest = put-open (bytes "join") (32 ∷ put-equality (ref-of d (coded-col (f .first))) (ref-of d (coded-col (f .second))) (32 ∷ rest))

@@ -5,14 +5,13 @@ ghost use mathlib.Core.List.{[]};
 ghost use Prim.Native.Nat.{_<_};
 ghost use Rattle.text.specs.Words.{name-of};
 ghost use Rattle.schema.specs.Schemas.{schema-of};
-ghost use Rattle.query.specs.Tables.{rewritten-forms};
+ghost use Rattle.query.specs.Tables.{forms-in};
 ghost use Rattle.print.specs.Writing.{Put};
 ghost use Rattle.print_query.specs.Marks.{marks-end, Ended};
 ghost use Rattle.print_query.specs.Texts.{words-lent, table-text, pick-opening, keep-opening, join-opening, fn-opening, span-text, aggregate-opening, under-opening, opening-text, bracketed, Turned, Lined};
 use grant::Grant;
 use print::Bounds;
 use query::Form;
-use query::Rewritten;
 
 // Words with the brackets and spaces around them.
 const OPEN_PICK: u64 = 0x287069636b20;
@@ -78,7 +77,7 @@ fn put_keep(out: &mut [u8], p: u32, f: Form, names: &[u64]) -> u32
     ensures { λ r. ⌜ Put (keep-opening (schema-of (now (names .entry))) f) (now (out .entry)) p (now (out .exit)) r ⌝ }
 {
     let a = print::put_word(out, p, OPEN_KEEP);
-    let b = print::put_columns(out, a, f.columns, names);
+    let b = print::put_columns(out, a, f.order(), names);
     print::put(out, b, b' ')
 }
 
@@ -263,23 +262,24 @@ fn put_turn(out: &mut [u8], p: u32, f: Form, marks: u32) -> Turn
 pub fn put_table(
     out: &mut [u8],
     p: u32,
-    t: Rewritten,
+    table: &[u32],
+    n: u32,
     words: &[u32],
     granted: &[u32],
     names: &[u64],
     profile: &[u64],
 ) -> u32
-    ensures { λ r. ⌜ Put (table-text (schema-of (now (names .entry))) (words-lent (now (words .entry)) (now (granted .entry)) (now (profile .entry))) (rewritten-forms t)) (now (out .entry)) p (now (out .exit)) r ⌝ }
+    ensures { λ r. ⌜ Put (table-text (schema-of (now (names .entry))) (words-lent (now (words .entry)) (now (granted .entry)) (now (profile .entry))) (forms-in (now (table .entry)) n)) (now (out .entry)) p (now (out .exit)) r ⌝ }
 {
     let mut q = p;
     let mut marks = NONE_OPEN;
     let mut i: u32 = 0;
     while 0 < marks {
-        let f = t.form(i);
+        let f = query::form_in(table, n, i);
         let a = put_opening(out, q, f, words, granted, names, profile);
-        let n = put_turn(out, a, f, marks);
-        q = n.place;
-        marks = n.marks;
+        let t = put_turn(out, a, f, marks);
+        q = t.place;
+        marks = t.marks;
         i += 1;
     }
     q
@@ -289,28 +289,29 @@ pub fn put_table(
 // Leaves the text and after it the bytes that were there; all as it was where there was no room.
 pub fn line(
     out: &mut [u8],
-    t: Rewritten,
+    table: &[u32],
+    n: u32,
     words: &[u32],
     granted: &[u32],
     names: &[u64],
     profile: &[u64],
 ) -> Printed
-    ensures { λ r. ⌜ Lined (table-text (schema-of (now (names .entry))) (words-lent (now (words .entry)) (now (granted .entry)) (now (profile .entry))) (rewritten-forms t) []) (now (out .entry)) (now (out .exit)) r ⌝ }
+    ensures { λ r. ⌜ Lined (table-text (schema-of (now (names .entry))) (words-lent (now (words .entry)) (now (granted .entry)) (now (profile .entry))) (forms-in (now (table .entry)) n) []) (now (out .entry)) (now (out .exit)) r ⌝ }
 {
-    let n = put_table(&mut out[0..0], 0, t, words, granted, names, profile);
-    if FURTHEST <= n {
+    let k = put_table(&mut out[0..0], 0, table, n, words, granted, names, profile);
+    if FURTHEST <= k {
         return Printed {
             ok: false,
-            length: n,
+            length: k,
         };
     }
-    if out.len() < n as usize {
+    if out.len() < k as usize {
         return Printed {
             ok: false,
-            length: n,
+            length: k,
         };
     }
-    let m = put_table(out, 0, t, words, granted, names, profile);
+    let m = put_table(out, 0, table, n, words, granted, names, profile);
     Printed {
         ok: true,
         length: m,

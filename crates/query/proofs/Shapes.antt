@@ -10,7 +10,7 @@ use borrow.Author.Tests.{eq-eqb}
 use Rattle.lists.proofs.Laws.{and-l, and-r, and-both, true-T, append-nil}
 use Rattle.model.specs.Queries as M
 use Rattle.model.specs.Queries.{source, pick, keep, join, aggregate}
-use Rattle.query.specs.Forms.{Words, coded-col, cols-in, rows-form, pick-form, keep-form, join-form, aggregate-form, under-form, numbered-fn, cond-at, outer, inner, with-form, queries-in, query-in}
+use Rattle.query.specs.Forms.{Words, coded-col, cols-in, form-order, rows-form, pick-form, keep-form, join-form, aggregate-form, under-form, numbered-fn, cond-at, outer, inner, with-form, queries-in, query-in}
 use Rattle.query.specs.Shapes.{depth, taken, formed, one-query}
 use Rattle.query.specs.declared.Form.{Form}
 
@@ -19,7 +19,7 @@ use Rattle.query.specs.declared.Form.{Form}
 pub data Laid (w : Words) : M.Query ℕ → List Form → Type 0 where
   laid-rows : (f : Form) → f .kind ≡ rows-form → Laid w (source (f .first)) (f ∷ [])
   laid-pick : (f : Form) {q : M.Query ℕ} {fs : List Form} → f .kind ≡ pick-form → Laid w q fs → Laid w (pick (cond-at (w .own) (f .first)) q) (f ∷ fs)
-  laid-keep : (f : Form) {q : M.Query ℕ} {fs : List Form} → f .kind ≡ keep-form → Laid w q fs → Laid w (keep (cols-in (f .columns)) q) (f ∷ fs)
+  laid-keep : (f : Form) {q : M.Query ℕ} {fs : List Form} → f .kind ≡ keep-form → Laid w q fs → Laid w (keep (cols-in (form-order f)) q) (f ∷ fs)
   laid-join : (f : Form) {q r : M.Query ℕ} {fs gs : List Form} → f .kind ≡ join-form → Laid w q fs → Laid w r gs → Laid w (join (coded-col (f .first)) (coded-col (f .second)) q r) (f ∷ (fs ++ gs))
   laid-aggregate : (f : Form) {q : M.Query ℕ} {fs : List Form} → f .kind ≡ aggregate-form → Laid w q fs → Laid w (aggregate (numbered-fn (f .first)) (coded-col (f .second)) (f .third) (f .fourth) q) (f ∷ fs)
 
@@ -39,7 +39,7 @@ module _ (w : Words) (f : Form) (qs : List (M.Query ℕ)) where
   unfolding with-form
   form-pick e = rw e
 
-  pub form-keep : f .kind ≡ keep-form → with-form w f qs ≡ keep (cols-in (f .columns)) (outer qs) ∷ inner qs
+  pub form-keep : f .kind ≡ keep-form → with-form w f qs ≡ keep (cols-in (form-order f)) (outer qs) ∷ inner qs
   unfolding with-form
   form-keep e = rw e
 
@@ -104,7 +104,7 @@ module _ (w : Words) (f : Form) (fs : List Form) (r : Read w fs) (l : taken f �
   unfolding queries-in depth taken
   read-form zero e b = record { laid = rw (form-rows w f (queries-in w fs) e) (laids-more (laid-rows f e) (r .laid)); many = rw (form-rows w f (queries-in w fs) e, e) (ap suc (r .many)) }
   read-form (suc zero) e b = read-one (pick (cond-at (w .own) (f .first))) (λ q gs a. laid-pick f e a) (form-pick w f (queries-in w fs) e) (rw e at l) (rw e)
-  read-form (suc (suc zero)) e b = read-one (keep (cols-in (f .columns))) (λ q gs a. laid-keep f e a) (form-keep w f (queries-in w fs) e) (rw e at l) (rw e)
+  read-form (suc (suc zero)) e b = read-one (keep (cols-in (form-order f))) (λ q gs a. laid-keep f e a) (form-keep w f (queries-in w fs) e) (rw e at l) (rw e)
   read-form (suc (suc (suc zero))) e b =
       let a = r .many in
       let k : 2 ≤ depth fs = rw e at l in

@@ -1,7 +1,7 @@
 -- The query that a table of forms stands for. A form stands before the forms inside it, a join's left side before its right.
 use mathlib.Core.List.{List, [], _∷_, _++_, map}
 use mathlib.Core.Bool.{Bool, true, false, cond}
-use Prim.Native.Nat.{ℕ, _*_, _/_, _%_}
+use Prim.Native.Nat.{ℕ, _+_, _*_, _/_, _%_}
 use lib.Dec.{ltb, eqb}
 use Rattle.syntax.specs.Grammar as G
 use Rattle.syntax.specs.Grammar.{Fn, ge, le, Cond, Entry}
@@ -54,6 +54,16 @@ aggregate-form = 4
 abbrev pub under-form : ℕ
 under-form = 5
 
+-- a keep of the columns of an order, which stands in two halves
+abbrev pub half-end : ℕ
+half-end = 4294967296
+
+abbrev pub keep-of : ℕ → Form
+keep-of m = record { kind = keep-form; first = 0; second = 0; third = m % half-end; fourth = m / half-end }
+
+unfoldable pub form-order : Form → ℕ
+form-order f = f .third + f .fourth * half-end
+
 -- the aggregates by number, as rights have them: 1 to 5
 unfoldable pub numbered-fn : ℕ → Fn
 numbered-fn n = cond (eqb n 1) G.min (cond (eqb n 2) G.max (cond (eqb n 3) G.count (cond (eqb n 4) G.avg G.sum)))
@@ -85,7 +95,7 @@ unfoldable pub with-form : Words → Form → List (Query ℕ) → List (Query �
 with-form w f qs =
     cond (eqb (f .kind) rows-form) (source (f .first) ∷ qs)
     (cond (eqb (f .kind) pick-form) (pick (cond-at (w .own) (f .first)) (outer qs) ∷ inner qs)
-    (cond (eqb (f .kind) keep-form) (keep (cols-in (f .columns)) (outer qs) ∷ inner qs)
+    (cond (eqb (f .kind) keep-form) (keep (cols-in (form-order f)) (outer qs) ∷ inner qs)
     (cond (eqb (f .kind) join-form) (join (coded-col (f .first)) (coded-col (f .second)) (outer qs) (outer (inner qs)) ∷ inner (inner qs))
     (cond (eqb (f .kind) aggregate-form) (aggregate (numbered-fn (f .first)) (coded-col (f .second)) (f .third) (f .fourth) (outer qs) ∷ inner qs)
     (under (limits-at w f) (outer qs) ∷ inner qs)))))

@@ -44,6 +44,7 @@ use Rattle.query.specs.Forms.{Words, coded-col, cols-in, numbered-fn, cond-at, 
 use Rattle.query.specs.Tables.{query-forms, query-with}
 use Rattle.query.specs.declared.Form as Q
 use Rattle.query.specs.declared.Query.{Query}
+use Rattle.query.proofs.Rewritten.{keep-order}
 use Rattle.query.proofs.Shapes.{Laid, laid-rows, laid-pick, laid-keep, laid-join, laid-aggregate, laid-query}
 use Rattle.query.proofs.Tables.{query-added}
 use Rattle.query_read.specs.Parts as R
@@ -305,8 +306,8 @@ module _ (ns : List ℕ) (sound : T (schema-sound ns)) where
     unfolding Lays R.parts resolve forms-run every inner own-of rows-own
     row-laid n s r ws t e k o few room a =
         let h = known-rows ns sound n s (and-l (known ns sound (inner n (rows s))) true t) in
-        subst (λ m. Laid lent (M.source m) (record { kind = 0; first = stream-place ns s; second = 0; third = 0; fourth = 0; columns = 0 } ∷ [])) (h .0)
-        (laid-rows (record { kind = 0; first = stream-place ns s; second = 0; third = 0; fourth = 0; columns = 0 }) refl)
+        subst (λ m. Laid lent (M.source m) (record { kind = 0; first = stream-place ns s; second = 0; third = 0; fourth = 0 } ∷ [])) (h .0)
+        (laid-rows (record { kind = 0; first = stream-place ns s; second = 0; third = 0; fourth = 0 }) refl)
 
     pick-laid : (n : ℕ) (c : Cond Test) (q : Form) → Lays (suc n) q → Lays n (G.pick c q)
     unfolding Lays R.parts resolve forms-run every inner with-parts allowed keeps part-stored Agrees store-parts
@@ -341,7 +342,7 @@ module _ (ns : List ℕ) (sound : T (schema-sound ns)) where
         let wd = ft .width kr .0 in
         let on = once-few cs hd (and-l (distinct same-col cs) _ k) wi in
         subst (λ y. Laid lent (M.keep y (resolve d q)) (own-of ns (r .words) n (keep rs) 0 .form ∷ forms-run ns (with-part ns r i) (R.parts (suc n) q)))
-        (keep-back (run-parts ns (R.parts (suc n) q) begun .top .mask) hd (ft .shows) rs kn wi (omega arith))
+        (ap cols-in (keep-order (order-of (map (ref-code ns) rs))) ∙ keep-back (run-parts ns (R.parts (suc n) q) begun .top .mask) hd (ft .shows) rs kn wi (omega arith))
         (laid-keep (own-of ns (r .words) n (keep rs) 0 .form) refl (f (with-part ns r i) ws rest al kr o few room a))
 
     aggregate-laid : (n : ℕ) (h : Fn) (c : Ref) (z w : ℤ) (q : Form) → Lays (suc n) q → Lays n (G.aggregate h c z w q)

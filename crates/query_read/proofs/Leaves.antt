@@ -19,6 +19,7 @@ use Rattle.text.specs.declared.Time.{Time}
 use Rattle.text.proofs.Clamps.{clamp-above}
 use Rattle.conditions.specs.declared.Seen.{Seen}
 use Rattle.columns.specs.declared.Columns.{Columns}
+use Rattle.query.specs.Forms.{keep-of}
 use Rattle.query.specs.declared.Form.{Form}
 use Rattle.query_read.specs.declared.Own.{Own}
 use Rattle.query_read.specs.declared.Reading.{Reading}
@@ -105,31 +106,31 @@ pub ruleset undeclared-ends = (undeclared-left, undeclared-right)
 -- ---- one form
 
 pub rows-made : (b n place next : ℕ) (long : Bool) {d o : Bool} → d ≡ deep n → o ≡ (d || long)
-    → _≡_ {A = Own} (record { ok = true; next = next; over = o; unknown = eqb place 4; repeated = false; words = b; lefts = 0; rights = 0; form = record { kind = 0; first = place; second = 0; third = 0; fourth = 0; columns = 0 } })
+    → _≡_ {A = Own} (record { ok = true; next = next; over = o; unknown = eqb place 4; repeated = false; words = b; lefts = 0; rights = 0; form = record { kind = 0; first = place; second = 0; third = 0; fourth = 0 } })
     (rows-own b n long place next)
 unfolding rows-own
 rows-made b n place next long e f = rw (f, e)
 
 pub pick-made : (i : Seen) (next : ℕ) {o : Bool} → o ≡ (i .deep || i .over)
-    → _≡_ {A = Own} (record { ok = true; next = next; over = o; unknown = i .unknown; repeated = false; words = i .count; lefts = i .lefts; rights = i .rights; form = record { kind = 1; first = i .count; second = 0; third = 0; fourth = 0; columns = 0 } })
+    → _≡_ {A = Own} (record { ok = true; next = next; over = o; unknown = i .unknown; repeated = false; words = i .count; lefts = i .lefts; rights = i .rights; form = record { kind = 1; first = i .count; second = 0; third = 0; fourth = 0 } })
     (pick-own i next)
 unfolding pick-own
 pick-made i next f = rw f
 
-pub keep-made : (b n next : ℕ) (c : Columns) {d o : Bool} → d ≡ deep n → o ≡ (d || c .over)
-    → _≡_ {A = Own} (record { ok = true; next = next; over = o; unknown = c .unknown; repeated = c .repeated; words = b; lefts = c .mask; rights = 0; form = record { kind = 2; first = 0; second = 0; third = 0; fourth = 0; columns = c .order } })
+pub keep-made : (b n next : ℕ) (c : Columns) {d o : Bool} {f : Form} → d ≡ deep n → o ≡ (d || c .over) → f ≡ keep-of (c .order)
+    → _≡_ {A = Own} (record { ok = true; next = next; over = o; unknown = c .unknown; repeated = c .repeated; words = b; lefts = c .mask; rights = 0; form = f })
     (keep-own b n (c .over) (c .unknown) (c .repeated) (c .mask) (c .order) next)
 unfolding keep-own
-keep-made b n next c e f = rw (f, e)
+keep-made b n next c e f g = rw (f, e, g)
 
 pub join-made : (b n left right next : ℕ) (over : Bool) {d o u : Bool} → d ≡ deep n → o ≡ (d || over) → u ≡ (eqb left 28 || eqb right 28)
-    → _≡_ {A = Own} (record { ok = true; next = next; over = o; unknown = u; repeated = false; words = b; lefts = 0; rights = 0; form = record { kind = 3; first = left; second = right; third = 0; fourth = 0; columns = 0 } })
+    → _≡_ {A = Own} (record { ok = true; next = next; over = o; unknown = u; repeated = false; words = b; lefts = 0; rights = 0; form = record { kind = 3; first = left; second = right; third = 0; fourth = 0 } })
     (join-own b n over left right next)
 unfolding join-own
 join-made b n left right next over e f g = rw (f, e, g)
 
 pub aggregate-made : (b n fn code next : ℕ) (size offset : Time) (over : Bool) {d o v w : Bool} → v ≡ (size .beyond || offset .beyond) → d ≡ deep n → w ≡ (over || v) → o ≡ (d || w)
-    → _≡_ {A = Own} (record { ok = true; next = next; over = o; unknown = eqb code 28; repeated = false; words = b; lefts = 0; rights = 0; form = record { kind = 4; first = fn; second = code; third = size .value; fourth = offset .value; columns = 0 } })
+    → _≡_ {A = Own} (record { ok = true; next = next; over = o; unknown = eqb code 28; repeated = false; words = b; lefts = 0; rights = 0; form = record { kind = 4; first = fn; second = code; third = size .value; fourth = offset .value } })
     (aggregate-own b n over fn code size offset next)
 unfolding aggregate-own
 aggregate-made b n fn code next size offset over e f g h = rw (h, f, g, e)

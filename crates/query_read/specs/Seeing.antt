@@ -23,7 +23,7 @@ use Rattle.columns.specs.Columns.{stream-place, repeats}
 use Rattle.nodes.specs.Storing.{size, store, store-list}
 use Rattle.conditions.specs.Seeing.{nodes-of, seen-of, deep-seen}
 use Rattle.conditions.specs.declared.Seen.{Seen}
-use Rattle.query.specs.Forms.{rows-form, pick-form, keep-form, join-form, aggregate-form}
+use Rattle.query.specs.Forms.{rows-form, pick-form, keep-of, join-form, aggregate-form}
 use Rattle.query.specs.declared.Form as Q
 use Rattle.query_read.specs.Parts.{Part, rows, pick, keep, join, aggregate, Inner, parts, read-own}
 use Rattle.query_read.specs.declared.Own.{Own}
@@ -47,7 +47,7 @@ unfoldable pub span-of : ℤ → Time
 span-of z = record { beyond = not (not-above z); value = span-kept z }
 
 unfoldable pub no-form : Q.Form
-no-form = record { kind = 0; first = 0; second = 0; third = 0; fourth = 0; columns = 0 }
+no-form = record { kind = 0; first = 0; second = 0; third = 0; fourth = 0 }
 
 unfoldable pub no-own : Own
 no-own = record { ok = false; next = 0; over = false; unknown = false; repeated = false; words = 0; lefts = 0; rights = 0; form = no-form }
@@ -64,7 +64,7 @@ rows-own b n long place next =
       words = b;
       lefts = 0;
       rights = 0;
-      form = record { kind = rows-form; first = place; second = 0; third = 0; fourth = 0; columns = 0 };
+      form = record { kind = rows-form; first = place; second = 0; third = 0; fourth = 0 };
     }
 
 -- a pick by what is seen of its condition
@@ -79,7 +79,7 @@ pick-own i next =
       words = i .count;
       lefts = i .lefts;
       rights = i .rights;
-      form = record { kind = pick-form; first = i .count; second = 0; third = 0; fourth = 0; columns = 0 };
+      form = record { kind = pick-form; first = i .count; second = 0; third = 0; fourth = 0 };
     }
 
 unfoldable pub keep-own : ℕ → ℕ → Bool → Bool → Bool → ℕ → ℕ → ℕ → Own
@@ -93,7 +93,7 @@ keep-own b n over unknown repeated mask order next =
       words = b;
       lefts = mask;
       rights = 0;
-      form = record { kind = keep-form; first = 0; second = 0; third = 0; fourth = 0; columns = order };
+      form = keep-of order;
     }
 
 unfoldable pub join-own : ℕ → ℕ → Bool → ℕ → ℕ → ℕ → Own
@@ -107,7 +107,7 @@ join-own b n over left right next =
       words = b;
       lefts = 0;
       rights = 0;
-      form = record { kind = join-form; first = left; second = right; third = 0; fourth = 0; columns = 0 };
+      form = record { kind = join-form; first = left; second = right; third = 0; fourth = 0 };
     }
 
 unfoldable pub aggregate-own : ℕ → ℕ → Bool → ℕ → ℕ → Time → Time → ℕ → Own
@@ -121,7 +121,7 @@ aggregate-own b n over fn code size offset next =
       words = b;
       lefts = 0;
       rights = 0;
-      form = record { kind = aggregate-form; first = fn; second = code; third = size .value; fourth = offset .value; columns = 0 };
+      form = record { kind = aggregate-form; first = fn; second = code; third = size .value; fourth = offset .value };
     }
 
 -- what is seen of the condition of a form inside n others

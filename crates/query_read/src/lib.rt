@@ -92,7 +92,6 @@ fn no_form() -> Form
         second: 0,
         third: 0,
         fourth: 0,
-        columns: 0,
     }
 }
 
@@ -175,7 +174,6 @@ fn rows_own(b: u32, n: usize, long: bool, place: u32, next: usize) -> Own
         second: 0,
         third: 0,
         fourth: 0,
-        columns: 0,
     };
     Own {
         ok: true,
@@ -201,7 +199,6 @@ fn pick_own(i: Seen, next: usize) -> Own
         second: 0,
         third: 0,
         fourth: 0,
-        columns: 0,
     };
     Own {
         ok: true,
@@ -221,14 +218,7 @@ fn keep_own(b: u32, n: usize, c: Columns, next: usize) -> Own
     ensures { λ r. ⌜ r ≡ keep-own b n (c .over) (c .unknown) (c .repeated) (c .mask) (c .order) next ⌝ }
 {
     let over = text::either(is_deep(n), c.over);
-    let form = Form {
-        kind: Form::KEEP,
-        first: 0,
-        second: 0,
-        third: 0,
-        fourth: 0,
-        columns: c.order,
-    };
+    let form = Form::keep(c.order);
     Own {
         ok: true,
         next: next,
@@ -254,7 +244,6 @@ fn join_own(b: u32, n: usize, over: bool, left: u32, right: u32, next: usize) ->
         second: right,
         third: 0,
         fourth: 0,
-        columns: 0,
     };
     Own {
         ok: true,
@@ -290,7 +279,6 @@ fn aggregate_own(
         second: code,
         third: size.value,
         fourth: offset.value,
-        columns: 0,
     };
     Own {
         ok: true,

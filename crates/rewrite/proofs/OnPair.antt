@@ -27,14 +27,14 @@ use Rattle.schema.proofs.Soundness.{width-most}
 use Rattle.orders.specs.Orders.{codes-in, order-from, order-within}
 use Rattle.orders.proofs.Codes.{codes-from, within-below, small-codes}
 use Rattle.nodes.specs.Nodes.{column-in}
-use Rattle.query.specs.Forms.{Words, coded-col, cols-in, rows-form, keep-form, join-form, limits-at, outer, inner, with-form, queries-in, query-in}
-use Rattle.query.specs.Tables.{rewritten-forms, rewritten-table}
+use Rattle.query.specs.Forms.{Words, coded-col, cols-in, rows-form, keep-form, keep-of, form-order, join-form, limits-at, outer, inner, with-form, queries-in, query-in}
+use Rattle.query.specs.Tables.{table-words, rewritten-forms, rewritten-table}
 use Rattle.query.specs.Shapes.{one-query}
 use Rattle.query.specs.declared.Form.{Form}
 use Rattle.query.proofs.Shapes.{Laid, laid-rows, laid-pick, laid-keep, laid-join, laid-aggregate, form-rows, form-pick, form-join, form-aggregate, one-laid}
-use Rattle.query.proofs.Tables.{table-forms}
+use Rattle.query.proofs.Rewritten.{table-forms}
 use Rattle.rewrite.specs.declared.Granted.{Granted}
-use Rattle.rewrite.specs.Rewrites.{keep-of, under-of, cut-form, shown-order, side-picks, side-stream, side-rest, side-order, pair-order, view-forms, joined-forms, pair-forms}
+use Rattle.rewrite.specs.Rewrites.{under-of, cut-form, shown-order, side-picks, side-stream, side-rest, side-order, pair-order, view-forms, joined-forms, pair-forms}
 use Rattle.rewrite.specs.Routed.{over-sum, Stands}
 use Rattle.rewrite.proofs.Shown.{present-select, select-append, cols-within, declared-all, map-append, order-columns, once-fewer, select-fewer}
 use Rattle.rewrite.proofs.SideBySide.{shown-is, grant-low, order-shown, limits-shown, kept, limited}
@@ -125,7 +125,7 @@ module _ (ns : List ℕ) (g : Granted) (f : Form) (fs : List Form) where
   unfolding pair-forms cut-form
   pair-same e i j = rw (ap (λ (k : ℕ). eqb k 3) e ∙ i, ap (λ (k : ℕ). eqb k 2) e ∙ j)
 
-  pub pair-kept : f .kind ≡ keep-form → pair-forms ns g (f ∷ fs) ≡ keep-of (order-within (g .shown) (f .columns)) ∷ pair-forms ns g fs
+  pub pair-kept : f .kind ≡ keep-form → pair-forms ns g (f ∷ fs) ≡ keep-of (order-within (g .shown) (form-order f)) ∷ pair-forms ns g fs
   unfolding pair-forms cut-form
   pair-kept e = rw (ap (λ (k : ℕ). eqb k 3) e, ap (λ (k : ℕ). eqb k 2) e)
 
@@ -263,8 +263,8 @@ module _ (ns : List ℕ) (w : Words) (who : Caller) (same : who .profile ≡ w .
   pair-queries (laid-rows f e) t k o z = absurd (omega arith)
   pair-queries (laid-pick f {fs} e l) t k o z = ap (queries-in w) (pair-same ns g f fs e refl refl) ∙ form-pick w f (queries-in w (pair-forms ns g fs)) e ∙ rw (pair-queries l (search parts) k o z)
   pair-queries (laid-keep f {q} {fs} e l) t k o z =
-      ap (queries-in w) (pair-kept ns g f fs e) ∙ kept w (queries-in w (pair-forms ns g fs)) (order-within (g .shown) (f .columns))
-      ∙ rw (pair-queries l (search parts) (and-r (distinct same-col (cols-in (f .columns))) (keeps (distinct same-col) q) k) o z, cut-shown q (f .columns) (search parts) (search parts) (search parts) o z)
+      ap (queries-in w) (pair-kept ns g f fs e) ∙ kept w (queries-in w (pair-forms ns g fs)) (order-within (g .shown) (form-order f))
+      ∙ rw (pair-queries l (search parts) (and-r (distinct same-col (cols-in (form-order f))) (keeps (distinct same-col) q) k) o z, cut-shown q (form-order f) (search parts) (search parts) (search parts) o z)
   pair-queries (laid-join f {q} {r} {fs} {gs = hs} e l m) t k o z =
       ap (queries-in w) (pair-joined ns g f (fs ++ hs) e)
       ∙ joined-stands f e l m (search parts) (search parts) (search parts) (search parts) (and-l (keeps (distinct same-col) q) (keeps (distinct same-col) r) k) (and-r (keeps (distinct same-col) q) (keeps (distinct same-col) r) k)
@@ -315,14 +315,15 @@ sum-view d n (aggregate f c size offset q) e = ap (aggregate f c size offset) (s
 -- ---- the rewritten query
 
 module _ (ns : List ℕ) (w : Words) (who : Caller) (same : who .profile ≡ w .profile) (fs : List Form) (one : T (one-query fs)) (few : length fs ≤ max-forms) (placing : T (placed (schema-of ns) (query-in w fs)))
-    (once : T (keeps (distinct same-col) (query-in w fs))) (g : Granted) (n : Numbered) (a : Stands ns w g (n .grant)) (of : n .grant .of ≡ sources (query-in w fs)) (two : length (sources (query-in w fs)) ≡ 2) where
-  pub on-pair : query-in w (rewritten-forms (rewritten-table (pair-forms ns g fs))) ≡ expand (defined (schema-of ns) who) (over-view (schema-of ns) (query-in w fs) n)
+    (once : T (keeps (distinct same-col) (query-in w fs))) (g : Granted) (n : Numbered) (a : Stands ns w g (n .grant)) (of : n .grant .of ≡ sources (query-in w fs)) (two : length (sources (query-in w fs)) ≡ 2)
+    (lent : List ℕ) (room : table-words ≤ length lent) where
+  pub on-pair : query-in w (rewritten-forms (rewritten-table lent (pair-forms ns g fs))) ≡ expand (defined (schema-of ns) who) (over-view (schema-of ns) (query-in w fs) n)
   unfolding placed query-in outer
   on-pair =
       let l = one-laid w fs one in
       let long = pair-long ns g l (columns-of (schema-of ns)) (search parts) in
-      ap (query-in w) (table-forms (pair-forms ns g fs) (omega arith)) ∙ ap outer (pair-queries ns w who same g n a l (search parts) once of two)
+      ap (query-in w) (table-forms lent (pair-forms ns g fs) room (omega arith)) ∙ ap outer (pair-queries ns w who same g n a l (search parts) once of two)
 
   -- an aggregate grant's too
-  pub sum-on-pair : query-in w (rewritten-forms (rewritten-table (pair-forms ns g fs))) ≡ expand (defined (schema-of ns) who) (over-sum (schema-of ns) (query-in w fs) n)
+  pub sum-on-pair : query-in w (rewritten-forms (rewritten-table lent (pair-forms ns g fs))) ≡ expand (defined (schema-of ns) who) (over-sum (schema-of ns) (query-in w fs) n)
   sum-on-pair = on-pair ∙ ap (expand (defined (schema-of ns) who)) (sym (sum-view (schema-of ns) n (query-in w fs) two))

@@ -16,11 +16,11 @@ use Rattle.model.specs.Rewriting.{defined, expand}
 use Rattle.model.proofs.Rewriting.{stream, side-sources}
 use Rattle.schema.specs.Schemas.{schema-of}
 use Rattle.query.specs.Forms.{Words, aggregate-form, outer, inner, queries-in, query-in}
-use Rattle.query.specs.Tables.{rewritten-forms, rewritten-table}
+use Rattle.query.specs.Tables.{table-words, rewritten-forms, rewritten-table}
 use Rattle.query.specs.Shapes.{one-query}
 use Rattle.query.specs.declared.Form.{Form}
 use Rattle.query.proofs.Shapes.{Laid, laid-rows, laid-pick, laid-keep, laid-join, laid-aggregate, form-pick, form-aggregate, one-laid}
-use Rattle.query.proofs.Tables.{table-forms}
+use Rattle.query.proofs.Rewritten.{table-forms}
 use Rattle.rewrite.specs.declared.Granted.{Granted}
 use Rattle.rewrite.specs.Rewrites.{seen-forms, side-stream, sum-forms}
 use Rattle.rewrite.specs.Routed.{over-sum, Stands}
@@ -105,10 +105,11 @@ sum-long ns g (laid-aggregate f {fs} e l) hs t u = let i = some-forms l in rw (s
 -- ---- the rewritten query
 
 module _ (ns : List ℕ) (w : Words) (who : Caller) (same : who .profile ≡ w .profile) (fs : List Form) (one : T (one-query fs)) (few : length fs ≤ max-forms) (placing : T (placed (schema-of ns) (query-in w fs)))
-    (summing : T (not (no-aggregate (query-in w fs)))) (g : Granted) (n : Numbered) (a : Stands ns w g (n .grant)) (of : n .grant .of ≡ sources (query-in w fs)) (single-stream : length (sources (query-in w fs)) ≡ 1) where
-  pub on-stream : query-in w (rewritten-forms (rewritten-table (sum-forms ns g fs))) ≡ expand (defined (schema-of ns) who) (over-sum (schema-of ns) (query-in w fs) n)
+    (summing : T (not (no-aggregate (query-in w fs)))) (g : Granted) (n : Numbered) (a : Stands ns w g (n .grant)) (of : n .grant .of ≡ sources (query-in w fs)) (single-stream : length (sources (query-in w fs)) ≡ 1)
+    (lent : List ℕ) (room : table-words ≤ length lent) where
+  pub on-stream : query-in w (rewritten-forms (rewritten-table lent (sum-forms ns g fs))) ≡ expand (defined (schema-of ns) who) (over-sum (schema-of ns) (query-in w fs) n)
   unfolding placed query-in outer
   on-stream =
       let l = one-laid w fs one in
       let long = sum-long ns g l (columns-of (schema-of ns)) (search parts) summing in
-      ap (query-in w) (table-forms (sum-forms ns g fs) (omega arith)) ∙ ap outer (sum-queries ns w who same g n a l (search parts) summing of single-stream)
+      ap (query-in w) (table-forms lent (sum-forms ns g fs) room (omega arith)) ∙ ap outer (sum-queries ns w who same g n a l (search parts) summing of single-stream)

@@ -20,7 +20,7 @@ use Rattle.schema.specs.Schemas.{streams-in, width-in, schema-of}
 use Rattle.schema.proofs.Counted.{same-truth}
 use Rattle.schema.proofs.Lookups.{stream-columns}
 use Rattle.schema.proofs.Soundness.{width-most}
-use Rattle.schema.proofs.Tests.{streams-most}
+use Rattle.schema.proofs.Tests.{streams-most, width-none}
 use Rattle.masks.specs.Masks.{bit?, inside}
 use Rattle.masks.proofs.Bits.{bit-or}
 use Rattle.masks.proofs.Lists.{inside-bits}
@@ -149,16 +149,19 @@ module _ (ns : List ℕ) where
       map-append (map (λ c. s * 6 + c) (count-from 0 (width-in ns s))) (column-codes ns ss)
       ∙ ap₂ _++_ (counted s 0 (width-in ns s) (omega arith) (omega arith) ∙ sym (stream-columns ns s l)) (columns-coded ss (and-r (ltb s (streams-in ns)) (declared-all ss) t))
 
-  codes-small : (ss : List ℕ) → T (declared-all ss) → T (codes-fit (column-codes ns ss))
-  unfolding column-codes gather every
-  codes-small [] t = tt
-  codes-small (s ∷ ss) t =
-      let l = ltb→lt s (streams-in ns) (and-l (ltb s (streams-in ns)) (declared-all ss) t) in
-      let m = streams-most ns in
-      let k = width-most ns s in
-      every-append (λ c. ltb c 31) (map (λ c. s * 6 + c) (count-from 0 (width-in ns s))) (column-codes ns ss) (fits s 0 (width-in ns s) (omega arith) (omega arith)) (codes-small ss (and-r (ltb s (streams-in ns)) (declared-all ss) t))
+  stream-fits : (s : ℕ) → T (codes-fit (map (λ c. s * 6 + c) (count-from 0 (width-in ns s))))
+  stream-fits s = let k = width-most ns s in go (decLt s 4)
+    where
+      go : Dec (s < 4) → T (codes-fit (map (λ c. s * 6 + c) (count-from 0 (width-in ns s))))
+      go (yes l) = fits s 0 (width-in ns s) l (let k = width-most ns s in omega arith)
+      go (no l) = rw (sym (width-none ns s (omega arith))) (unfold count-from every in tt)
 
-  codes-few : (ss : List ℕ) → length (column-codes ns ss) ≤ length ss * 6
+  pub codes-small : (ss : List ℕ) → T (codes-fit (column-codes ns ss))
+  unfolding column-codes gather every
+  codes-small [] = tt
+  codes-small (s ∷ ss) = every-append (λ c. ltb c 31) (map (λ c. s * 6 + c) (count-from 0 (width-in ns s))) (column-codes ns ss) (stream-fits s) (codes-small ss)
+
+  pub codes-few : (ss : List ℕ) → length (column-codes ns ss) ≤ length ss * 6
   unfolding column-codes gather
   codes-few [] = omega arith
   codes-few (s ∷ ss) =
@@ -171,7 +174,7 @@ module _ (ns : List ℕ) where
   -- the columns of one or two streams as an order
   pub order-columns : (ss : List ℕ) → T (declared-all ss) → length ss ≤ 2 → cols-in (order-of (column-codes ns ss)) ≡ gather (columns-of (schema-of ns)) ss
   unfolding cols-in
-  order-columns ss t h = let l = codes-few ss in ap (map coded-col) (codes-of (column-codes ns ss) (omega arith) (codes-small ss t)) ∙ columns-coded ss t
+  order-columns ss t h = let l = codes-few ss in ap (map coded-col) (codes-of (column-codes ns ss) (omega arith) (codes-small ss)) ∙ columns-coded ss t
 
   -- ---- masks of their columns
 

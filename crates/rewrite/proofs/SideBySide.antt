@@ -22,14 +22,14 @@ use Rattle.schema.specs.Schemas.{schema-of}
 use Rattle.orders.specs.Orders.{order-of, order-within}
 use Rattle.nodes.specs.Nodes.{column-in}
 use Rattle.grant.specs.Grants.{column-codes}
-use Rattle.query.specs.Forms.{Words, cols-in, rows-form, keep-form, limits-at, outer, inner, with-form, queries-in, query-in}
-use Rattle.query.specs.Tables.{rewritten-forms, rewritten-table}
+use Rattle.query.specs.Forms.{Words, cols-in, rows-form, keep-form, keep-of, form-order, limits-at, outer, inner, with-form, queries-in, query-in}
+use Rattle.query.specs.Tables.{table-words, rewritten-forms, rewritten-table}
 use Rattle.query.specs.Shapes.{one-query}
 use Rattle.query.specs.declared.Form.{Form}
 use Rattle.query.proofs.Shapes.{Laid, laid-rows, laid-pick, laid-keep, laid-join, laid-aggregate, form-pick, form-join, form-aggregate, one-laid}
-use Rattle.query.proofs.Tables.{table-forms}
+use Rattle.query.proofs.Rewritten.{keep-order, table-forms}
 use Rattle.rewrite.specs.declared.Granted.{Granted}
-use Rattle.rewrite.specs.Rewrites.{keep-of, under-of, cut-form, shown-order, seen-forms, cut-forms, side-forms}
+use Rattle.rewrite.specs.Rewrites.{under-of, cut-form, shown-order, seen-forms, cut-forms, side-forms}
 use Rattle.rewrite.specs.Routed.{over-sides, Stands}
 use Rattle.rewrite.proofs.Shown.{Low, present-select, select-append, cols-within, mask-low, order-columns, or-low, shown-first, shown-second}
 
@@ -62,13 +62,13 @@ module _ (ns : List ℕ) (w : Words) (who : Caller) (same : who .profile ≡ w .
   pub seen-stands : (f : Form) → f .kind ≡ rows-form → (g : Granted) (n : Numbered) → Stands ns w g (n .grant) → n .grant .of ≡ f .first ∷ [] → (gs : List Form)
       → queries-in w (seen-forms ns g f ++ gs) ≡ expand (defined (schema-of ns) who) (seen (source (f .first)) n) ∷ queries-in w gs
   unfolding seen-forms queries-in with-form outer inner expand seen defined bare
-  seen-stands f e g n a o gs = rw e (rw (order-shown ns w a (f .first ∷ []) o (omega arith), limits-shown ns w a who same))
+  seen-stands f e g n a o gs = rw e (rw (keep-order (shown-order ns (f .first ∷ []) g), order-shown ns w a (f .first ∷ []) o (omega arith), limits-shown ns w a who same))
 
 -- forms of a keep and of a grant, in front of queries
 module _ (w : Words) (qs : List (M.Query ℕ)) where
   pub kept : (o : ℕ) → with-form w (keep-of o) qs ≡ keep (cols-in o) (outer qs) ∷ inner qs
   unfolding with-form
-  kept o = refl
+  kept o = rw (keep-order o)
 
   pub limited : (g : Granted) → with-form w (under-of g) qs ≡ under (limits-at w (under-of g)) (outer qs) ∷ inner qs
   unfolding with-form
@@ -85,7 +85,7 @@ module _ (ns : List ℕ) (mask : ℕ) (g h : Granted) (f : Form) (fs : List Form
   unfolding cut-forms cut-form
   cut-same e i j = rw (ap (λ (k : ℕ). eqb k 0) e ∙ i, ap (λ (k : ℕ). eqb k 2) e ∙ j)
 
-  pub cut-kept : f .kind ≡ keep-form → cut-forms ns mask g h (f ∷ fs) ≡ keep-of (order-within mask (f .columns)) ∷ cut-forms ns mask g h fs
+  pub cut-kept : f .kind ≡ keep-form → cut-forms ns mask g h (f ∷ fs) ≡ keep-of (order-within mask (form-order f)) ∷ cut-forms ns mask g h fs
   unfolding cut-forms cut-form
   cut-kept e = rw (ap (λ (k : ℕ). eqb k 0) e, ap (λ (k : ℕ). eqb k 2) e)
 
@@ -136,8 +136,8 @@ module _ (ns : List ℕ) (w : Words) (who : Caller) (same : who .profile ≡ w .
   sides-queries (laid-pick f {q} {fs} e l) g n h m a t gs =
       ap (queries-in w) (cut-same ns mask g h f (fs ++ gs) e refl refl) ∙ form-pick w f (queries-in w (cut-forms ns mask g h (fs ++ gs))) e ∙ rw (sides-queries l g n h m a (search parts) gs)
   sides-queries (laid-keep f {q} {fs} e l) g n h m a t gs =
-      ap (queries-in w) (cut-kept ns mask g h f (fs ++ gs) e) ∙ kept w (queries-in w (cut-forms ns mask g h (fs ++ gs))) (order-within mask (f .columns))
-      ∙ rw (sides-queries l g n h m a (search parts) gs, cut-present g n h m q (f .columns) a (search parts) (search parts) (search parts))
+      ap (queries-in w) (cut-kept ns mask g h f (fs ++ gs) e) ∙ kept w (queries-in w (cut-forms ns mask g h (fs ++ gs))) (order-within mask (form-order f))
+      ∙ rw (sides-queries l g n h m a (search parts) gs, cut-present g n h m q (form-order f) a (search parts) (search parts) (search parts))
   sides-queries (laid-join f {q} {r} {fs} {gs = hs} e l k) g n h m a t gs =
       ap (queries-in w) (cut-same ns mask g h f ((fs ++ hs) ++ gs) e refl refl) ∙ form-join w f (queries-in w (cut-forms ns mask g h ((fs ++ hs) ++ gs))) e
       ∙ rw (append-assoc fs hs gs, sides-queries l g n h m (a .0) (search parts) (hs ++ gs), sides-queries k h m h m (a .1) (search parts) gs)
@@ -198,9 +198,10 @@ cut-long (laid-aggregate f {fs} e l) ns mask g h gs = let i = cut-long l ns mask
 
 -- ---- the rewritten query
 
-module _ (ns : List ℕ) (w : Words) (who : Caller) (same : who .profile ≡ w .profile) (fs : List Form) (one : T (one-query fs)) (few : length fs ≤ max-forms) (placing : T (placed (schema-of ns) (query-in w fs))) where
+module _ (ns : List ℕ) (w : Words) (who : Caller) (same : who .profile ≡ w .profile) (fs : List Form) (one : T (one-query fs)) (few : length fs ≤ max-forms) (placing : T (placed (schema-of ns) (query-in w fs)))
+    (lent : List ℕ) (room : table-words ≤ length lent) where
   sides-stand : (g : Granted) (n : Numbered) (h : Granted) (m : Numbered) → Low (bitOr (g .shown) (h .shown)) → SeesAll ns w (bitOr (g .shown) (h .shown)) g n h m (query-in w fs) → length (sources (query-in w fs)) ≤ 2
-      → query-in w (rewritten-forms (rewritten-table (side-forms ns g h fs))) ≡ expand (defined (schema-of ns) who) (over-sides (schema-of ns) n m (query-in w fs))
+      → query-in w (rewritten-forms (rewritten-table lent (side-forms ns g h fs))) ≡ expand (defined (schema-of ns) who) (over-sides (schema-of ns) n m (query-in w fs))
   unfolding side-forms cut-forms placed query-in outer
   sides-stand g n h m low a k =
       let mask = bitOr (g .shown) (h .shown) in
@@ -208,11 +209,11 @@ module _ (ns : List ℕ) (w : Words) (who : Caller) (same : who .profile ≡ w .
       let e = append-nil fs in
       let long = rw e at (cut-long l ns mask g h []) in
       let q = rw e at (sides-queries ns w who same mask low l g n h m a (search parts) []) in
-      ap (query-in w) (table-forms (cut-forms ns mask g h fs) (omega arith)) ∙ ap outer q
+      ap (query-in w) (table-forms lent (cut-forms ns mask g h fs) room (omega arith)) ∙ ap outer q
 
   -- of one stream
   pub one-side : (g : Granted) (n : Numbered) (s : ℕ) → Stands ns w g (n .grant) → n .grant .of ≡ s ∷ [] → sources (query-in w fs) ≡ s ∷ []
-      → query-in w (rewritten-forms (rewritten-table (side-forms ns g g fs))) ≡ expand (defined (schema-of ns) who) (over-sides (schema-of ns) n n (query-in w fs))
+      → query-in w (rewritten-forms (rewritten-table lent (side-forms ns g g fs))) ≡ expand (defined (schema-of ns) who) (over-sides (schema-of ns) n n (query-in w fs))
   unfolding gather
   one-side g n s a o e =
       let z = or-self (g .shown) in
@@ -222,7 +223,7 @@ module _ (ns : List ℕ) (w : Words) (who : Caller) (same : who .profile ≡ w .
 
   -- of two
   pub two-sides : (g : Granted) (n : Numbered) (h : Granted) (m : Numbered) (s t : ℕ) → Stands ns w g (n .grant) → n .grant .of ≡ s ∷ [] → Stands ns w h (m .grant) → m .grant .of ≡ t ∷ [] → sources (query-in w fs) ≡ s ∷ (t ∷ [])
-      → query-in w (rewritten-forms (rewritten-table (side-forms ns g h fs))) ≡ expand (defined (schema-of ns) who) (over-sides (schema-of ns) n m (query-in w fs))
+      → query-in w (rewritten-forms (rewritten-table lent (side-forms ns g h fs))) ≡ expand (defined (schema-of ns) who) (over-sides (schema-of ns) n m (query-in w fs))
   unfolding gather placed
   two-sides g n h m s t a o b p e =
       let mask = bitOr (g .shown) (h .shown) in

@@ -10,30 +10,34 @@ use lib.Dec.{eqb}
 use lib.ListN.{length, getD, drop, drop-of-length-le, List·getD-eq-default}
 use lib.Seq.{drop-cons}
 use borrow.Author.Tests.{eq-eqb, ne-eqb}
-use Rattle.lists.specs.Lists.{gather, count-from}
+use Rattle.lists.specs.Lists.{select, gather, count-from}
 use Rattle.lists.proofs.Laws.{append-nil}
 use Rattle.lists.proofs.Counting.{count-left, count-done}
 use Rattle.schema.specs.Schemas.{width-in}
 use Rattle.schema.proofs.Soundness.{width-most}
 use Rattle.schema.proofs.Tests.{width-none}
+use Rattle.masks.specs.Masks.{bit?}
 use Rattle.orders.specs.Orders.{codes-in, with-code, order-from, order-of, order-within}
+use Rattle.orders.proofs.Codes.{codes-empty, within-of}
+use Rattle.orders.proofs.Turns.{passed}
 use Rattle.grant.specs.Grants.{column-codes}
-use Rattle.query.specs.Forms.{rows-form, pick-form}
-use Rattle.query.specs.Tables.{blank, query-forms, new-rewritten, RewrittenWith, rewritten-with, rewritten-from, rewritten-table}
-use Rattle.query.proofs.Tables.{from-append, query-most, length-told}
+use Rattle.query.specs.Forms.{rows-form, pick-form, keep-of, form-order}
+use Rattle.query.specs.Tables.{blank, query-forms, Rewritten, held, rewritten-with, rewritten-from, rewritten-table}
+use Rattle.query.proofs.Tables.{query-most, length-told}
+use Rattle.query.proofs.Rewritten.{from-append}
 use Rattle.query.specs.declared.Form.{Form}
 use Rattle.query.specs.declared.Query.{Query}
-use Rattle.query.specs.declared.Rewritten.{Rewritten}
 use Rattle.rewrite.specs.declared.Granted.{Granted}
-use Rattle.rewrite.specs.Rewrites.{keep-of, under-of, cut-form, shown-order, seen-forms, cut-forms, side-forms, side-picks, side-stream, side-rest, side-order, pair-order, view-forms, joined-forms, pair-forms, sum-forms}
+use Rattle.rewrite.specs.Rewrites.{under-of, cut-form, shown-order, seen-forms, cut-forms, side-forms, side-picks, side-stream, side-rest, side-order, pair-order, view-forms, joined-forms, pair-forms, sum-forms}
 use Rattle.rewrite.specs.Parts.{StreamAt}
+use Rattle.rewrite.proofs.Shown.{select-append, codes-few, codes-small}
 
 -- ---- one form
 
 module _ (f : Form) where
-  pub cut-keep : (mask : ℕ) {m : ℕ} {x : Form} → f .kind ≡ 2 → m ≡ order-within mask (f .columns) → x ≡ keep-of m → x ≡ cut-form mask f
+  pub cut-keep : (mask : ℕ) {o m : ℕ} {x : Form} → f .kind ≡ 2 → o ≡ form-order f → m ≡ order-within mask o → x ≡ keep-of m → x ≡ cut-form mask f
   unfolding cut-form
-  cut-keep mask k e h = h ∙ rw (eq-eqb (f .kind) 2 k, e)
+  cut-keep mask k o e h = h ∙ rw (eq-eqb (f .kind) 2 k, e, o)
 
   pub cut-other : (mask : ℕ) → (f .kind ≡ 2 → ⊥) → f ≡ cut-form mask f
   unfolding cut-form
@@ -49,13 +53,13 @@ module _ (f : Form) where
     pub side-rows : (r : Rewritten) (xs ys : List Form) {x : Rewritten} → b ≡ true → x ≡ rewritten-from r xs → x ≡ rewritten-from r (cond (eqb (f .kind) rows-form) xs ys)
     side-rows r xs ys t h = rw (sym e ∙ t) h
 
-    pub side-other : (r : Rewritten) (xs : List Form) (y : Form) {x : Rewritten} {z : Form} → b ≡ false → z ≡ y → RewrittenWith r z x → x ≡ rewritten-from r (cond (eqb (f .kind) rows-form) xs (y ∷ []))
+    pub side-other : (r : Rewritten) (xs : List Form) (y : Form) {x : Rewritten} {z : Form} → b ≡ false → z ≡ y → x ≡ rewritten-with r z → x ≡ rewritten-from r (cond (eqb (f .kind) rows-form) xs (y ∷ []))
     unfolding rewritten-from
-    side-other r xs y t k h = rw (sym e ∙ t) (h .table ∙ ap (rewritten-with r) k)
+    side-other r xs y t k h = rw (sym e ∙ t) (h ∙ ap (rewritten-with r) k)
 
-  pub pick-one : (r : Rewritten) {x : Rewritten} → f .kind ≡ 1 → RewrittenWith r f x → x ≡ rewritten-from r (cond (eqb (f .kind) pick-form) (f ∷ []) [])
+  pub pick-one : (r : Rewritten) {x : Rewritten} → f .kind ≡ 1 → x ≡ rewritten-with r f → x ≡ rewritten-from r (cond (eqb (f .kind) pick-form) (f ∷ []) [])
   unfolding rewritten-from
-  pick-one r k h = rw (eq-eqb (f .kind) 1 k) (h .table)
+  pick-one r k h = rw (eq-eqb (f .kind) 1 k) h
 
   pub pick-none : (r : Rewritten) → (f .kind ≡ 1 → ⊥) → r ≡ rewritten-from r (cond (eqb (f .kind) pick-form) (f ∷ []) [])
   unfolding rewritten-from
@@ -74,31 +78,39 @@ pub ruleset pick-ends = (pick-one, pick-none)
 abbrev pub codes-left : ℕ → ℕ → ℕ → List ℕ
 codes-left s c n = map (λ c. s * 6 + c) (count-from c (n - c))
 
-module _ (order : ℕ) (ns : List ℕ) (s : ℕ) where
-  pub columns-past : 4 ≤ s → order ≡ order-from order (column-codes ns (s ∷ []))
-  unfolding column-codes gather count-from order-from
+module _ (order : ℕ) (ns : List ℕ) (s mask : ℕ) where
+  abbrev pub columns-shown : ℕ
+  columns-shown = order-from order (select (bit? mask) (column-codes ns (s ∷ [])))
+
+  pub columns-past : 4 ≤ s → order ≡ columns-shown
+  unfolding column-codes gather count-from order-from select
   columns-past h = let z : width-in ns s ≡ 0 = sym (width-none ns s h) in rw z
 
   module _ (n : ℕ) (e : n ≡ width-in ns s) where
     pub columns-most : n ≤ 6
     columns-most = let h = width-most ns s in omega arith
 
-    pub columns-start : order-from order (column-codes ns (s ∷ [])) ≡ order-from order (codes-left s 0 n)
+    pub columns-start : columns-shown ≡ order-from order (select (bit? mask) (codes-left s 0 n))
     unfolding column-codes gather
     columns-start =
         let z : n - 0 ≡ width-in ns s = omega arith in
-        rw z (ap (order-from order) (append-nil (map (λ c. s * 6 + c) (count-from 0 (width-in ns s)))))
+        rw z (ap (λ l. order-from order (select (bit? mask) l)) (append-nil (map (λ c. s * 6 + c) (count-from 0 (width-in ns s)))))
 
-    module _ (m c : ℕ) (inv : order-from order (column-codes ns (s ∷ [])) ≡ order-from m (codes-left s c n)) where
-      pub columns-on : {k : ℕ} → c < n → k ≡ with-code m (s * 6 + c) → order-from order (column-codes ns (s ∷ [])) ≡ order-from k (codes-left s (c + 1) n)
-      unfolding order-from
-      columns-on h w = inv ∙ ap (λ l. order-from m (map (λ c. s * 6 + c) l)) (count-left c n h) ∙ rw w
+    module _ (m c : ℕ) (inv : columns-shown ≡ order-from m (select (bit? mask) (codes-left s c n))) where
+      pub columns-on : {k : ℕ} → c < n → k ≡ cond (bit? mask (s * 6 + c)) (with-code m (s * 6 + c)) m → columns-shown ≡ order-from k (select (bit? mask) (codes-left s (c + 1) n))
+      columns-on h w =
+          inv ∙ ap (λ l. order-from m (select (bit? mask) (map (λ c. s * 6 + c) l))) (count-left c n h)
+          ∙ passed (bit? mask) m (s * 6 + c) (codes-left s (c + 1) n) ∙ rw w
 
-      pub columns-end : n ≤ c → m ≡ order-from order (column-codes ns (s ∷ []))
-      unfolding order-from
+      pub columns-end : n ≤ c → m ≡ columns-shown
+      unfolding order-from select
       columns-end h = sym (inv ∙ rw (count-done c n h))
 
 pub ruleset columns-ends = (columns-past, columns-most, columns-start, columns-on, columns-end)
+
+-- those of one or two streams as an order
+shown-codes : (ns : List ℕ) (mask : ℕ) (ss : List ℕ) → length ss ≤ 2 → order-within mask (order-of (column-codes ns ss)) ≡ order-of (select (bit? mask) (column-codes ns ss))
+shown-codes ns mask ss h = let l = codes-few ns ss in within-of mask (column-codes ns ss) (omega arith) (codes-small ns ss)
 
 -- ---- the forms that are left
 
@@ -141,23 +153,23 @@ module _ (fs : List Form) (i n : ℕ) (e : n ≡ length fs) where
         }
 
   -- ---- its columns
-  module _ (ns : List ℕ) (from : ℕ) (inv : side-order ns (drop from fs) ≡ side-order ns (drop i fs)) where
+  module _ (ns : List ℕ) (from mask : ℕ) (inv : side-order ns (drop from fs) ≡ side-order ns (drop i fs)) where
     module _ {f : Form} {b : Bool} (h : i < n) (k : f ≡ getD fs i blank) (l : b ≡ eqb (f .kind) rows-form) where
-      pub order-stream : {m : ℕ} → b ≡ true → m ≡ order-from 0 (column-codes ns (f .first ∷ [])) → m ≡ side-order ns (drop from fs)
+      pub order-stream : {m : ℕ} → b ≡ true → m ≡ order-from 0 (select (bit? mask) (column-codes ns (f .first ∷ []))) → m ≡ order-within mask (side-order ns (drop from fs))
       unfolding side-order order-of
-      order-stream t u = u ∙ sym (inv ∙ rw (next fs i n e h k, sym l ∙ t))
+      order-stream t u = u ∙ sym (ap (order-within mask) (inv ∙ rw (next fs i n e h k, sym l ∙ t)) ∙ shown-codes ns mask (f .first ∷ []) (omega arith))
 
-      pub order-keep : b ≡ false → f .kind ≡ 2 → f .columns ≡ side-order ns (drop from fs)
+      pub order-keep : {o m : ℕ} → b ≡ false → f .kind ≡ 2 → o ≡ form-order f → m ≡ order-within mask o → m ≡ order-within mask (side-order ns (drop from fs))
       unfolding side-order
-      order-keep t u = sym (inv ∙ rw (next fs i n e h k, sym l ∙ t, eq-eqb (f .kind) 2 u))
+      order-keep t u v w = w ∙ ap (order-within mask) (v ∙ sym (inv ∙ rw (next fs i n e h k, sym l ∙ t, eq-eqb (f .kind) 2 u)))
 
       pub order-on : b ≡ false → (f .kind ≡ 2 → ⊥) → side-order ns (drop from fs) ≡ side-order ns (drop (i + 1) fs)
       unfolding side-order
       order-on t u = inv ∙ rw (next fs i n e h k, sym l ∙ t, ne-eqb (f .kind) 2 u)
 
-    pub order-none : n ≤ i → 0 ≡ side-order ns (drop from fs)
-    unfolding side-order
-    order-none h = sym (inv ∙ rw (over fs i n e h))
+    pub order-none : n ≤ i → 0 ≡ order-within mask (side-order ns (drop from fs))
+    unfolding side-order order-within order-of order-from select
+    order-none h = sym (ap (order-within mask) (inv ∙ rw (over fs i n e h)) ∙ ap (λ l. order-of (select (bit? mask) l)) codes-empty)
 
   -- ---- its picks
   module _ (r x : Rewritten) (from : ℕ) (inv : rewritten-from r (side-picks (drop from fs)) ≡ rewritten-from x (side-picks (drop i fs))) where
@@ -205,9 +217,9 @@ module _ (fs : List Form) (i n : ℕ) (e : n ≡ length fs) where
       unfolding pair-forms
       pair-joined u v = v ∙ sym (inv ∙ rw (next fs i n e h k, eq-eqb (f .kind) 3 u, k))
 
-      pub pair-on : {x : Rewritten} {z : Form} → (f .kind ≡ 3 → ⊥) → z ≡ cut-form (g .shown) f → RewrittenWith r z x → t ≡ rewritten-from x (pair-forms ns g (drop (i + 1) fs))
+      pub pair-on : {x : Rewritten} {z : Form} → (f .kind ≡ 3 → ⊥) → z ≡ cut-form (g .shown) f → x ≡ rewritten-with r z → t ≡ rewritten-from x (pair-forms ns g (drop (i + 1) fs))
       unfolding pair-forms rewritten-from
-      pair-on u v w = inv ∙ rw (next fs i n e h k, ne-eqb (f .kind) 3 u) (rw (w .table, v))
+      pair-on u v w = inv ∙ rw (next fs i n e h k, ne-eqb (f .kind) 3 u) (rw (w, v))
 
     pub pair-end : n ≤ i → r ≡ t
     unfolding pair-forms rewritten-from
@@ -215,14 +227,14 @@ module _ (fs : List Form) (i n : ℕ) (e : n ≡ length fs) where
 
   -- ---- an aggregate grant
   module _ (ns : List ℕ) (g : Granted) (r t : Rewritten) (inv : t ≡ rewritten-from r (sum-forms ns g (drop i fs))) where
-    module _ {f : Form} (h : i < n) (k : f ≡ getD fs i blank) {x : Rewritten} (w : RewrittenWith r f x) where
+    module _ {f : Form} (h : i < n) (k : f ≡ getD fs i blank) {x : Rewritten} (w : x ≡ rewritten-with r f) where
       pub sum-seen : {y : Rewritten} {p : ℕ} {z : Form} → f .kind ≡ 4 → StreamAt fs (i + 1) p → z ≡ getD fs p blank → y ≡ rewritten-from x (seen-forms ns g z) → y ≡ t
       unfolding sum-forms rewritten-from
-      sum-seen u s v l = l ∙ sym (inv ∙ rw (next fs i n e h k, eq-eqb (f .kind) 4 u) (rw (w .table, v, s .stream)))
+      sum-seen u s v l = l ∙ sym (inv ∙ rw (next fs i n e h k, eq-eqb (f .kind) 4 u) (rw (w, v, s .stream)))
 
       pub sum-on : (f .kind ≡ 4 → ⊥) → t ≡ rewritten-from x (sum-forms ns g (drop (i + 1) fs))
       unfolding sum-forms rewritten-from
-      sum-on u = inv ∙ rw (next fs i n e h k, ne-eqb (f .kind) 4 u) (rw (w .table))
+      sum-on u = inv ∙ rw (next fs i n e h k, ne-eqb (f .kind) 4 u) (rw w)
 
     pub sum-end : n ≤ i → r ≡ t
     unfolding sum-forms rewritten-from
@@ -234,17 +246,17 @@ pub ruleset order-ends = (order-stream, order-keep, order-on, order-none)
 
 pub ruleset picks-ends = (picks-stop, picks-on, picks-end)
 
-pub sides-start : (ns : List ℕ) (g h : Granted) (fs : List Form) {mask : ℕ} {r : Rewritten} → mask ≡ bitOr (g .shown) (h .shown) → r ≡ new-rewritten → rewritten-table (side-forms ns g h fs) ≡ rewritten-from r (cut-forms ns mask g h (drop 0 fs))
+pub sides-start : (ws ns : List ℕ) (g h : Granted) (fs : List Form) {mask : ℕ} → mask ≡ bitOr (g .shown) (h .shown) → rewritten-table ws (side-forms ns g h fs) ≡ rewritten-from (held ws 0) (cut-forms ns mask g h (drop 0 fs))
 unfolding rewritten-table side-forms
-sides-start ns g h fs e k = rw (e, k)
+sides-start ws ns g h fs e = rw e
 
-pub pair-start : (ns : List ℕ) (g : Granted) (fs : List Form) {r : Rewritten} → r ≡ new-rewritten → rewritten-table (pair-forms ns g fs) ≡ rewritten-from r (pair-forms ns g (drop 0 fs))
+pub pair-start : (ws ns : List ℕ) (g : Granted) (fs : List Form) → rewritten-table ws (pair-forms ns g fs) ≡ rewritten-from (held ws 0) (pair-forms ns g (drop 0 fs))
 unfolding rewritten-table
-pair-start ns g fs k = rw k
+pair-start ws ns g fs = refl
 
-pub sum-start : (ns : List ℕ) (g : Granted) (fs : List Form) {r : Rewritten} → r ≡ new-rewritten → rewritten-table (sum-forms ns g fs) ≡ rewritten-from r (sum-forms ns g (drop 0 fs))
+pub sum-start : (ws ns : List ℕ) (g : Granted) (fs : List Form) → rewritten-table ws (sum-forms ns g fs) ≡ rewritten-from (held ws 0) (sum-forms ns g (drop 0 fs))
 unfolding rewritten-table
-sum-start ns g fs k = rw k
+sum-start ws ns g fs = refl
 
 pub ruleset sides-ends = (sides-start, sides-on, sides-end)
 
@@ -254,10 +266,12 @@ pub ruleset sum-ends = (sum-start, sum-seen, sum-on, sum-end)
 
 -- ---- views
 
-pub seen-made : (r : Rewritten) (ns : List ℕ) (f : Form) (g : Granted) {a b : ℕ} {k u : Form} {x y z : Rewritten} → a ≡ order-from 0 (column-codes ns (f .first ∷ [])) → b ≡ order-within (g .shown) a
-    → k ≡ keep-of b → RewrittenWith r k x → u ≡ under-of g → RewrittenWith x u y → RewrittenWith y f z → z ≡ rewritten-from r (seen-forms ns g f)
+pub seen-made : (r : Rewritten) (ns : List ℕ) (f : Form) (g : Granted) {a : ℕ} {k u : Form} {x y z : Rewritten} → a ≡ order-from 0 (select (bit? (g .shown)) (column-codes ns (f .first ∷ [])))
+    → k ≡ keep-of a → x ≡ rewritten-with r k → u ≡ under-of g → y ≡ rewritten-with x u → z ≡ rewritten-with y f → z ≡ rewritten-from r (seen-forms ns g f)
 unfolding rewritten-from seen-forms shown-order order-of
-seen-made r ns f g d e h i j k l = l .table ∙ rw (k .table, i .table, j, h, e, d)
+seen-made r ns f g {a} d h i j k l =
+    let e : a ≡ order-within (g .shown) (order-from 0 (column-codes ns (f .first ∷ []))) = d ∙ sym (shown-codes ns (g .shown) (f .first ∷ []) (omega arith)) in
+    l ∙ rw (k, i, j, h, e)
 
 from-both : (order : ℕ) (cs ds : List ℕ) → order-from order (cs ++ ds) ≡ order-from (order-from order cs) ds
 unfolding order-from
@@ -268,37 +282,43 @@ codes-both : (ns : List ℕ) (s t : ℕ) → column-codes ns (s ∷ t ∷ []) �
 unfolding column-codes gather
 codes-both ns s t = sym (ap (λ l. l ++ (map (λ c. t * 6 + c) (count-from 0 (width-in ns t)) ++ [])) (append-nil (map (λ c. s * 6 + c) (count-from 0 (width-in ns s)))))
 
-pub view-made : (r : Rewritten) (ns : List ℕ) (g : Granted) (j a b : Form) {l o m : ℕ} {k u : Form} {v w x y z : Rewritten} → l ≡ order-from 0 (column-codes ns (a .first ∷ [])) → o ≡ order-from l (column-codes ns (b .first ∷ []))
-    → m ≡ order-within (g .shown) o → k ≡ keep-of m → RewrittenWith r k v → u ≡ under-of g → RewrittenWith v u w → RewrittenWith w j x → RewrittenWith x a y → RewrittenWith y b z
-    → z ≡ rewritten-from r (view-forms ns g j a b)
-unfolding rewritten-from view-forms shown-order order-of
-view-made r ns g j a b d e h i p q s t u v =
-    v .table ∙ rw (u .table, t .table, s .table, p .table, q, i, h, e, d, codes-both ns (a .first) (b .first), from-both 0 (column-codes ns (a .first ∷ [])) (column-codes ns (b .first ∷ [])))
+-- those of two streams, one stream after the other
+both-shown : (ns : List ℕ) (mask s t : ℕ) → order-within mask (order-of (column-codes ns (s ∷ t ∷ []))) ≡ order-from (order-from 0 (select (bit? mask) (column-codes ns (s ∷ [])))) (select (bit? mask) (column-codes ns (t ∷ [])))
+unfolding order-of
+both-shown ns mask s t =
+    shown-codes ns mask (s ∷ t ∷ []) (omega arith)
+    ∙ ap (λ l. order-from 0 l) (ap (select (bit? mask)) (codes-both ns s t) ∙ select-append (bit? mask) (column-codes ns (s ∷ [])) (column-codes ns (t ∷ [])))
+    ∙ from-both 0 (select (bit? mask) (column-codes ns (s ∷ []))) (select (bit? mask) (column-codes ns (t ∷ [])))
 
-pub joined-made : (r : Rewritten) (fs : List Form) (ns : List ℕ) (g : Granted) (at : ℕ) {a b o : ℕ} {k f c d : Form} {x y z t : Rewritten} → StreamAt fs (at + 1) a → StreamAt fs (a + 1) b
-    → o ≡ order-from (order-within (g .shown) (side-order ns (drop (at + 1) fs))) (codes-in (order-within (g .shown) (side-order ns (drop (a + 1) fs)))) → k ≡ keep-of o → RewrittenWith r k x
+pub view-made : (r : Rewritten) (ns : List ℕ) (g : Granted) (j a b : Form) {l o : ℕ} {k u : Form} {v w x y z : Rewritten} → l ≡ order-from 0 (select (bit? (g .shown)) (column-codes ns (a .first ∷ [])))
+    → o ≡ order-from l (select (bit? (g .shown)) (column-codes ns (b .first ∷ []))) → k ≡ keep-of o → v ≡ rewritten-with r k → u ≡ under-of g → w ≡ rewritten-with v u → x ≡ rewritten-with w j → y ≡ rewritten-with x a → z ≡ rewritten-with y b
+    → z ≡ rewritten-from r (view-forms ns g j a b)
+unfolding rewritten-from view-forms shown-order
+view-made r ns g j a b {l} {o} d e i p q s t u v =
+    let m : o ≡ order-within (g .shown) (order-of (column-codes ns (a .first ∷ b .first ∷ []))) = e ∙ ap (λ x. order-from x (select (bit? (g .shown)) (column-codes ns (b .first ∷ [])))) d ∙ sym (both-shown ns (g .shown) (a .first) (b .first)) in
+    v ∙ rw (u, t, s, p, q, i, m)
+
+pub joined-made : (r : Rewritten) (fs : List Form) (ns : List ℕ) (g : Granted) (at : ℕ) {a b l m o : ℕ} {k f c d : Form} {x y z t : Rewritten} → StreamAt fs (at + 1) a → StreamAt fs (a + 1) b
+    → l ≡ order-within (g .shown) (side-order ns (drop (at + 1) fs)) → m ≡ order-within (g .shown) (side-order ns (drop (a + 1) fs)) → o ≡ order-from l (codes-in m) → k ≡ keep-of o → x ≡ rewritten-with r k
     → y ≡ rewritten-from x (side-picks (drop (a + 1) fs)) → z ≡ rewritten-from y (side-picks (drop (at + 1) fs)) → f ≡ getD fs at blank → c ≡ getD fs a blank → d ≡ getD fs b blank
     → t ≡ rewritten-from z (view-forms ns g f c d) → t ≡ rewritten-from r (joined-forms ns g (getD fs at blank) (drop (at + 1) fs))
 unfolding rewritten-from joined-forms pair-order
-joined-made r fs ns g at {a} {b} {o} {k} {f} {c} {d} {x} {y} {z} {t} p q e h i j l u v w m =
+joined-made r fs ns g at {a} {b} {l} {m} {o} {k} {f} {c} {d} {x} {y} {z} {t} p q el em e h i j v u vc w made-view =
     let s : d ≡ side-stream (side-rest (drop (at + 1) fs)) = w ∙ q .stream ∙ ap side-stream (p .rest) in
-    let n : c ≡ side-stream (drop (at + 1) fs) = v ∙ p .stream in
+    let n : c ≡ side-stream (drop (at + 1) fs) = vc ∙ p .stream in
     let first = side-picks (side-rest (drop (at + 1) fs)) in
     let second = side-picks (drop (at + 1) fs) in
     let view = view-forms ns g f c d in
     let made : t ≡ rewritten-from x (first ++ (second ++ view)) =
-    m ∙ ap (λ z. rewritten-from z view) (l ∙ ap (λ y. rewritten-from y second) (j ∙ ap (λ fs. rewritten-from x (side-picks fs)) (p .rest)))
+    made-view ∙ ap (λ z. rewritten-from z view) (v ∙ ap (λ y. rewritten-from y second) (j ∙ ap (λ fs. rewritten-from x (side-picks fs)) (p .rest)))
     ∙ sym (from-append x first (second ++ view) ∙ from-append (rewritten-from x first) second view) in
-    made ∙ rw (i .table, h, e, p .rest, sym u, sym n, sym s)
+    made ∙ rw (i, h, e, el, em, p .rest, sym u, sym n, sym s)
 
 -- a place after a form of a query is one of a dozen
 pub place-few : (from i n : ℕ) (q : Query) → n ≡ length (query-forms q) → length (query-forms q) ≤ 12 → i < n → i + 1 ≤ from + 12
 place-few from i n q e m h = omega arith
 
 pub ruleset few = (place-few, query-most, length-told)
-
-pub both-made : (mask l r : ℕ) {x y a b o : ℕ} → x ≡ l → a ≡ order-within mask x → y ≡ r → b ≡ order-within mask y → o ≡ order-from a (codes-in b) → o ≡ order-from (order-within mask l) (codes-in (order-within mask r))
-both-made mask l r d e h i j = rw (sym d, sym e, sym h, sym i) j
 
 pub place-below : (i n : ℕ) (q : Query) → n ≡ length (query-forms q) → length (query-forms q) ≤ 12 → i < n → i < 12
 place-below i n q e m h = omega arith

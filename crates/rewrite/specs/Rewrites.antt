@@ -6,22 +6,19 @@ use lib.Bits.{bitOr}
 use lib.Dec.{eqb}
 use Rattle.orders.specs.Orders.{codes-in, order-from, order-of, order-within}
 use Rattle.grant.specs.Grants.{column-codes}
-use Rattle.query.specs.Forms.{rows-form, pick-form, keep-form, join-form, aggregate-form, under-form}
+use Rattle.query.specs.Forms.{rows-form, pick-form, keep-form, keep-of, form-order, join-form, aggregate-form, under-form}
 use Rattle.query.specs.Tables.{blank}
 use Rattle.query.specs.declared.Form.{Form}
 use Rattle.rewrite.specs.declared.Granted.{Granted}
 
 -- ---- forms
 
-abbrev pub keep-of : ℕ → Form
-keep-of m = record { kind = keep-form; first = 0; second = 0; third = 0; fourth = 0; columns = m }
-
 abbrev pub under-of : Granted → Form
-under-of g = record { kind = under-form; first = g .place; second = g .words; third = g .from; fourth = g .to; columns = 0 }
+under-of g = record { kind = under-form; first = g .place; second = g .words; third = g .from; fourth = g .to }
 
 -- a keep's columns as far as they are shown
 unfoldable pub cut-form : ℕ → Form → Form
-cut-form mask f = cond (eqb (f .kind) keep-form) (keep-of (order-within mask (f .columns))) f
+cut-form mask f = cond (eqb (f .kind) keep-form) (keep-of (order-within mask (form-order f))) f
 
 -- the columns of some streams that a grant shows, in the streams' order
 unfoldable pub shown-order : List ℕ → List ℕ → Granted → ℕ
@@ -60,7 +57,7 @@ side-rest (f ∷ fs) = cond (eqb (f .kind) rows-form) fs (side-rest fs)
 unfoldable pub side-order : List ℕ → List Form → ℕ
 side-order ns [] = 0
 side-order ns (f ∷ fs) =
-    cond (eqb (f .kind) rows-form) (order-of (column-codes ns (f .first ∷ []))) (cond (eqb (f .kind) keep-form) (f .columns) (side-order ns fs))
+    cond (eqb (f .kind) rows-form) (order-of (column-codes ns (f .first ∷ []))) (cond (eqb (f .kind) keep-form) (form-order f) (side-order ns fs))
 
 -- the columns of both sides as far as they are shown
 unfoldable pub pair-order : List ℕ → ℕ → List Form → ℕ

@@ -1,20 +1,21 @@
-// The rewritten query of a route: the table of a checked query, with each grant's view in the place of the streams that it opens.
+// The rewritten query of a route: the table of a checked query, with each grant's view in the place of the streams that it opens, in lent words.
 ghost use mathlib.Core.Path.{_≡_};
 ghost use mathlib.Core.List.{[], _∷_};
 ghost use mathlib.Core.Bool.{cond};
 ghost use Prim.Native.Nat.{_+_, _<_};
 ghost use lib.Dec.{eqb};
 ghost use lib.ListN.{getD, drop};
-ghost use Rattle.orders.specs.Orders.{codes-in, order-from, order-within};
+ghost use Rattle.lists.specs.Lists.{select};
+ghost use Rattle.masks.specs.Masks.{bit?};
+ghost use Rattle.orders.specs.Orders.{order-from, order-within};
 ghost use Rattle.syntax.specs.Limits.{max-forms};
 ghost use Rattle.grant.specs.Grants.{column-codes};
 ghost use Rattle.query.specs.Forms.{rows-form, pick-form};
-ghost use Rattle.query.specs.Tables.{blank, query-forms, rewritten-from, rewritten-table};
+ghost use Rattle.query.specs.Tables.{blank, query-forms, held, rewritten-from, rewritten-table};
 ghost use Rattle.rewrite.specs.Rewrites.{under-of, cut-form, seen-forms, side-forms, side-picks, side-order, view-forms, joined-forms, pair-forms, sum-forms};
 ghost use Rattle.rewrite.specs.Parts.{StreamAt};
 use query::Form;
 use query::Query;
-use query::Rewritten;
 use schema::Stream;
 
 // What a rewritten query needs of a grant: its place in the catalogue, the shown columns as bits, how many words its conditions take, its first and last time.
@@ -40,14 +41,14 @@ fn cut(f: Form, mask: u32) -> Form
     ensures { λ r. ⌜ r ≡ cut-form mask f ⌝ }
 {
     if f.kind == Form::KEEP {
-        return Form::keep(orders::within(f.columns, mask));
+        return Form::keep(orders::within(f.order(), mask));
     }
     f
 }
 
-// An order with the columns of one stream more.
-fn with_columns(order: u64, names: &[u64], s: u32) -> u64
-    ensures { λ r. ⌜ r ≡ order-from order (column-codes (now (names .entry)) (s ∷ [])) ⌝ }
+// An order with those columns of one stream more that a mask has.
+fn with_columns(order: u64, names: &[u64], s: u32, mask: u32) -> u64
+    ensures { λ r. ⌜ r ≡ order-from order (select (bit? mask) (column-codes (now (names .entry)) (s ∷ []))) ⌝ }
 {
     let n = schema::width(names, s as usize);
     let mut m = order;
@@ -56,30 +57,30 @@ fn with_columns(order: u64, names: &[u64], s: u32) -> u64
     }
     let mut c: usize = 0;
     while c < n {
-        m = orders::with_code(m, (s as usize * Stream::COLUMNS + c) as u32);
+        m = orders::with_shown(m, mask, (s as usize * Stream::COLUMNS + c) as u32);
         c += 1;
     }
     m
 }
 
-// A rewritten query with a stream more, as a grant shows it.
-fn with_seen(r: Rewritten, names: &[u64], f: Form, g: Granted) -> Rewritten
-    ensures { λ x. ⌜ x ≡ rewritten-from r (seen-forms (now (names .entry)) g f) ⌝ }
+// A table with a stream more, as a grant shows it.
+fn put_seen(table: &mut [u32], n: u32, names: &[u64], f: Form, g: Granted) -> u32
+    ensures { λ r. ⌜ held (now (table .exit)) r ≡ rewritten-from (held (now (table .entry)) n) (seen-forms (now (names .entry)) g f) ⌝ }
 {
-    let shown = orders::within(with_columns(0, names, f.first), g.shown);
-    let kept = r.with(Form::keep(shown));
-    let limited = kept.with(g.under());
-    limited.with(f)
+    let shown = with_columns(0, names, f.first, g.shown);
+    let kept = query::put_form(table, n, Form::keep(shown));
+    let limited = query::put_form(table, kept, g.under());
+    query::put_form(table, limited, f)
 }
 
-// A rewritten query with a form more of a query with a grant for each stream.
-fn with_side(r: Rewritten, names: &[u64], f: Form, g: Granted, mask: u32) -> Rewritten
-    ensures { λ x. ⌜ x ≡ rewritten-from r (cond (eqb (f .kind) rows-form) (seen-forms (now (names .entry)) g f) (cut-form mask f ∷ [])) ⌝ }
+// A table with a form more of a query with a grant for each stream.
+fn put_side(table: &mut [u32], n: u32, names: &[u64], f: Form, g: Granted, mask: u32) -> u32
+    ensures { λ r. ⌜ held (now (table .exit)) r ≡ rewritten-from (held (now (table .entry)) n) (cond (eqb (f .kind) rows-form) (seen-forms (now (names .entry)) g f) (cut-form mask f ∷ [])) ⌝ }
 {
     if f.is_rows() {
-        return with_seen(r, names, f, g);
+        return put_seen(table, n, names, f, g);
     }
-    r.with(cut(f, mask))
+    query::put_form(table, n, cut(f, mask))
 }
 
 // The grant of the next stream after a form.
@@ -92,18 +93,19 @@ fn after(f: Form, g: Granted, next: Granted) -> Granted
     g
 }
 
-// Returns the rewritten query of a route with a grant for each stream, the first stream's and that of the stream after it.
-pub fn sides(q: Query, names: &[u64], first: Granted, second: Granted) -> Rewritten
-    ensures { λ r. ⌜ r ≡ rewritten-table (side-forms (now (names .entry)) first second (query-forms q)) ⌝ }
+// Returns how many forms the rewritten query of a route has with a grant for each stream, the first stream's and that of the stream after it.
+// Leaves the forms in the words from the first on, and all else as it was.
+pub fn sides(q: Query, names: &[u64], first: Granted, second: Granted, table: &mut [u32]) -> u32
+    ensures { λ r. ⌜ held (now (table .exit)) r ≡ rewritten-table (now (table .entry)) (side-forms (now (names .entry)) first second (query-forms q)) ⌝ }
 {
     let n = q.count();
     let mask = masks::either(first.shown, second.shown);
-    let mut r = Rewritten::new();
+    let mut r: u32 = 0;
     let mut g = first;
     let mut i: u32 = 0;
     while i < n {
         let f = q.form(i);
-        r = with_side(r, names, f, g, mask);
+        r = put_side(table, r, names, f, g, mask);
         g = after(f, g, second);
         i += 1;
     }
@@ -126,38 +128,38 @@ fn stream_place(q: Query, from: u32) -> u32
     i
 }
 
-// The columns of a side that begins at a place: those of its outermost keep, or its stream's.
-fn side_columns(q: Query, names: &[u64], from: u32) -> u64
-    ensures { λ r. ⌜ r ≡ side-order (now (names .entry)) (drop from (query-forms q)) ⌝ }
+// The columns of a side that begins at a place, as far as a mask has them: those of its outermost keep, or its stream's.
+fn side_columns(q: Query, names: &[u64], from: u32, mask: u32) -> u64
+    ensures { λ r. ⌜ r ≡ order-within mask (side-order (now (names .entry)) (drop from (query-forms q))) ⌝ }
 {
     let n = q.count();
     let mut i = from;
     while i < n {
         let f = q.form(i);
         if f.is_rows() {
-            return with_columns(0, names, f.first);
+            return with_columns(0, names, f.first, mask);
         }
         if f.kind == Form::KEEP {
-            return f.columns;
+            return orders::within(f.order(), mask);
         }
         i += 1;
     }
     0
 }
 
-// A rewritten query with a form more where it is a pick.
-fn with_pick(r: Rewritten, f: Form) -> Rewritten
-    ensures { λ x. ⌜ x ≡ rewritten-from r (cond (eqb (f .kind) pick-form) (f ∷ []) []) ⌝ }
+// A table with a form more where it is a pick.
+fn put_pick(table: &mut [u32], n: u32, f: Form) -> u32
+    ensures { λ r. ⌜ held (now (table .exit)) r ≡ rewritten-from (held (now (table .entry)) n) (cond (eqb (f .kind) pick-form) (f ∷ []) []) ⌝ }
 {
     if f.kind == Form::PICK {
-        return r.with(f);
+        return query::put_form(table, n, f);
     }
-    r
+    n
 }
 
-// A rewritten query with the picks of a side that begins at a place.
-fn with_picks(r: Rewritten, q: Query, from: u32) -> Rewritten
-    ensures { λ x. ⌜ x ≡ rewritten-from r (side-picks (drop from (query-forms q))) ⌝ }
+// A table with the picks of a side that begins at a place.
+fn put_picks(table: &mut [u32], r: u32, q: Query, from: u32) -> u32
+    ensures { λ x. ⌜ held (now (table .exit)) x ≡ rewritten-from (held (now (table .entry)) r) (side-picks (drop from (query-forms q))) ⌝ }
 {
     let n = q.count();
     let mut x = r;
@@ -167,80 +169,83 @@ fn with_picks(r: Rewritten, q: Query, from: u32) -> Rewritten
         if f.is_rows() {
             return x;
         }
-        x = with_pick(x, f);
+        x = put_pick(table, x, f);
         i += 1;
     }
     x
 }
 
-// A rewritten query with a grant's view of a join of two streams.
-fn with_view(r: Rewritten, names: &[u64], g: Granted, join: Form, a: Form, b: Form) -> Rewritten
-    ensures { λ x. ⌜ x ≡ rewritten-from r (view-forms (now (names .entry)) g join a b) ⌝ }
+// A table with a grant's view of a join of two streams.
+fn put_view(
+    table: &mut [u32],
+    n: u32,
+    names: &[u64],
+    g: Granted,
+    join: Form,
+    a: Form,
+    b: Form,
+) -> u32
+    ensures { λ r. ⌜ held (now (table .exit)) r ≡ rewritten-from (held (now (table .entry)) n) (view-forms (now (names .entry)) g join a b) ⌝ }
 {
-    let left = with_columns(0, names, a.first);
-    let both = with_columns(left, names, b.first);
-    let kept = r.with(Form::keep(orders::within(both, g.shown)));
-    let limited = kept.with(g.under());
-    let joined = limited.with(join);
-    let one = joined.with(a);
-    one.with(b)
+    let left = with_columns(0, names, a.first, g.shown);
+    let both = with_columns(left, names, b.first, g.shown);
+    let kept = query::put_form(table, n, Form::keep(both));
+    let limited = query::put_form(table, kept, g.under());
+    let joined = query::put_form(table, limited, join);
+    let one = query::put_form(table, joined, a);
+    query::put_form(table, one, b)
 }
 
-// The columns of two sides, as far as a mask has them.
-fn pair_columns(q: Query, names: &[u64], mask: u32, left: u32, right: u32) -> u64
-    ensures { λ r. ⌜ r ≡ order-from (order-within mask (side-order (now (names .entry)) (drop left (query-forms q)))) (codes-in (order-within mask (side-order (now (names .entry)) (drop right (query-forms q))))) ⌝ }
-{
-    let a = orders::within(side_columns(q, names, left), mask);
-    let b = orders::within(side_columns(q, names, right), mask);
-    orders::joined(a, b)
-}
-
-// A rewritten query with the join at a place more, as a grant shows it.
-fn with_joined(r: Rewritten, q: Query, names: &[u64], g: Granted, at: u32) -> Rewritten
+// A table with the join at a place more, as a grant shows it.
+fn put_joined(table: &mut [u32], n: u32, q: Query, names: &[u64], g: Granted, at: u32) -> u32
     requires { ⌜ at < max-forms ⌝ }
-    ensures { λ x. ⌜ x ≡ rewritten-from r (joined-forms (now (names .entry)) g (getD (query-forms q) at blank) (drop (at + 1) (query-forms q))) ⌝ }
+    ensures { λ r. ⌜ held (now (table .exit)) r ≡ rewritten-from (held (now (table .entry)) n) (joined-forms (now (names .entry)) g (getD (query-forms q) at blank) (drop (at + 1) (query-forms q))) ⌝ }
 {
     let left = at + 1;
     let a = stream_place(q, left);
     let right = a + 1;
     let b = stream_place(q, right);
-    let kept = r.with(Form::keep(pair_columns(q, names, g.shown, left, right)));
-    let second = with_picks(kept, q, right);
-    let both = with_picks(second, q, left);
-    with_view(both, names, g, q.form(at), q.form(a), q.form(b))
+    let first = side_columns(q, names, left, g.shown);
+    let second = side_columns(q, names, right, g.shown);
+    let kept = query::put_form(table, n, Form::keep(orders::joined(first, second)));
+    let outer = put_picks(table, kept, q, right);
+    let inner = put_picks(table, outer, q, left);
+    put_view(table, inner, names, g, q.form(at), q.form(a), q.form(b))
 }
 
-// Returns the rewritten query of a route with one grant on the pair.
-pub fn pair(q: Query, names: &[u64], g: Granted) -> Rewritten
-    ensures { λ r. ⌜ r ≡ rewritten-table (pair-forms (now (names .entry)) g (query-forms q)) ⌝ }
+// Returns how many forms the rewritten query of a route has with one grant on the pair.
+// Leaves the forms in the words from the first on, and all else as it was.
+pub fn pair(q: Query, names: &[u64], g: Granted, table: &mut [u32]) -> u32
+    ensures { λ r. ⌜ held (now (table .exit)) r ≡ rewritten-table (now (table .entry)) (pair-forms (now (names .entry)) g (query-forms q)) ⌝ }
 {
     let n = q.count();
-    let mut r = Rewritten::new();
+    let mut r: u32 = 0;
     let mut i: u32 = 0;
     while i < n {
         let f = q.form(i);
         if f.kind == Form::JOIN {
-            return with_joined(r, q, names, g, i);
+            return put_joined(table, r, q, names, g, i);
         }
-        r = r.with(cut(f, g.shown));
+        r = query::put_form(table, r, cut(f, g.shown));
         i += 1;
     }
     r
 }
 
-// Returns the rewritten query of a route with an aggregate grant on one stream.
-pub fn sum(q: Query, names: &[u64], g: Granted) -> Rewritten
-    ensures { λ r. ⌜ r ≡ rewritten-table (sum-forms (now (names .entry)) g (query-forms q)) ⌝ }
+// Returns how many forms the rewritten query of a route has with an aggregate grant on one stream.
+// Leaves the forms in the words from the first on, and all else as it was.
+pub fn sum(q: Query, names: &[u64], g: Granted, table: &mut [u32]) -> u32
+    ensures { λ r. ⌜ held (now (table .exit)) r ≡ rewritten-table (now (table .entry)) (sum-forms (now (names .entry)) g (query-forms q)) ⌝ }
 {
     let n = q.count();
-    let mut r = Rewritten::new();
+    let mut r: u32 = 0;
     let mut i: u32 = 0;
     while i < n {
         let f = q.form(i);
-        r = r.with(f);
+        r = query::put_form(table, r, f);
         i += 1;
         if f.kind == Form::AGGREGATE {
-            return with_seen(r, names, q.form(stream_place(q, i)), g);
+            return put_seen(table, r, names, q.form(stream_place(q, i)), g);
         }
     }
     r

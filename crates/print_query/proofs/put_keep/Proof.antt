@@ -9,6 +9,8 @@ put-keep-spec =
     (tie.spec
     {- put-word-requires -}
     (λ c κs. search needs)
+    {- order-requires -}
+    (λ c κs. search needs)
     {- put-columns-requires -}
     (λ c κs. search needs)
     {- put-requires -}

@@ -4,18 +4,17 @@ use mathlib.Core.Path.{_≡_}
 use Prim.Native.Nat.{_+_, _*_, _-_}
 use lib.ListN.{length}
 use Rattle.schema.specs.Schemas.{schema-of}
-use Rattle.query.specs.Tables.{rewritten-forms}
-use Rattle.query.proofs.Tables.{told}
+use Rattle.query.specs.Tables.{forms-in}
 use Rattle.print_query.specs.Texts.{words-lent}
 use Rattle.print_query.proofs.Tables.{Going, going-ends}
 use Rattle.print_query.proofs.put_table.Statement.{statement}
 use Rattle.print_query.proofs.put_table.Tie as tie
 
 abbrev Inv-loop : tie.InvT-loop
-Inv-loop out₀ p t words granted names profile q₀ marks₀ i₀ out q marks i = Going (schema-of names) (words-lent words granted profile) (rewritten-forms t) out₀ p i marks out q × (length out ≡ length out₀)
+Inv-loop out₀ p table n words granted names profile q₀ marks₀ i₀ out q marks i = Going (schema-of names) (words-lent words granted profile) (forms-in table n) out₀ p i marks out q × (length out ≡ length out₀)
 
 abbrev μ-loop : tie.MeasureT-loop
-μ-loop out₀ p t words granted names profile q₀ marks₀ i₀ out q marks i = (16 - i) * 131072 + marks
+μ-loop out₀ p table n words granted names profile q₀ marks₀ i₀ out q marks i = (16 - i) * 131072 + marks
 
 pub put-table-spec : {M : Type 1} → statement M
 put-table-spec =
@@ -24,8 +23,8 @@ put-table-spec =
     Inv-loop
     μ-loop
     {- loop-holds -}
-    (λ c. (search (going-ends, told, needs), search needs))
-    {- form-requires -}
+    (λ c. (search (going-ends, needs), search needs))
+    {- form-in-requires -}
     (λ c κs. search needs)
     {- put-opening-requires -}
     (λ c κs. search needs)

@@ -12,5 +12,7 @@ keep-own-spec =
     (λ c κs. search needs)
     {- either-requires -}
     (λ c κs. search needs)
+    {- keep-requires -}
+    (λ c κs. search needs)
     {- returns -}
     (λ c. search keep-made))

@@ -8,6 +8,8 @@ pub cut-spec : {M : Type 1} → statement M
 cut-spec =
     tie.close
     (tie.spec
+    {- order-requires -}
+    (λ c κs. search needs)
     {- within-requires -}
     (λ c κs. search needs)
     {- keep-requires -}

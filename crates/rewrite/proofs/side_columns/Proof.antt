@@ -10,10 +10,10 @@ use Rattle.rewrite.proofs.side_columns.Statement.{statement}
 use Rattle.rewrite.proofs.side_columns.Tie as tie
 
 abbrev Inv-loop : tie.InvT-loop
-Inv-loop q names from n i₀ i = side-order names (drop from (query-forms q)) ≡ side-order names (drop i (query-forms q))
+Inv-loop q names from mask n i₀ i = side-order names (drop from (query-forms q)) ≡ side-order names (drop i (query-forms q))
 
 abbrev μ-loop : tie.MeasureT-loop
-μ-loop q names from n i₀ i = n - i
+μ-loop q names from mask n i₀ i = n - i
 
 pub side-columns-spec : {M : Type 1} → statement M
 side-columns-spec =
@@ -33,6 +33,10 @@ side-columns-spec =
     (λ c κs. search needs)
     {- returns -}
     (λ c. search order-ends)
+    {- order-requires -}
+    (λ c κs. search needs)
+    {- within-requires -}
+    (λ c κs. search needs)
     {- returns-2 -}
     (λ c. search order-ends)
     {- add-i -}

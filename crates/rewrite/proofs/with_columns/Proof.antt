@@ -1,19 +1,19 @@
--- `with_columns`: the columns passed are added, and the others are left.
+-- `with_columns`: the shown columns passed are added, and the others are left.
 use borrow.Author.Needs.{needs}
 use mathlib.Core.Path.{_≡_}
-use mathlib.Core.List.{[], _∷_}
 use Prim.Native.Nat.{_-_, _≤_}
+use Rattle.lists.specs.Lists.{select}
+use Rattle.masks.specs.Masks.{bit?}
 use Rattle.orders.specs.Orders.{order-from}
-use Rattle.grant.specs.Grants.{column-codes}
-use Rattle.rewrite.proofs.Turns.{codes-left, columns-ends}
+use Rattle.rewrite.proofs.Turns.{codes-left, columns-shown, columns-ends}
 use Rattle.rewrite.proofs.with_columns.Statement.{statement}
 use Rattle.rewrite.proofs.with_columns.Tie as tie
 
 abbrev Inv-loop : tie.InvT-loop
-Inv-loop order names s n m₀ c₀ m c = (n ≤ 6) × (order-from m₀ (column-codes names (s ∷ [])) ≡ order-from m (codes-left s c n))
+Inv-loop order names s mask n m₀ c₀ m c = (n ≤ 6) × (columns-shown m₀ names s mask ≡ order-from m (select (bit? mask) (codes-left s c n)))
 
 abbrev μ-loop : tie.MeasureT-loop
-μ-loop order names s n m₀ c₀ m c = n - c
+μ-loop order names s mask n m₀ c₀ m c = n - c
 
 pub with-columns-spec : {M : Type 1} → statement M
 with-columns-spec =
@@ -27,13 +27,13 @@ with-columns-spec =
     (λ c. search columns-ends)
     {- loop-holds -}
     (λ c. (search columns-ends, search columns-ends))
-    {- mul-with-code -}
+    {- mul-with-shown -}
     (λ c. search needs)
-    {- add-with-code -}
+    {- add-with-shown -}
     (λ c. search needs)
-    {- cast-with-code -}
+    {- cast-with-shown -}
     (λ c. search needs)
-    {- with-code-requires -}
+    {- with-shown-requires -}
     (λ c κs. search needs)
     {- add-c -}
     (λ c. search needs)

@@ -20,6 +20,8 @@ with-form-spec =
     (λ c κs. search needs)
     {- returns-2 -}
     (λ c. search form-ends)
+    {- order-requires -}
+    (λ c κs. search needs)
     {- order-columns-requires -}
     (λ c κs. search needs)
     {- with-keep-requires -}

@@ -1,6 +1,5 @@
 -- `with_join`: by its fields.
 use borrow.Author.Needs.{needs}
-use mathlib.Core.Path.{refl}
 use Rattle.plan.specs.Plans.{with-join}
 use Rattle.plan.proofs.Plan.with_join.Statement.{statement}
 use Rattle.plan.proofs.Plan.with_join.Tie as tie

@@ -1,6 +1,5 @@
 -- `with_rows`: by its fields.
 use borrow.Author.Needs.{needs}
-use mathlib.Core.Path.{refl}
 use Rattle.plan.specs.Plans.{with-rows}
 use Rattle.plan.proofs.Plan.with_rows.Statement.{statement}
 use Rattle.plan.proofs.Plan.with_rows.Tie as tie

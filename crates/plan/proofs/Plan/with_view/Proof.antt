@@ -1,6 +1,5 @@
 -- `with_view`: by its fields.
 use borrow.Author.Needs.{needs}
-use mathlib.Core.Path.{refl}
 use Rattle.plan.specs.Plans.{with-view}
 use Rattle.plan.proofs.Plan.with_view.Statement.{statement}
 use Rattle.plan.proofs.Plan.with_view.Tie as tie
@@ -14,7 +13,5 @@ with-view-spec =
     tie.close
     (tie.spec
     {- of-requires -}
-    (λ c κs. search needs)
-    {- with-views-requires -}
     (λ c κs. search needs)
     returns)

@@ -1,26 +1,26 @@
--- `with_seen`: three forms more.
+-- `put_seen`: three forms more.
 use borrow.Author.Needs.{needs}
 use Rattle.rewrite.proofs.Turns.{seen-made}
-use Rattle.rewrite.proofs.with_seen.Statement.{statement}
-use Rattle.rewrite.proofs.with_seen.Tie as tie
+use Rattle.rewrite.proofs.put_seen.Statement.{statement}
+use Rattle.rewrite.proofs.put_seen.Tie as tie
 
-pub with-seen-spec : {M : Type 1} → statement M
-with-seen-spec =
+pub put-seen-spec : {M : Type 1} → statement M
+put-seen-spec =
     tie.close
     (tie.spec
     {- with-columns-requires -}
     (λ c κs. search needs)
-    {- within-requires -}
-    (λ c κs. search needs)
     {- keep-requires -}
     (λ c κs. search needs)
-    {- with-requires -}
+    {- put-form-requires -}
     (λ c κs. search needs)
     {- under-requires -}
     (λ c κs. search needs)
-    {- with-requires-2 -}
+    {- put-form-requires-2 -}
     (λ c κs. search needs)
-    {- with-requires-3 -}
+    {- put-form-requires-3 -}
     (λ c κs. search needs)
+    {- same-length -}
+    (λ c. search needs)
     {- returns -}
     (λ c. search (seen-made)))
