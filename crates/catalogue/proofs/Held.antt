@@ -1,18 +1,31 @@
 -- A caller's roles and profile as numbers: as the code cuts them, and what they stand for.
-use mathlib.Core.Path.{_≡_, refl, sym, ap, ap₂, _∙_}
-use mathlib.Core.List.{List, [], _∷_, _++_, map}
-use Prim.Native.Nat.{ℕ, zero, suc, _+_, _*_, _-_, _≤_, _<_, min}
+use mathlib.Core.Path.{_≡_, refl, sym, ap, ap₂, _∙_, subst}
+use mathlib.Core.List.{List, [], _∷_, map, map-map}
+use mathlib.Core.Bool.{true, _&&_}
+use Prim.Native.Nat.{ℕ, zero, suc, _*_, _-_, _%_, _≤_, _<_, min}
 use native.Mathlib.Omega.{arith}
+use lib.Dec.{T}
 use lib.IntN.{ℤ, pos}
 use lib.ListN.{length, getD, take, length-take}
 use lib.Seq.{getD-take}
-use Rattle.lists.specs.Lists.{gather, count-from}
-use Rattle.lists.proofs.Counting.{map-places, map-alike}
+use Rattle.lists.specs.Lists.{every, gather, count-from}
+use Rattle.lists.proofs.Laws.{parts, and-r, T-true}
+use Rattle.lists.proofs.Counting.{map-places, map-alike, every-at}
+use Rattle.syntax.specs.Grammar.{Bytes, Entry}
+use Rattle.syntax.specs.Limits.{is-value}
+use Rattle.calls.specs.Validity.{valid-name, valid-caller}
+use Rattle.schema.proofs.Counted.{every-of-map}
+use Rattle.text.specs.Words.{name-of, value-kept}
 use Rattle.terms.specs.Terms.{biased}
+use Rattle.terms.proofs.Numbers.{biased-back}
 use Rattle.caller.specs.declared.Caller.{Caller}
-use Rattle.caller.specs.Callers.{roles-in, entries-in}
+use Rattle.caller.specs.Callers.{roles-in, entries-in, role-in, entry-in, caller-of, caller-sound}
+use Rattle.caller.proofs.Identifying.{sound-valid}
+use Rattle.nodes.specs.Nodes.{unbiased}
+use Rattle.nodes.specs.Profiles.{entry-at, profile-in}
 use Rattle.grant.specs.declared.Grant.{Grant}
 use Rattle.needs.specs.declared.Needs.{Needs}
+use Rattle.routes.specs.Opening.{caller-in}
 use Rattle.catalogue.specs.declared.Opened.{Opened}
 use Rattle.catalogue.specs.Callers.{roles-of, entry-numbers, numbers-of, profile-of}
 use Rattle.catalogue.specs.Opened.{opened-with}
@@ -49,3 +62,47 @@ module _ (w : Caller) where
         h
         ∙ ap₂ (opened-with o n place g ns ws) (ap (λ (m : ℕ). take m (w .role)) a ∙ first-places (w .role) k (omega arith) ∙ ap (λ (m : ℕ). map (λ x. getD (w .role) x 0) (count-from 0 m)) i)
         (ap₂ take b j ∙ numbers-first e (omega arith) ∙ ap (numbers-of w) l)
+
+-- ---- the numbers stand for the caller
+
+-- a value of 32 bits is kept
+value-back : (z : ℤ) → T (is-value z) → unbiased (biased z % 4294967296) ≡ z
+unfolding unbiased value-kept
+value-back z t =
+    let k : value-kept z ≡ z = rw (T-true (is-value z) t) in
+    let h = rw k at (biased-back z t) in
+    let e : biased z % 4294967296 ≡ biased z = omega (arith, h .0) in
+    rw e (h .1)
+
+module _ (w : Caller) where
+  abbrev value-at : ℕ → ℤ
+  value-at i = getD (w .value) i (pos 0)
+
+  profile-kept : (k : ℕ) → k ≤ 4 → ((i : ℕ) → i < k → unbiased (biased (value-at i) % 4294967296) ≡ value-at i) → profile-in (numbers-of w k) ≡ map (entry-in w) (count-from 0 k)
+  unfolding profile-in entry-at numbers-of entry-numbers entry-in gather count-from
+  profile-kept zero h f = refl
+  profile-kept (suc zero) h f = rw (f 0 (omega arith))
+  profile-kept (suc (suc zero)) h f = rw (f 0 (omega arith), f 1 (omega arith))
+  profile-kept (suc (suc (suc zero))) h f = rw (f 0 (omega arith), f 1 (omega arith), f 2 (omega arith))
+  profile-kept (suc (suc (suc (suc zero)))) h f = rw (f 0 (omega arith), f 1 (omega arith), f 2 (omega arith), f 3 (omega arith))
+  profile-kept (suc (suc (suc (suc (suc k))))) h f = absurd (omega arith)
+
+  -- a caller who may be lent has values of 32 bits
+  values-sound : caller-sound w ≡ true → (i : ℕ) → i < entries-in w → T (is-value (value-at i))
+  unfolding valid-caller caller-of entry-in
+  values-sound s i h =
+      let t = sound-valid w s in
+      let v : T (every (λ (e : Entry). valid-name (e .name) && is-value (e .value)) (map (entry-in w) (count-from 0 (entries-in w)))) = search parts in
+      let u = subst T (every-of-map (λ (e : Entry). valid-name (e .name) && is-value (e .value)) (entry-in w) (count-from 0 (entries-in w))) v in
+      and-r (valid-name (entry-in w i .name)) (is-value (value-at i))
+      (every-at (λ (j : ℕ). valid-name (entry-in w j .name) && is-value (value-at j)) 0 (entries-in w) u i (omega arith) (omega arith))
+
+  few : entries-in w ≤ 4
+  unfolding entries-in
+  few = omega arith
+
+  pub caller-held : caller-sound w ≡ true → caller-in (roles-of w) (profile-of w) ≡ caller-of w
+  unfolding caller-in caller-of roles-of profile-of role-in
+  caller-held s =
+      ap₂ (λ (rs : List Bytes) (es : List Entry). record { roles = rs; profile = es }) (map-map name-of (λ (i : ℕ). getD (w .role) i 0) (count-from 0 (roles-in w)))
+      (profile-kept (entries-in w) few (λ i h. value-back (value-at i) (values-sound s i h)))

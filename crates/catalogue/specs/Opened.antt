@@ -1,6 +1,6 @@
 -- What the grants of a catalogue open, and whether it may be lent: of all of them, and one grant after the other.
-use mathlib.Core.List.{List, []}
-use mathlib.Core.Bool.{Bool, _&&_}
+use mathlib.Core.List.{List}
+use mathlib.Core.Bool.{_&&_}
 use Prim.Native.Nat.{ℕ}
 use lib.Dec.{leb}
 use lib.ListN.{replicate}

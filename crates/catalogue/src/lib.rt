@@ -193,13 +193,7 @@ pub fn grant_at(grants: &[Grant], i: usize) -> Grant
 }
 
 // Returns what the grants of a catalogue open for a caller and a query, and whether the catalogue may be lent (refusal 12).
-pub fn open_all(
-    grants: &[Grant],
-    n: Needs,
-    names: &[u64],
-    granted: &[u32],
-    who: Caller,
-) -> Opened
+pub fn open_all(grants: &[Grant], n: Needs, names: &[u64], granted: &[u32], who: Caller) -> Opened
     ensures { λ r. ⌜ r ≡ opened-in n (now (names .entry)) (now (grants .entry)) (now (granted .entry)) (roles-of who) (profile-of who) ⌝ }
 {
     let count = grants.len();

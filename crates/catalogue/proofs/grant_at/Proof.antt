@@ -1,7 +1,7 @@
 -- `grant_at`: a walk of its code. In range, the place is i times the size of a grant past the pointer, and the grant is read there, whole; past the last
 -- a grant of zeros is made. Either is left in `_5`, which is then returned.
 use mathlib.Core.Path.{_≡_, refl, sym}
-use Prim.Native.Nat.{ℕ, _<_, _^_, _*_, _+_}
+use Prim.Native.Nat.{ℕ, _<_, _^_, _*_}
 use native.Mathlib.Omega.{arith}
 use mathlib.Core.List.{List, [], _∷_}
 use mathlib.Core.Bool.{not}
