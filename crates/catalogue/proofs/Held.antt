@@ -65,15 +65,6 @@ module _ (w : Caller) where
 
 -- ---- the numbers stand for the caller
 
--- a value of 32 bits is kept
-value-back : (z : ℤ) → T (is-value z) → unbiased (biased z % 4294967296) ≡ z
-unfolding unbiased value-kept
-value-back z t =
-    let k : value-kept z ≡ z = rw (T-true (is-value z) t) in
-    let h = rw k at (biased-back z t) in
-    let e : biased z % 4294967296 ≡ biased z = omega (arith, h .0) in
-    rw e (h .1)
-
 module _ (w : Caller) where
   abbrev value-at : ℕ → ℤ
   value-at i = getD (w .value) i (pos 0)
@@ -87,7 +78,6 @@ module _ (w : Caller) where
   profile-kept (suc (suc (suc (suc zero)))) h f = rw (f 0 (omega arith), f 1 (omega arith), f 2 (omega arith), f 3 (omega arith))
   profile-kept (suc (suc (suc (suc (suc k))))) h f = absurd (omega arith)
 
-  -- a caller who may be lent has values of 32 bits
   values-sound : caller-sound w ≡ true → (i : ℕ) → i < entries-in w → T (is-value (value-at i))
   unfolding valid-caller caller-of entry-in
   values-sound s i h =
@@ -97,6 +87,16 @@ module _ (w : Caller) where
       and-r (valid-name (entry-in w i .name)) (is-value (value-at i))
       (every-at (λ (j : ℕ). valid-name (entry-in w j .name) && is-value (value-at j)) 0 (entries-in w) u i (omega arith) (omega arith))
 
+  -- a caller who may be lent has values of 32 bits, which are kept
+  values-kept : caller-sound w ≡ true → (i : ℕ) → i < entries-in w → unbiased (biased (value-at i) % 4294967296) ≡ value-at i
+  unfolding unbiased value-kept
+  values-kept s i h =
+      let t = values-sound s i h in
+      let k : value-kept (value-at i) ≡ value-at i = rw (T-true (is-value (value-at i)) t) in
+      let l = rw k at (biased-back (value-at i) t) in
+      let e : biased (value-at i) % 4294967296 ≡ biased (value-at i) = omega (arith, l .0) in
+      rw e (l .1)
+
   few : entries-in w ≤ 4
   unfolding entries-in
   few = omega arith
@@ -105,4 +105,4 @@ module _ (w : Caller) where
   unfolding caller-in caller-of roles-of profile-of role-in
   caller-held s =
       ap₂ (λ (rs : List Bytes) (es : List Entry). record { roles = rs; profile = es }) (map-map name-of (λ (i : ℕ). getD (w .role) i 0) (count-from 0 (roles-in w)))
-      (profile-kept (entries-in w) few (λ i h. value-back (value-at i) (values-sound s i h)))
+      (profile-kept (entries-in w) few (values-kept s))

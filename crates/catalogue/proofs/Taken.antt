@@ -60,13 +60,6 @@ words-end o n place g ns ws roles profile e f h = rw (f, h, e)
 
 -- ---- the words of a place are a part of all, cut to what is there
 
-cut-to : (n m : ℕ) (xs : List ℕ) → n ≡ min m (length xs) → take n xs ≡ take m xs
-cut-to n m xs e = go (decLt m (length xs))
-  where
-    go : Dec (m < length xs) → take n xs ≡ take m xs
-    go (yes h) = let z : n ≡ m = omega arith in ap (λ (k : ℕ). take k xs) z
-    go (no h) = take-all n xs (omega arith) ∙ sym (take-all m xs (omega arith))
-
 module _ (ws : List ℕ) (i : ℕ) {a b : ℕ} (e : a ≡ min (i * grant-words) (length ws)) (f : b ≡ min (a + grant-words) (length ws)) where
   starts : drop a ws ≡ drop (i * grant-words) ws
   starts = go (decLt (i * grant-words) (length ws))
@@ -77,7 +70,11 @@ module _ (ws : List ℕ) (i : ℕ) {a b : ℕ} (e : a ≡ min (i * grant-words) 
 
   words-cut : take (b - a) (drop a ws) ≡ words-in ws i
   unfolding words-in
-  words-cut = cut-to (b - a) grant-words (drop a ws) (let z = length-drop a ws in omega arith) ∙ ap (take grant-words) starts
+  words-cut = let z = length-drop a ws in go (decLt (a + grant-words) (length ws)) z ∙ ap (take grant-words) starts
+    where
+      go : Dec (a + grant-words < length ws) → length (drop a ws) ≡ length ws - a → take (b - a) (drop a ws) ≡ take grant-words (drop a ws)
+      go (yes h) z = let y : b - a ≡ grant-words = omega arith in ap (λ (k : ℕ). take k (drop a ws)) y
+      go (no h) z = take-all (b - a) (drop a ws) (omega arith) ∙ sym (take-all grant-words (drop a ws) (omega arith))
 
 pub with-end : (o : Opened) (n : Needs) (place : ℕ) (g : Grant) (ns ws roles profile : List ℕ) {a b : ℕ} {r : Opened} → a ≡ min (place * 95) (length ws) → b ≡ min (a + 95) (length ws)
     → r ≡ with-words o n place g ns (take (b - a) (drop a ws)) roles profile → r ≡ opened-with o n place g ns ws roles profile
