@@ -66,6 +66,7 @@ fn is_limit(n: u32) -> bool
 
 // The role by its name's number; the right (0 read, 1 min, 2 max, 3 count, 4 avg, 5 sum); `count` streams by number; the shown columns as bits,
 // six places a stream; how many words its conditions take; its first and last time, or Grant::NONE; the least SIZE and OFFSET.
+#[repr(C)]
 pub struct Grant {
     pub role: u64,
     pub right: u32,
