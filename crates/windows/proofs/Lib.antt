@@ -1,5 +1,6 @@
 pub mod Jumps
 pub mod Skips
+pub mod Runs
 pub mod Tallies
 pub mod Folds
 pub mod Soundness
