@@ -52,13 +52,6 @@ returns c =
     let e = l .inv .7 in
     omega arith
 
--- the window of a turn
-here : (c : tie.In-loop Inv-loop μ-loop) → c .before .loop .inv .0 ≤ c .before .before .before .before .before .before .before .before .before .before .args .last
-here c =
-    let s = c .before .before .before .before .before .before .before .before .before .before in
-    let l = c .before .loop in
-    end-in (s .args .w .size) (s .args .w .offset) (l .inv .0) (s .args .last) (s .pre .0 .offset) (omega (arith, l .inv .1, l .inv .6))
-
 answer-at-requires : tie.Need-answer-at-requires Inv-loop μ-loop
 answer-at-requires c κs =
     let s = c .before .before .before .before .before .before .before .before .before .before .before in
@@ -69,7 +62,7 @@ counted-requires c κs =
     let s = c .before .before .before .before .before .before .before .before .before .before .before .before in
     let l = c .before .before .before .loop in
     let j = l .inv .0 in
-    let h = here (c .before .before) in
+    let h = end-in (s .args .w) j (s .args .last) (l .inv .1) (l .inv .6) (s .pre .0 .offset) (c .before .before .loop-test .taken) in
     let x = l .inv .2 in
     let m = held-below (s .args .w) (s .args .times .now) j (s .args .event) (s .pre .0 .offset) (s .pre .6 j (omega arith) (omega arith)) in
     omega (arith, l .inv .4, s .pre .0 .clock)
@@ -79,7 +72,7 @@ add-end-2 c =
     let s = c .before .before .before .before .before .before .before .before .before .before .before .before .before .before in
     let l = c .before .before .before .before .before .loop in
     let j = l .inv .0 in
-    let h = here (c .before .before .before .before) in
+    let h = end-in (s .args .w) j (s .args .last) (l .inv .1) (l .inv .6) (s .pre .0 .offset) (c .before .before .before .before .loop-test .taken) in
     let x = l .inv .2 in
     omega (arith, l .inv .1, s .pre .6 j (omega arith) (omega arith) .ended, s .pre .0 .clock, s .pre .0 .offsets)
 
@@ -92,7 +85,7 @@ loop-again c =
     let a = s .args in
     let l = c .before .before .before .before .before .loop in
     let j = l .inv .0 in
-    let h = here (c .before .before .before .before) in
+    let h = end-in (s .args .w) j (s .args .last) (l .inv .1) (l .inv .6) (s .pre .0 .offset) (c .before .before .before .before .loop-test .taken) in
     let v = c .before .before .answer-at in
     let n = c .before .counted .ensures in
     let i = c .before .before .before .if1 .left in
@@ -111,7 +104,7 @@ returns-2 c =
     let a = c .before .before .before .before .before .before .before .before .before .before .args in
     let l = c .before .loop in
     let j = l .inv .0 in
-    let d = end-out (a .w .size) (a .w .offset) j (a .last) (omega (arith, l .inv .1, l .inv .6)) (l .inv .3) in
+    let d = end-out (a .w) j (a .last) (l .inv .1) (l .inv .6) (c .loop-test .left) (l .inv .3) in
     let g = ap length (run-done (a .w) (fn-of (a .f)) (a .times .now) (a .counts .now) (a .parts .now) (a .words .now) (a .picks .now) (a .event) j (a .last + 1) (omega arith)) in
     let o = l .inv .5 in
     let e = l .inv .7 in

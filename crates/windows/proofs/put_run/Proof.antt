@@ -50,13 +50,6 @@ loop-holds c =
     let a = c .before .before .before .before .before .before .before .before .args in
     (a .k, refl, omega arith, omega arith, omega arith, refl, refl, refl, refl)
 
--- the window of a turn
-here : (c : tie.In-loop Inv-loop μ-loop) → c .before .loop .inv .0 ≤ c .before .before .before .before .before .before .before .before .before .before .args .last
-here c =
-    let s = c .before .before .before .before .before .before .before .before .before .before in
-    let l = c .before .loop in
-    end-in (s .args .w .size) (s .args .w .offset) (l .inv .0) (s .args .last) (s .pre .0 .offset) (omega (arith, l .inv .1, l .inv .5))
-
 answer-at-requires : tie.Need-answer-at-requires Inv-loop μ-loop
 answer-at-requires c κs =
     let s = c .before .before .before .before .before .before .before .before .before .before in
@@ -67,7 +60,7 @@ put-requires c κs =
     let s = c .before .before .before .before .before .before .before .before .before .before .before .before in
     let l = c .before .before .before .loop in
     let j = l .inv .0 in
-    let h = here (c .before .before) in
+    let h = end-in (s .args .w) j (s .args .last) (l .inv .1) (l .inv .5) (s .pre .0 .offset) (c .before .before .loop-test .taken) in
     let x = l .inv .2 in
     let m = held-below (s .args .w) (s .args .times .now) j (s .args .event) (s .pre .0 .offset) (s .pre .5 j (omega arith) (omega arith)) in
     omega (arith, l .inv .4, s .pre .0 .clock)
@@ -77,7 +70,7 @@ add-end-2 c =
     let s = c .before .before .before .before .before .before .before .before .before .before .before .before .before .before .before in
     let l = c .before .before .before .before .before .before .loop in
     let j = l .inv .0 in
-    let h = here (c .before .before .before .before .before) in
+    let h = end-in (s .args .w) j (s .args .last) (l .inv .1) (l .inv .5) (s .pre .0 .offset) (c .before .before .before .before .before .loop-test .taken) in
     let x = l .inv .2 in
     omega (arith, l .inv .1, s .pre .5 j (omega arith) (omega arith) .ended, s .pre .0 .clock, s .pre .0 .offsets)
 
@@ -90,7 +83,7 @@ loop-again c =
     let a = s .args in
     let l = c .before .before .before .before .before .before .loop in
     let j = l .inv .0 in
-    let h = here (c .before .before .before .before .before) in
+    let h = end-in (s .args .w) j (s .args .last) (l .inv .1) (l .inv .5) (s .pre .0 .offset) (c .before .before .before .before .before .loop-test .taken) in
     let v = c .before .before .before .before .answer-at in
     let b = c .before .before .put .ensures in
     let g = one-few (a .words .now) (a .picks .now) (v .result) in
@@ -120,7 +113,7 @@ returns c =
     let a = c .before .before .before .before .before .before .before .before .before .before .args in
     let l = c .before .loop in
     let j = l .inv .0 in
-    let d = end-out (a .w .size) (a .w .offset) j (a .last) (omega (arith, l .inv .1, l .inv .5)) (l .inv .3) in
+    let d = end-out (a .w) j (a .last) (l .inv .1) (l .inv .5) (c .loop-test .left) (l .inv .3) in
     let n = run-done (a .w) (fn-of (a .f)) (a .times .now) (a .counts .now) (a .parts .now) (a .words .now) (a .picks .now) (a .event) j (a .last + 1) (omega arith) in
     let g = ap length n in
     let e = l .inv .7 in
