@@ -1,9 +1,14 @@
+pub mod Front
+pub mod Ordering
 pub mod Adding
 pub mod Compacted
 pub mod Merged
+pub mod Passing
 pub mod Tests
+pub mod Places
 pub mod Grouping
 pub mod Items
 pub mod Prefix
 pub mod Joins
+pub mod Joined
 pub mod Streaming

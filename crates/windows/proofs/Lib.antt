@@ -1,7 +1,9 @@
 pub mod Jumps
 pub mod Skips
+pub mod Runs
 pub mod Tallies
 pub mod Folds
+pub mod Rising
 pub mod Soundness
 pub mod Picks
 pub mod Sums

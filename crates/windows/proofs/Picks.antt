@@ -1,27 +1,28 @@
 -- The answer rows that pass, counted and written row by row.
 use mathlib.Core.Path.{_≡_, refl, sym, ap, ap₂, _∙_}
-use mathlib.Core.List.{List, [], _∷_, _++_}
-use mathlib.Core.Bool.{Bool, true, false, not, cond, true≢false}
-use Prim.Native.Nat.{ℕ, suc, _+_, _*_, _-_, _≤_}
+use mathlib.Core.List.{List, [], _∷_, _++_, map}
+use mathlib.Core.Bool.{Bool, true, false, not, cond}
+use Prim.Native.Nat.{ℕ, suc, _+_, _*_, _-_, _≤_, _<_}
 use native.Mathlib.Omega.{arith}
 use lib.IntN.{ℤ, pos}
-use lib.ListN.{length, set, length-set}
+use lib.ListN.{length, set, length-set, length-append}
 use lib.Seq.{sets, length-sets, set-out}
 use borrow.Author.Tests.{not-true, not-false}
-use Rattle.lists.specs.Lists.{select, every, gather}
-use Rattle.lists.proofs.Laws.{select-all}
+use Rattle.lists.specs.Lists.{select, every, gather, count-from}
+use Rattle.lists.proofs.Laws.{All, all-nil, all-cons, all-map, all-any, all-select, select-all, gather-append}
+use Rattle.lists.proofs.Counting.{count-done, map-length}
 use Rattle.syntax.specs.Grammar.{Fn}
 use Rattle.model.specs.Queries.{Row}
 use Rattle.model.specs.Answers.{row-cells}
 use Rattle.figures.specs.declared.Answer.{Answer}
 use Rattle.figures.specs.Figures.{row-of, passing}
 use Rattle.windows.specs.Events.{figure-in, window-tally, events-from}
-use Rattle.windows.specs.Windows.{Timed, Sought, answers-from, answers}
-use Rattle.windows.specs.Lent.{events-sound, answers-in, passing-row, picked-rows, Put, Written}
+use Rattle.windows.specs.Windows.{Timed, Sought, Runs, window-row, run-rows, answers-from, answers}
+use Rattle.windows.specs.Lent.{events-sound, answers-in, passing-row, picked-rows, Behind, Written}
 use Rattle.windows.specs.declared.Event.{Event}
 use Rattle.windows.specs.declared.Windows.{Windows}
 use Rattle.windows.specs.declared.Place.{Place}
-use Rattle.windows.proofs.Skips.{answers-all, sought-row, sought-none-left}
+use Rattle.windows.proofs.Skips.{select-few, answers-all, sought-run, sought-none-left}
 
 -- ---- two cells
 
@@ -42,12 +43,49 @@ module _ (cells : List ℤ) (at : ℕ) (a : Answer) where
   unfolding row-cells
   store-both = refl
 
--- two cells and then the rest
-sets-row : (cells cells′ : List ℤ) (place : ℕ) (a : Answer) (rest : List ℤ) → cells′ ≡ sets cells place (row-cells (row-of a)) → sets cells′ (place + 2) rest ≡ sets cells place (row-cells (row-of a) ++ rest)
-unfolding row-cells
-sets-row cells cells′ place a rest e =
-    let t : place + 2 ≡ suc (suc place) = omega arith in
-    rw (t, e)
+-- ---- rows of one value: two cells each
+
+abbrev pub Single : Row → Type 0
+Single r = length (r .values) ≡ 1
+
+sets-rows : (cells : List ℤ) (place : ℕ) {rs : List Row} → All Single rs → (rest : List ℤ) → sets (sets cells place (gather row-cells rs)) (place + length rs * 2) rest ≡ sets cells place (gather row-cells rs ++ rest)
+unfolding gather row-cells
+sets-rows cells place all-nil rest = let e : place + 0 * 2 ≡ place = omega arith in rw e
+sets-rows cells place (all-cons {x} {xs} h hs) rest = go (x .values) h (λ l k. sets-rows l k hs rest)
+  where
+    go : (vs : List ℤ) → length vs ≡ 1 → ((l : List ℤ) (k : ℕ) → sets (sets l k (gather row-cells xs)) (k + length xs * 2) rest ≡ sets l k (gather row-cells xs ++ rest))
+        → sets (sets cells place (pos (x .at) ∷ vs ++ gather row-cells xs)) (place + suc (length xs) * 2) rest ≡ sets cells place ((pos (x .at) ∷ vs ++ gather row-cells xs) ++ rest)
+    go [] e r = absurd (omega arith)
+    go (v ∷ []) e r =
+        let n : place + suc (length xs) * 2 ≡ suc (suc place) + length xs * 2 = omega arith in
+        rw n (r (set (set cells place (pos (x .at))) (suc place) v) (suc (suc place)))
+    go (v ∷ u ∷ vs) e r = absurd (omega arith)
+
+-- ---- rows behind others
+
+pub counted-more : (more rest : List Row) {rs : List Row} {r : ℕ} (rows : ℕ) → r ≡ rows + length more → rs ≡ more ++ rest → r + length rest ≡ rows + length rs
+counted-more more rest rows n e =
+    let m = ap length e in
+    let l = length-append more rest in
+    omega arith
+
+module _ {more : List Row} {cells : List ℤ} {at rows : ℕ} {cells′ : List ℤ} {r : ℕ} (b : Behind more cells at rows cells′ r) where
+  pub behind-length : length cells′ ≡ length cells
+  behind-length = ap length (b .cells-left) ∙ length-sets cells (at + rows * 2) (gather row-cells more)
+
+  pub behind-rows : {rs : List Row} (rest : List Row) → rs ≡ more ++ rest → r + length rest ≡ rows + length rs
+  behind-rows rest e = counted-more more rest rows (b .counted) e
+
+  pub behind-cells : {rs : List Row} (rest : List Row) → All Single more → rs ≡ more ++ rest → sets cells′ (at + r * 2) (gather row-cells rest) ≡ sets cells (at + rows * 2) (gather row-cells rs)
+  behind-cells rest s e =
+      let n = b .counted in
+      let m : at + r * 2 ≡ at + rows * 2 + length more * 2 = omega arith in
+      rw (m, b .cells-left, e, gather-append row-cells more rest) (sets-rows cells (at + rows * 2) s (gather row-cells rest))
+
+-- no rows
+pub written-none : (cells : List ℤ) (at : ℕ) → Written [] cells at cells 0
+unfolding gather
+written-none cells at = record { cells-left = refl; counted = refl }
 
 -- ---- rows that pass
 
@@ -56,25 +94,27 @@ module _ (ws ks : List ℕ) where
   unfolding passing passing-row
   passing-is a = refl
 
-  picked-kept : (r : Row) (rs : List Row) → passing-row ws ks r ≡ true → picked-rows ws ks (r ∷ rs) ≡ r ∷ picked-rows ws ks rs
+  picked-append : (xs ys : List Row) → picked-rows ws ks (xs ++ ys) ≡ picked-rows ws ks xs ++ picked-rows ws ks ys
   unfolding picked-rows select
-  picked-kept r rs e = rw e
-
-  picked-left : (r : Row) (rs : List Row) → passing-row ws ks r ≡ false → picked-rows ws ks (r ∷ rs) ≡ picked-rows ws ks rs
-  unfolding picked-rows select
-  picked-left r rs e = rw e
+  picked-append [] ys = refl
+  picked-append (x ∷ xs) ys = go (passing-row ws ks x) (picked-append xs ys)
+    where
+      go : (b : Bool) → select (passing-row ws ks) (xs ++ ys) ≡ select (passing-row ws ks) xs ++ select (passing-row ws ks) ys
+          → cond b (x ∷ select (passing-row ws ks) (xs ++ ys)) (select (passing-row ws ks) (xs ++ ys)) ≡ cond b (x ∷ select (passing-row ws ks) xs) (select (passing-row ws ks) xs) ++ select (passing-row ws ks) ys
+      go true e = ap (λ l. x ∷ l) e
+      go false e = e
 
   pub picked-none : picked-rows ws ks [] ≡ []
   unfolding picked-rows select
   picked-none = refl
 
-  pub picked-more : (r : Row) (rs : List Row) → length (picked-rows ws ks (r ∷ rs)) ≡ length (picked-rows ws ks (r ∷ [])) + length (picked-rows ws ks rs)
-  unfolding picked-rows select
-  picked-more r rs = go (passing-row ws ks r)
-    where
-      go : (b : Bool) → length (cond b (r ∷ picked-rows ws ks rs) (picked-rows ws ks rs)) ≡ length (cond b (r ∷ []) []) + length (picked-rows ws ks rs)
-      go true = omega arith
-      go false = omega arith
+  picked-single : {rs : List Row} → All Single rs → All Single (picked-rows ws ks rs)
+  unfolding picked-rows
+  picked-single s = all-select (passing-row ws ks) (λ r _ h. h) s
+
+  picked-few : (rs : List Row) → length (picked-rows ws ks rs) ≤ length rs
+  unfolding picked-rows
+  picked-few rs = select-few (passing-row ws ks) rs
 
   -- no condition applies
   pub picked-all : length ks ≡ 0 → (rs : List Row) → picked-rows ws ks rs ≡ rs
@@ -85,83 +125,73 @@ module _ (ws ks : List ℕ) where
       go [] h = select-all (passing-row ws []) (λ r. tt) rs
       go (k ∷ ks) h = absurd (omega arith)
 
-  module _ (a : Answer) {b : Bool} (e : b ≡ passing ws ks a) where
-    pub count-kept : (rows : ℕ) → not b ≡ false → rows + 1 ≡ rows + length (picked-rows ws ks (row-of a ∷ []))
-    count-kept rows h = let l = ap length (picked-kept (row-of a) [] (sym (passing-is a) ∙ sym e ∙ not-false b h) ∙ ap (λ (rs : List Row). row-of a ∷ rs) picked-none) in omega arith
+  -- ---- one answer row
 
-    pub count-left : (rows : ℕ) → not b ≡ true → rows ≡ rows + length (picked-rows ws ks (row-of a ∷ []))
-    count-left rows h = let l = ap length (picked-left (row-of a) [] (sym (passing-is a) ∙ sym e ∙ not-true b h) ∙ picked-none) in omega arith
+  module _ (a : Answer) where
+    abbrev pub picked-one : List Row
+    picked-one = picked-rows ws ks (row-of a ∷ [])
 
-    pub put-left : (cells : List ℤ) (at rows : ℕ) → not b ≡ true → Put ws ks a cells at rows cells rows
-    put-left cells at rows h =
-        record {
-          kept = λ t. absurd (true≢false (sym t ∙ sym (passing-is a) ∙ sym e ∙ not-true b h));
-          left = λ t. (refl, refl);
-        }
+    pub one-single : All Single picked-one
+    one-single = picked-single (all-cons {x = row-of a} refl all-nil)
 
-    pub put-kept : (cells : List ℤ) (at rows : ℕ) {cells′ : List ℤ} → not b ≡ false → cells′ ≡ sets cells (at + rows * 2) (row-cells (row-of a)) → Put ws ks a cells at rows cells′ (rows + 1)
-    put-kept cells at rows h f =
-        record {
-          kept = λ t. (f, refl);
-          left = λ t. absurd (true≢false (sym (not-false b h) ∙ e ∙ passing-is a ∙ t));
-        }
+    pub one-few : length picked-one ≤ 1
+    one-few = picked-few (row-of a ∷ [])
 
-  -- ---- an answer row more
+    module _ {b : Bool} (e : b ≡ passing ws ks a) where
+      one-kept : not b ≡ false → picked-one ≡ row-of a ∷ []
+      unfolding picked-rows select
+      one-kept h = rw (sym (passing-is a) ∙ sym e ∙ not-false b h)
 
-  module _ {a : Answer} {cells : List ℤ} {at rows : ℕ} {cells′ : List ℤ} {r : ℕ} (p : Put ws ks a cells at rows cells′ r) where
-    pub put-cells : (rs : List Row) → sets cells′ (at + r * 2) (gather row-cells (picked-rows ws ks rs)) ≡ sets cells (at + rows * 2) (gather row-cells (picked-rows ws ks (row-of a ∷ rs)))
-    unfolding gather
-    put-cells rs = go (passing-row ws ks (row-of a)) refl
-      where
-        go : (b : Bool) → passing-row ws ks (row-of a) ≡ b → sets cells′ (at + r * 2) (gather row-cells (picked-rows ws ks rs)) ≡ sets cells (at + rows * 2) (gather row-cells (picked-rows ws ks (row-of a ∷ rs)))
-        go true e =
-            let q = p .kept e in
-            let n = q .1 in
-            let m : at + r * 2 ≡ at + rows * 2 + 2 = omega arith in
-            rw (picked-kept (row-of a) rs e, m) (sets-row cells cells′ (at + rows * 2) a (gather row-cells (picked-rows ws ks rs)) (q .0))
-        go false e =
-            let q = p .left e in
-            rw (picked-left (row-of a) rs e, q .0, q .1)
+      one-left : not b ≡ true → picked-one ≡ []
+      unfolding picked-rows select
+      one-left h = rw (sym (passing-is a) ∙ sym e ∙ not-true b h)
 
-    pub put-rows : (rs : List Row) → r + length (picked-rows ws ks rs) ≡ rows + length (picked-rows ws ks (row-of a ∷ rs))
-    put-rows rs = go (passing-row ws ks (row-of a)) refl
-      where
-        go : (b : Bool) → passing-row ws ks (row-of a) ≡ b → r + length (picked-rows ws ks rs) ≡ rows + length (picked-rows ws ks (row-of a ∷ rs))
-        go true e = let q = p .kept e .1 in let l = ap length (picked-kept (row-of a) rs e) in omega arith
-        go false e = let q = p .left e .1 in let l = ap length (picked-left (row-of a) rs e) in omega arith
+      pub count-kept : (rows : ℕ) → not b ≡ false → rows + 1 ≡ rows + length picked-one
+      count-kept rows h = let l = ap length (one-kept h) in omega arith
 
-    pub put-few : r ≤ rows + 1
-    put-few = go (passing-row ws ks (row-of a)) refl
-      where
-        go : (b : Bool) → passing-row ws ks (row-of a) ≡ b → r ≤ rows + 1
-        go true e = let q = p .kept e .1 in omega arith
-        go false e = let q = p .left e .1 in omega arith
+      pub count-left : (rows : ℕ) → not b ≡ true → rows ≡ rows + length picked-one
+      count-left rows h = let l = ap length (one-left h) in omega arith
 
-    pub put-length : length cells′ ≡ length cells
-    put-length = go (passing-row ws ks (row-of a)) refl
-      where
-        go : (b : Bool) → passing-row ws ks (row-of a) ≡ b → length cells′ ≡ length cells
-        go true e = ap length (p .kept e .0) ∙ length-sets cells (at + rows * 2) (row-cells (row-of a))
-        go false e = ap length (p .left e .0)
+      pub put-left : (cells : List ℤ) (at rows : ℕ) → not b ≡ true → Behind picked-one cells at rows cells rows
+      unfolding gather
+      put-left cells at rows h = record { cells-left = rw (one-left h); counted = count-left rows h }
 
-  pub counted-few : (a : Answer) → length (picked-rows ws ks (row-of a ∷ [])) ≤ 1
-  unfolding picked-rows select
-  counted-few a = go (passing-row ws ks (row-of a))
-    where
-      go : (b : Bool) → length (cond b (row-of a ∷ []) []) ≤ 1
-      go true = omega arith
-      go false = omega arith
+      pub put-kept : (cells : List ℤ) (at rows : ℕ) {cells′ : List ℤ} → not b ≡ false → cells′ ≡ sets cells (at + rows * 2) (row-cells (row-of a)) → Behind picked-one cells at rows cells′ (rows + 1)
+      unfolding gather row-cells
+      put-kept cells at rows h f = record { cells-left = rw (one-kept h) f; counted = count-kept rows h }
 
--- no rows
-pub written-none : (cells : List ℤ) (at : ℕ) → Written [] cells at cells 0
-unfolding gather
-written-none cells at = record { cells-left = refl; counted = refl }
-
--- ---- window by window
+-- ---- run by run, and window by window
 
 module _ (w : Windows) (f : Fn) (ts cs : List ℕ) (ps : List ℤ) (ws ks : List ℕ) where
   abbrev es : List Event
   es = events-from ts cs ps 0
+
+  -- the rows that pass of a run
+  abbrev pub run-left : ℕ → ℕ → ℕ → List Row
+  run-left i k n = picked-rows ws ks (run-rows w f ts cs ps i k n)
+
+  pub run-single : (i k n : ℕ) → All Single (run-left i k n)
+  unfolding run-rows window-row
+  run-single i k n = picked-single ws ks (all-map (window-row w f ts cs ps i) (λ j _. refl) (all-any (count-from k (n - k))))
+
+  pub run-few : (i k n : ℕ) → length (run-left i k n) ≤ n - k
+  unfolding run-rows
+  run-few i k n =
+      let a = picked-few ws ks (run-rows w f ts cs ps i k n) in
+      let b = map-length (window-row w f ts cs ps i) k (n - k) in
+      omega arith
+
+  pub run-done : (i k n : ℕ) → n ≤ k → run-left i k n ≡ []
+  unfolding run-rows
+  run-done i k n h = rw (count-done k n h) (picked-none ws ks)
+
+  -- one window more
+  pub run-next : (i k n : ℕ) → k < n → (a : Answer) {end : ℕ} → end ≡ k * w .offset + w .size → a .end ≡ end → a .figure ≡ figure-in f (window-tally f ts cs ps i end) → run-left i k n ≡ picked-rows ws ks (row-of a ∷ []) ++ run-left i (k + 1) n
+  unfolding run-rows window-row
+  run-next i k n l a {end} e x y =
+      ap (λ ls. picked-rows ws ks (map (window-row w f ts cs ps i) ls)) (Rattle.lists.proofs.Counting.count-left k n l)
+      ∙ ap₂ (λ (u : ℕ) (v : ℤ). picked-rows ws ks (record { at = u; values = v ∷ [] } ∷ run-rows w f ts cs ps i (k + 1) n)) (sym (x ∙ e)) (sym (y ∙ ap (λ (u : ℕ). figure-in f (window-tally f ts cs ps i u)) e))
+      ∙ picked-append ws ks (row-of a ∷ []) (run-rows w f ts cs ps i (k + 1) n)
 
   -- the rows that pass of the windows from number k on
   unfoldable pub rows-left : ℕ → List Row
@@ -175,34 +205,9 @@ module _ (w : Windows) (f : Fn) (ts cs : List ℕ) (ps : List ℤ) (ws ks : List
   unfolding rows-left
   rows-none k p s e = ap (picked-rows ws ks) (sought-none-left w f ts cs ps k p s e) ∙ picked-none ws ks
 
-  module _ (k : ℕ) (p : Place) (o : 1 ≤ w .offset) (t : Timed (w .clock) ts) (s : Sought w ts k p) (e : p .found ≡ true)
-      (a : Answer) (end : ℕ) (n : end ≡ p .window * w .offset + w .size) (x : a .end ≡ end) (y : a .figure ≡ figure-in f (window-tally f ts cs ps (p .event) end)) where
-    rows-next : answers-from w f es k ≡ row-of a ∷ answers-from w f es (p .window + 1)
-    rows-next =
-        sought-row w f ts cs ps k p o t s e
-        ∙ ap₂ (λ (u : ℕ) (v : ℤ). record { at = u; values = v ∷ [] } ∷ answers-from w f es (p .window + 1)) (sym (x ∙ n))
-        (sym (y ∙ ap (λ (u : ℕ). figure-in f (window-tally f ts cs ps (p .event) u)) n))
-
-    pub left-next : rows-left k ≡ picked-rows ws ks (row-of a ∷ answers-from w f es (p .window + 1))
-    unfolding rows-left
-    left-next = ap (picked-rows ws ks) rows-next
-
-    pub left-counted : {r : ℕ} (rows : ℕ) → r ≡ rows + length (picked-rows ws ks (row-of a ∷ [])) → r + length (rows-left (p .window + 1)) ≡ rows + length (rows-left k)
-    unfolding rows-left
-    left-counted {r} rows h =
-        let l = ap length rows-next in
-        let m = picked-more ws ks (row-of a) (answers-from w f es (p .window + 1)) in
-        let q = ap (λ (rs : List Row). length (picked-rows ws ks rs)) rows-next in
-        omega arith
-
-    module _ {cells : List ℤ} {at rows : ℕ} {cells′ : List ℤ} {r : ℕ} (q : Put ws ks a cells at rows cells′ r) where
-      pub left-cells : sets cells′ (at + r * 2) (gather row-cells (rows-left (p .window + 1))) ≡ sets cells (at + rows * 2) (gather row-cells (rows-left k))
-      unfolding rows-left
-      left-cells = put-cells ws ks q (answers-from w f es (p .window + 1)) ∙ ap (λ (rs : List Row). sets cells (at + rows * 2) (gather row-cells rs)) (sym (ap (picked-rows ws ks) rows-next))
-
-      pub left-rows : r + length (rows-left (p .window + 1)) ≡ rows + length (rows-left k)
-      unfolding rows-left
-      left-rows = put-rows ws ks q (answers-from w f es (p .window + 1)) ∙ ap (λ (rs : List Row). rows + length (picked-rows ws ks rs)) (sym rows-next)
+  pub rows-next : (k : ℕ) (p : Place) → 1 ≤ w .offset → Timed (w .clock) ts → Sought w ts k p → p .found ≡ true → (n : ℕ) → p .window ≤ n → Runs w ts (p .event) (p .window) n → rows-left k ≡ run-left (p .event) (p .window) n ++ rows-left n
+  unfolding rows-left
+  rows-next k p o t s e n l h = ap (picked-rows ws ks) (sought-run w f ts cs ps k p o t s e n l h) ∙ picked-append ws ks (run-rows w f ts cs ps (p .event) (p .window) n) (answers-from w f es n)
 
 -- ---- events that may be lent, and others
 

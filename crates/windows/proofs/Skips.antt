@@ -1,5 +1,5 @@
 -- The answer rows are those of the windows that are visited: a window with no event gives none, and so does one that has not ended.
-use mathlib.Core.Path.{_≡_, refl, sym, _∙_}
+use mathlib.Core.Path.{_≡_, refl, sym, ap, _∙_}
 use mathlib.Core.List.{List, [], _∷_, _++_, map}
 use mathlib.Core.Bool.{Bool, true, false, cond}
 use Prim.Native.Nat.{ℕ, zero, suc, _+_, _*_, _-_, _/_, _≤_, _<_}
@@ -9,16 +9,16 @@ use native.Mathlib.Nat.{div-lt-iff-lt-mul, sub-zero, mul-le-mul-left}
 use native.Mathlib.Numerals.{add-one}
 use lib.IntN.{ℤ}
 use lib.Dec.{leb, ltb}
-use lib.ListN.{length, getD}
+use lib.ListN.{length, getD, length-append}
 use borrow.Author.Tests.{le-leb, leb-true, lt-ltb}
 use Rattle.lists.specs.Lists.{select, gather, count-from}
 use Rattle.lists.proofs.Laws.{append-nil}
-use Rattle.lists.proofs.Counting.{count-left, count-done}
+use Rattle.lists.proofs.Counting.{count-left, count-done, map-length}
 use Rattle.syntax.specs.Grammar.{Fn}
 use Rattle.model.specs.Queries.{Row}
 use Rattle.model.specs.Aggregates.{closed}
-use Rattle.windows.specs.Events.{in-span, event-row, event-window, event-figures, event-at, events-from, figure-in, window-tally}
-use Rattle.windows.specs.Windows.{Timed, Before, Idle, Holds, Sought, answers-from, answers, ahead}
+use Rattle.windows.specs.Events.{in-span, event-row, event-window, event-figures, event-at, events-from, window-tally}
+use Rattle.windows.specs.Windows.{Timed, Before, Idle, Holds, Sought, Runs, window-row, run-rows, answers-from, answers, ahead}
 use Rattle.windows.specs.declared.Event.{Event}
 use Rattle.windows.specs.declared.Windows.{Windows}
 use Rattle.windows.specs.declared.Place.{Place}
@@ -55,6 +55,16 @@ pub select-alike : {A : Type 0} (p q : A → Bool) (f : ℕ → A) (a n : ℕ) �
 unfolding select count-from
 select-alike p q f a zero e = refl
 select-alike p q f a (suc n) e = rw (e a (omega arith) (omega arith), select-alike p q f (suc a) n (λ m l k. e m (omega arith) (omega arith)))
+
+-- no more than there were
+pub select-few : {A : Type 0} (p : A → Bool) (xs : List A) → length (select p xs) ≤ length xs
+unfolding select
+select-few p [] = omega arith
+select-few p (x ∷ xs) = go (p x) (select-few p xs)
+  where
+    go : (b : Bool) → length (select p xs) ≤ length xs → length (cond b (x ∷ select p xs) (select p xs)) ≤ suc (length xs)
+    go true h = omega arith
+    go false h = omega arith
 
 -- ---- windows
 
@@ -113,11 +123,8 @@ module _ (w : Windows) (f : Fn) (ts cs : List ℕ) (ps : List ℤ) where
   skip-all k i = skip-to top k (λ j h l. i j h) ∙ past (k + top) (omega arith)
 
   -- a window that has ended and holds an event gives a row
-  abbrev pub figure-row : ℕ → ℕ → Row
-  figure-row k i = record { at = k * w .offset + w .size; values = figure-in f (window-tally f ts cs ps i (k * w .offset + w .size)) ∷ [] }
-
-  held : (k i : ℕ) → Timed (w .clock) ts → Holds w ts k i → event-window f (w .size) (w .offset) es k ≡ figure-row k i ∷ []
-  unfolding event-window event-row events-from event-at window-tally
+  held : (k i : ℕ) → Timed (w .clock) ts → Holds w ts k i → event-window f (w .size) (w .offset) es k ≡ window-row w f ts cs ps i k ∷ []
+  unfolding event-window event-row events-from event-at window-tally window-row
   held k i t h =
       let p : Event → Bool = λ e. in-span (w .size) (w .offset) k (e .time) in
       let q : Event → Bool = λ e. ltb (e .time) (k * w .offset + w .size) in
@@ -136,7 +143,7 @@ module _ (w : Windows) (f : Fn) (ts cs : List ℕ) (ps : List ℤ) where
           let b = h .begins in
           between (w .size) (w .offset) k (getD ts m 0) (omega arith)
 
-  pub held-row : (k i : ℕ) → 1 ≤ w .offset → Timed (w .clock) ts → Holds w ts k i → rest k ≡ figure-row k i ∷ rest (k + 1)
+  pub held-row : (k i : ℕ) → 1 ≤ w .offset → Timed (w .clock) ts → Holds w ts k i → rest k ≡ window-row w f ts cs ps i k ∷ rest (k + 1)
   unfolding gather
   held-row k i o t h = step k (below (decLt k top)) ∙ rw (le-leb (k * w .offset + w .size) (w .clock) (h .ended), held k i t h)
     where
@@ -151,10 +158,29 @@ module _ (w : Windows) (f : Fn) (ts cs : List ℕ) (ps : List ℤ) where
   pub sought-none-left : (k : ℕ) (r : Place) → Sought w ts k r → r .found ≡ false → rest k ≡ []
   sought-none-left k r s e = skip-all k (s .none e)
 
-  pub sought-row : (k : ℕ) (r : Place) → 1 ≤ w .offset → Timed (w .clock) ts → Sought w ts k r → r .found ≡ true → rest k ≡ figure-row (r .window) (r .event) ∷ rest (r .window + 1)
-  sought-row k r o t s e =
+  -- a run of windows gives a row each
+  run-more : (i d k : ℕ) → 1 ≤ w .offset → Timed (w .clock) ts → Runs w ts i k (k + d) → rest k ≡ map (window-row w f ts cs ps i) (count-from k d) ++ rest (k + d)
+  unfolding count-from
+  run-more i zero k o t h =
+      let e : k + 0 ≡ k = omega arith in
+      rw e
+  run-more i (suc d) k o t h =
+      let e : k + suc d ≡ k + 1 + d = omega arith in
+      rw (e, ← add-one k) (held-row k i o t (h k (omega arith) (omega arith)) ∙ ap (λ l. window-row w f ts cs ps i k ∷ l) (run-more i d (k + 1) o t (λ j a b. h j (omega arith) (omega arith))))
+
+  pub sought-run : (k : ℕ) (r : Place) → 1 ≤ w .offset → Timed (w .clock) ts → Sought w ts k r → r .found ≡ true → (n : ℕ) → r .window ≤ n → Runs w ts (r .event) (r .window) n
+      → rest k ≡ run-rows w f ts cs ps (r .event) (r .window) n ++ rest n
+  unfolding run-rows
+  sought-run k r o t s e n l h =
       let d : k + (r .window - k) ≡ r .window = omega (arith, s .from e) in
-      (rw d at (skip-to (r .window - k) k (λ j h l. s .between e j h (omega (arith, s .from e, l))))) ∙ held-row (r .window) (r .event) o t (s .holds e)
+      let m : r .window + (n - r .window) ≡ n = omega arith in
+      (rw d at (skip-to (r .window - k) k (λ j h l. s .between e j h (omega (arith, s .from e, l)))))
+      ∙ (rw m at (run-more (r .event) (n - r .window) (r .window) o t (λ j a b. h j a (omega arith))))
+
+  pub run-length : (k : ℕ) (r : Place) → 1 ≤ w .offset → Timed (w .clock) ts → Sought w ts k r → r .found ≡ true → (n : ℕ) → r .window ≤ n → Runs w ts (r .event) (r .window) n → length (rest k) ≡ n - r .window + length (rest n)
+  unfolding run-rows
+  run-length k r o t s e n l h =
+      ap length (sought-run k r o t s e n l h) ∙ length-append (run-rows w f ts cs ps (r .event) (r .window) n) (rest n) ∙ ap (λ m. m + length (rest n)) (map-length (window-row w f ts cs ps (r .event)) (r .window) (n - r .window))
 
 -- ---- from one window to the next
 
@@ -172,9 +198,9 @@ held-next w ts k i h =
     let a = h .within in
     (omega arith, omega arith, λ m l. let g = h .before m l in omega arith)
 
-pub ahead-falls : (w : Windows) (ts : List ℕ) (k : ℕ) (p q : Place) → 1 ≤ w .offset → Sought w ts k p → p .found ≡ true → Sought w ts (p .window + 1) q → ahead w q < ahead w p
+pub ahead-falls : (w : Windows) (ts : List ℕ) (k : ℕ) (p q : Place) (n : ℕ) → 1 ≤ w .offset → Sought w ts k p → p .found ≡ true → p .window < n → Sought w ts n q → ahead w q < ahead w p
 unfolding ahead
-ahead-falls w ts k p q o s e t = rw e (go (q .found) refl)
+ahead-falls w ts k p q n o s e l t = rw e (go (q .found) refl)
   where
     b : p .window ≤ w .clock
     b = held-below w ts (p .window) (p .event) o (s .holds e)

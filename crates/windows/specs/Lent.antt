@@ -1,7 +1,7 @@
 -- Events in lent memory: whether they may be lent, and the answer rows that are written of them.
 use mathlib.Core.Path.{_≡_}
 use mathlib.Core.List.{List, [], _∷_, map}
-use mathlib.Core.Bool.{Bool, true, false, _&&_, cond}
+use mathlib.Core.Bool.{Bool, _&&_, cond}
 use Prim.Native.Nat.{ℕ, _+_, _*_, _-_}
 use lib.IntN.{ℤ, pos, negsuc}
 use lib.Signed.{leZ}
@@ -15,8 +15,6 @@ use Rattle.model.specs.Queries.{Row, figure}
 use Rattle.model.specs.Meaning.{holds}
 use Rattle.model.specs.Answers.{row-cells}
 use Rattle.nodes.specs.Nodes.{cond-in}
-use Rattle.figures.specs.declared.Answer.{Answer}
-use Rattle.figures.specs.Figures.{row-of}
 use Rattle.windows.specs.Events.{event-at, events-from}
 use Rattle.windows.specs.Windows.{most-events, most-rows, most-part, answers}
 use Rattle.windows.specs.declared.Event.{Event}
@@ -60,10 +58,10 @@ passing-row ws ks r = every (holds (figure ∷ []) r) (map (λ k. cond-in (2 * k
 unfoldable pub picked-rows : List ℕ → List ℕ → List Row → List Row
 picked-rows ws ks rs = select (passing-row ws ks) rs
 
--- an answer is written behind some rows, where it passes
-pub record Put (ws ks : List ℕ) (a : Answer) (cells : List ℤ) (at rows : ℕ) (cells′ : List ℤ) (r : ℕ) : Type 0 where
-  pub kept : passing-row ws ks (row-of a) ≡ true → (cells′ ≡ sets cells (at + rows * 2) (row-cells (row-of a))) × (r ≡ rows + 1)
-  pub left : passing-row ws ks (row-of a) ≡ false → (cells′ ≡ cells) × (r ≡ rows)
+-- rows are written behind some others, and counted with them
+pub record Behind (more : List Row) (cells : List ℤ) (at rows : ℕ) (cells′ : List ℤ) (r : ℕ) : Type 0 where
+  pub cells-left : cells′ ≡ sets cells (at + rows * 2) (gather row-cells more)
+  pub counted : r ≡ rows + length more
 
 -- the rows are written from a place on, and counted
 pub record Written (rows : List Row) (cells : List ℤ) (at : ℕ) (cells′ : List ℤ) (r : ℕ) : Type 0 where

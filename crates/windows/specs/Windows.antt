@@ -1,8 +1,8 @@
 -- The windows that hold an event, found one after the other.
 use mathlib.Core.Path.{_≡_}
-use mathlib.Core.List.{List}
+use mathlib.Core.List.{List, [], _∷_, map}
 use mathlib.Core.Bool.{true, false, cond}
-use Prim.Native.Nat.{ℕ, suc, _+_, _*_, _-_, _/_, _≤_, _<_}
+use Prim.Native.Nat.{ℕ, suc, _+_, _*_, _-_, _/_, _≤_, _<_, min}
 use lib.IntN.{ℤ, pos, natAbs}
 use lib.Dec.{leb}
 use lib.ListN.{length, getD}
@@ -10,7 +10,7 @@ use Rattle.lists.specs.Lists.{select, gather, count-from}
 use Rattle.syntax.specs.Grammar.{Fn}
 use Rattle.syntax.specs.Limits.{top, max-rows}
 use Rattle.model.specs.Queries.{Row}
-use Rattle.windows.specs.Events.{in-span, event-window, event-figures}
+use Rattle.windows.specs.Events.{in-span, event-window, event-figures, figure-in, window-tally}
 use Rattle.windows.specs.declared.Event.{Event}
 use Rattle.windows.specs.declared.Windows.{Windows}
 use Rattle.windows.specs.declared.Place.{Place}
@@ -70,6 +70,26 @@ pub record Sought (w : Windows) (ts : List ℕ) (k : ℕ) (r : Place) : Type 0 w
   pub from : r .found ≡ true → k ≤ r .window
   pub between : r .found ≡ true → (j : ℕ) → k ≤ j → j < r .window → Idle w ts j
   pub none : r .found ≡ false → (j : ℕ) → k ≤ j → Idle w ts j
+
+-- ---- runs: windows that follow one another and have one first event
+
+-- the last window that has ended and begins by a time
+unfoldable pub last-with : Windows → ℕ → ℕ
+last-with w t = min (t / w .offset) ((w .clock - w .size) / w .offset)
+
+-- the windows from number k up to, not including, n have ended, and the first time in each stands at place i
+abbrev pub Runs : Windows → List ℕ → ℕ → ℕ → ℕ → Type 0
+Runs w ts i k n = (j : ℕ) → k ≤ j → j < n → Holds w ts j i
+
+-- the answer row of window k, whose first event stands at place i
+unfoldable pub window-row : Windows → Fn → List ℕ → List ℕ → List ℤ → ℕ → ℕ → Row
+window-row w f ts cs ps i k = record { at = k * w .offset + w .size; values = figure-in f (window-tally f ts cs ps i (k * w .offset + w .size)) ∷ [] }
+
+-- those of a run
+unfoldable pub run-rows : Windows → Fn → List ℕ → List ℕ → List ℤ → ℕ → ℕ → ℕ → List Row
+run-rows w f ts cs ps i k n = map (window-row w f ts cs ps i) (count-from k (n - k))
+
+-- ---- answers
 
 -- the answer rows of the windows from number k on
 unfoldable pub answers-from : Windows → Fn → List Event → ℕ → List Row

@@ -10,8 +10,8 @@ ghost use Rattle.syntax.specs.Grammar.{Fn};
 ghost use Rattle.model.specs.Answers.{row-cells};
 ghost use Rattle.figures.specs.Figures.{row-of};
 ghost use Rattle.windows.specs.Events.{fn-of, with-event, figure-in, event-at, events-from, window-tally};
-ghost use Rattle.windows.specs.Windows.{Bounded, Timed, Before, Ordered, Reached, Sought, Parts, most-events, answers};
-ghost use Rattle.windows.specs.Lent.{windows-sound, part-sound, event-sound, events-sound, answers-in, picked-rows, Put, Written};
+ghost use Rattle.windows.specs.Windows.{Bounded, Timed, Before, Ordered, Reached, Sought, Parts, Runs, most-events, answers, last-with, run-rows};
+ghost use Rattle.windows.specs.Lent.{windows-sound, part-sound, event-sound, events-sound, answers-in, picked-rows, Behind, Written};
 use figures::Answer;
 use text::Time;
 
@@ -100,14 +100,14 @@ fn next(w: Windows, times: &[u32], k: u32, i: u32) -> Place
 }
 
 // The event at place i.
-fn event_at(times: &[u32], counts: &[u32], parts: &[i64], k: u32) -> Event
+fn event_at(times: &[u32], counts: &[u16], parts: &[i64], k: u32) -> Event
     requires { ⌜ (k < length (now times)) × (k < length (now counts)) × (k < length (now parts)) ⌝ }
     ensures { λ r. ⌜ r ≡ event-at (now (times .entry)) (now (counts .entry)) (now (parts .entry)) k ⌝ }
 {
     let i = k as usize;
     Event {
         time: times[i],
-        count: counts[i],
+        count: counts[i] as u32,
         part: parts[i],
     }
 }
@@ -165,7 +165,7 @@ impl Tally {
 }
 
 // The tally of the event at place i and of those after it that come before a time.
-fn tally_at(f: u32, times: &[u32], counts: &[u32], parts: &[i64], i: u32, end: u32) -> Tally
+fn tally_at(f: u32, times: &[u32], counts: &[u16], parts: &[i64], i: u32, end: u32) -> Tally
     requires { ⌜ Ordered (now times) × Parts (now times) (now counts) (now parts) × (i < length (now times)) ⌝ }
     ensures { λ r. ⌜ (r ≡ window-tally (fn-of f) (now (times .entry)) (now (counts .entry)) (now (parts .entry)) i end) × (1 ≤ r .count) ⌝ }
 {
@@ -188,7 +188,7 @@ fn tally_at(f: u32, times: &[u32], counts: &[u32], parts: &[i64], i: u32, end: u
 }
 
 // The answer row of a window that ends at a time, and whose first event stands at place i.
-fn answer_at(f: u32, times: &[u32], counts: &[u32], parts: &[i64], i: u32, end: u32) -> Answer
+fn answer_at(f: u32, times: &[u32], counts: &[u16], parts: &[i64], i: u32, end: u32) -> Answer
     requires { ⌜ Ordered (now times) × Parts (now times) (now counts) (now parts) × (i < length (now times)) ⌝ }
     ensures { λ r. ⌜ (r .end ≡ end) × (r .figure ≡ figure-in (fn-of f) (window-tally (fn-of f) (now (times .entry)) (now (counts .entry)) (now (parts .entry)) i end)) ⌝ }
 {
@@ -218,7 +218,7 @@ fn store(cells: &mut [i64], at: usize, a: Answer)
 // An answer row behind those before it, where the conditions hold; how many there are then.
 fn put(words: &[u32], picks: &[u32], a: Answer, cells: &mut [i64], at: u32, rows: u32) -> u32
     requires { ⌜ rows < 2 ^ 31 ⌝ }
-    ensures { λ r. ⌜ Put (now (words .entry)) (now (picks .entry)) a (now (cells .entry)) at rows (now (cells .exit)) r ⌝ }
+    ensures { λ r. ⌜ Behind (picked-rows (now (words .entry)) (now (picks .entry)) (row-of a ∷ [])) (now (cells .entry)) at rows (now (cells .exit)) r ⌝ }
 {
     if !figures::passes_all(words, picks, a) {
         return rows;
@@ -297,7 +297,7 @@ impl Event {
 }
 
 // Returns whether events may be lent with windows (see `events-sound`).
-pub fn sound(w: Windows, times: &[u32], counts: &[u32], parts: &[i64]) -> bool
+pub fn sound(w: Windows, times: &[u32], counts: &[u16], parts: &[i64]) -> bool
     ensures { λ r. ⌜ r ≡ events-sound w (now (times .entry)) (now (counts .entry)) (now (parts .entry)) ⌝ }
 {
     if !w.sound() {
@@ -326,7 +326,20 @@ pub fn sound(w: Windows, times: &[u32], counts: &[u32], parts: &[i64]) -> bool
     true
 }
 
-// How many answer rows there are; one more than the room where they are more.
+// The last window that has ended and begins by a time.
+fn last_with(w: Windows, t: u32) -> u32
+    requires { ⌜ (1 ≤ w .offset) × (w .size ≤ w .clock) ⌝ }
+    ensures { λ r. ⌜ r ≡ last-with w t ⌝ }
+{
+    let begun = t / w.offset;
+    let ended = (w.clock - w.size) / w.offset;
+    if begun < ended {
+        return begun;
+    }
+    ended
+}
+
+// How many answer rows there are; one more than the room where they are more. An event is the first of a run of windows, which are counted at once.
 fn count_windows(w: Windows, times: &[u32], room: u32) -> u32
     requires { ⌜ Bounded w × Timed (w .clock) (now times) × (length (now times) ≤ most-events) ⌝ }
     ensures { λ r. ⌜ ((f : Fn) (cs : List ℕ) (ps : List ℤ) → r ≡ min (length (answers w f (events-from (now (times .entry)) cs ps 0))) (suc room)) ⌝ }
@@ -334,13 +347,48 @@ fn count_windows(w: Windows, times: &[u32], room: u32) -> u32
     let mut rows: u32 = 0;
     let mut p = next(w, times, 0, 0);
     while p.found {
-        if room < rows {
-            return rows;
+        let i = p.event as usize;
+        let last = last_with(w, times[i]);
+        let run = last - p.window + 1;
+        if room - rows < run {
+            return room + 1;
         }
-        rows += 1;
-        p = next(w, times, p.window + 1, p.event);
+        rows += run;
+        p = next(w, times, last + 1, p.event);
     }
     rows
+}
+
+// How many answer rows pass with those of the windows from number k to the last, whose first event stands at one place; one more than the room where they are more.
+fn count_run(
+    f: u32,
+    w: Windows,
+    times: &[u32],
+    counts: &[u16],
+    parts: &[i64],
+    words: &[u32],
+    picks: &[u32],
+    room: u32,
+    rows: u32,
+    event: u32,
+    k: u32,
+    last: u32,
+) -> u32
+    requires { ⌜ Bounded w × Timed (w .clock) (now times) × Parts (now times) (now counts) (now parts) × (rows ≤ room) × (rows ≤ k) × (k ≤ last) × Runs w (now times) event k (last + 1) ⌝ }
+    ensures { λ r. ⌜ r ≡ min (rows + length (picked-rows (now (words .entry)) (now (picks .entry)) (run-rows w (fn-of f) (now (times .entry)) (now (counts .entry)) (now (parts .entry)) event k (last + 1)))) (suc room) ⌝ }
+{
+    let mut r = rows;
+    let mut end = k * w.offset + w.size;
+    let last_end = last * w.offset + w.size;
+    while end <= last_end {
+        if room < r {
+            return r;
+        }
+        let a = answer_at(f, times, counts, parts, event, end);
+        r = counted(words, picks, a, r);
+        end += w.offset;
+    }
+    r
 }
 
 // How many of them pass; one more than the room where they are more.
@@ -348,7 +396,7 @@ fn count_picked(
     f: u32,
     w: Windows,
     times: &[u32],
-    counts: &[u32],
+    counts: &[u16],
     parts: &[i64],
     words: &[u32],
     picks: &[u32],
@@ -363,10 +411,23 @@ fn count_picked(
         if room < rows {
             return rows;
         }
-        let end = p.window * w.offset + w.size;
-        let a = answer_at(f, times, counts, parts, p.event, end);
-        rows = counted(words, picks, a, rows);
-        p = next(w, times, p.window + 1, p.event);
+        let i = p.event as usize;
+        let last = last_with(w, times[i]);
+        rows = count_run(
+            f,
+            w,
+            times,
+            counts,
+            parts,
+            words,
+            picks,
+            room,
+            rows,
+            p.event,
+            p.window,
+            last,
+        );
+        p = next(w, times, last + 1, p.event);
     }
     rows
 }
@@ -376,7 +437,7 @@ pub fn count(
     f: u32,
     w: Windows,
     times: &[u32],
-    counts: &[u32],
+    counts: &[u16],
     parts: &[i64],
     words: &[u32],
     picks: &[u32],
@@ -393,12 +454,42 @@ pub fn count(
     count_picked(f, w, times, counts, parts, words, picks, room)
 }
 
+// The answer rows that pass of the windows from number k to the last, whose first event stands at one place, behind those before them; how many there are then.
+fn put_run(
+    f: u32,
+    w: Windows,
+    times: &[u32],
+    counts: &[u16],
+    parts: &[i64],
+    words: &[u32],
+    picks: &[u32],
+    cells: &mut [i64],
+    at: u32,
+    rows: u32,
+    event: u32,
+    k: u32,
+    last: u32,
+) -> u32
+    requires { ⌜ Bounded w × Timed (w .clock) (now times) × Parts (now times) (now counts) (now parts) × (rows ≤ k) × (k ≤ last) × Runs w (now times) event k (last + 1) ⌝ }
+    ensures { λ r. ⌜ Behind (picked-rows (now (words .entry)) (now (picks .entry)) (run-rows w (fn-of f) (now (times .entry)) (now (counts .entry)) (now (parts .entry)) event k (last + 1))) (now (cells .entry)) at rows (now (cells .exit)) r ⌝ }
+{
+    let mut r = rows;
+    let mut end = k * w.offset + w.size;
+    let last_end = last * w.offset + w.size;
+    while end <= last_end {
+        let a = answer_at(f, times, counts, parts, event, end);
+        r = put(words, picks, a, cells, at, r);
+        end += w.offset;
+    }
+    r
+}
+
 // The cells of those that pass.
 fn write_rows(
     f: u32,
     w: Windows,
     times: &[u32],
-    counts: &[u32],
+    counts: &[u16],
     parts: &[i64],
     words: &[u32],
     picks: &[u32],
@@ -411,10 +502,24 @@ fn write_rows(
     let mut rows: u32 = 0;
     let mut p = next(w, times, 0, 0);
     while p.found {
-        let end = p.window * w.offset + w.size;
-        let a = answer_at(f, times, counts, parts, p.event, end);
-        rows = put(words, picks, a, cells, at, rows);
-        p = next(w, times, p.window + 1, p.event);
+        let i = p.event as usize;
+        let last = last_with(w, times[i]);
+        rows = put_run(
+            f,
+            w,
+            times,
+            counts,
+            parts,
+            words,
+            picks,
+            cells,
+            at,
+            rows,
+            p.event,
+            p.window,
+            last,
+        );
+        p = next(w, times, last + 1, p.event);
     }
     rows
 }
@@ -425,7 +530,7 @@ pub fn write(
     f: u32,
     w: Windows,
     times: &[u32],
-    counts: &[u32],
+    counts: &[u16],
     parts: &[i64],
     words: &[u32],
     picks: &[u32],

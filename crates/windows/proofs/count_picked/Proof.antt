@@ -1,19 +1,20 @@
-use mathlib.Core.Path.{_≡_, refl, ap}
-use Prim.Native.Nat.{ℕ, suc, _+_, _-_, _≤_}
+use mathlib.Core.Path.{_≡_, ap, _∙_}
+use Prim.Native.Nat.{ℕ, suc, _+_, _≤_, min}
 use native.Mathlib.Omega.{arith}
-use lib.ListN.{length}
+use lib.ListN.{length, length-append}
 use Rattle.windows.specs.Events.{fn-of, events-from}
 use Rattle.windows.specs.Windows.{Sought, answers, ahead}
 use Rattle.windows.specs.Lent.{picked-rows}
-use Rattle.windows.proofs.Skips.{held-below, held-next, ahead-falls}
-use Rattle.windows.proofs.Picks.{rows-left, rows-all, rows-none, left-counted, counted-few}
+use Rattle.windows.proofs.Skips.{ahead-falls}
+use Rattle.windows.proofs.Runs.{Last, last-made, run-ended}
+use Rattle.windows.proofs.Picks.{run-left, run-few, rows-left, rows-all, rows-none, rows-next}
 use Rattle.windows.proofs.count_picked.Statement.{statement}
 use Rattle.windows.proofs.count_picked.Tie as tie
 
 abbrev Inv-loop : tie.InvT-loop
 Inv-loop f w times counts parts words picks room rows₀ p₀ rows p =
     (k : ℕ) × Sought w times k p × (rows ≤ k) × (rows ≤ suc room)
-    × (rows + length (rows-left w (fn-of f) times counts parts words picks k) ≡ length (picked-rows words picks (answers w (fn-of f) (events-from times counts parts 0))))
+    × (min (rows + length (rows-left w (fn-of f) times counts parts words picks k)) (suc room) ≡ min (length (picked-rows words picks (answers w (fn-of f) (events-from times counts parts 0)))) (suc room))
 
 abbrev μ-loop : tie.MeasureT-loop
 μ-loop f w times counts parts words picks room rows₀ p₀ rows p = ahead w p
@@ -36,83 +37,74 @@ returns c =
     let e = l .inv .4 in
     omega arith
 
-mul-end : tie.Need-mul-end Inv-loop μ-loop
-mul-end c =
-    let s = c .before .before .before .before .before .before .before .before .before .before in
-    let a = s .args in
+cast-i : tie.Need-cast-i Inv-loop μ-loop
+cast-i c = omega arith
+
+mul-last-with : tie.Need-mul-last-with Inv-loop μ-loop
+mul-last-with c = omega arith
+
+shared-slice-read-last-with : tie.Need-shared-slice-read-last-with Inv-loop μ-loop
+shared-slice-read-last-with c =
     let l = c .before .before .before .before .loop in
-    let t = c .before .before .before .loop-test .taken in
-    let h = l .inv .1 .holds t in
-    omega (arith, h .ended, s .pre .0 .clock)
+    omega (arith, l .inv .1 .holds (c .before .before .before .loop-test .taken) .within)
 
-add-end : tie.Need-add-end Inv-loop μ-loop
-add-end c =
+last-with-requires : tie.Need-last-with-requires Inv-loop μ-loop
+last-with-requires c κs =
+    let s = c .before .before .before .before .before .before .before .before .before .before in
+    let l = c .before .before .before .before .loop in
+    (s .pre .0 .offset, run-ended (s .args .w) (s .args .times .now) (l .p .window) (l .p .event) (s .pre .0 .offset) (l .inv .1 .holds (c .before .before .before .loop-test .taken)))
+
+-- the run's last window
+run-at : (c : tie.After-last-with Inv-loop μ-loop) → Last (c .before .before .before .before .before .before .before .before .before .before .before .args .w) (c .before .before .before .before .before .before .before .before .before .before .before .args .times .now) (c .before .before .before .before .before .loop .p .window) (c .before .before .before .before .before .loop .p .event) (c .last-with .result)
+run-at c =
     let s = c .before .before .before .before .before .before .before .before .before .before .before in
-    let a = s .args in
     let l = c .before .before .before .before .before .loop in
-    let t = c .before .before .before .before .loop-test .taken in
-    let h = l .inv .1 .holds t in
-    omega (arith, h .ended, s .pre .0 .clock)
+    last-made (s .args .w) (s .args .times .now) (l .p .window) (l .p .event) (s .pre .0) (l .inv .1 .holds (c .before .before .before .before .loop-test .taken)) (c .last-with .ensures)
 
-answer-at-requires : tie.Need-answer-at-requires Inv-loop μ-loop
-answer-at-requires c κs =
+count-run-requires : tie.Need-count-run-requires Inv-loop μ-loop
+count-run-requires c κs =
     let s = c .before .before .before .before .before .before .before .before .before .before .before in
-    let a = s .args in
     let l = c .before .before .before .before .before .loop in
-    let t = c .before .before .before .before .loop-test .taken in
-    let h = l .inv .1 .holds t in
-    (s .pre .1 .order, s .pre .2, h .within)
-
-counted-requires : tie.Need-counted-requires Inv-loop μ-loop
-counted-requires c κs =
-    let s = c .before .before .before .before .before .before .before .before .before .before .before .before in
-    let a = s .args in
-    let l = c .before .before .before .before .before .before .loop in
-    let t = c .before .before .before .before .before .loop-test .taken in
-    let q = l .inv .2 in
-    omega (arith, l .inv .1 .from t, held-below (a .w) (a .times .now) (l .p .window) (l .p .event) (s .pre .0 .offset) (l .inv .1 .holds t), s .pre .0 .clock)
+    let k = l .inv .1 .from (c .before .before .before .before .loop-test .taken) in
+    let z = run-at c in
+    let i = c .before .before .before .if1 .left in
+    (s .pre .0, s .pre .1, s .pre .2, omega arith, omega (arith, l .inv .2), z .on, z .runs)
 
 add-next : tie.Need-add-next Inv-loop μ-loop
-add-next c =
-    let s = c .before .before .before .before .before .before .before .before .before .before .before .before .before .before in
-    let a = s .args in
-    let l = c .before .before .before .before .before .before .before .before .loop in
-    let t = c .before .before .before .before .before .before .before .loop-test .taken in
-    omega (arith, held-below (a .w) (a .times .now) (l .p .window) (l .p .event) (s .pre .0 .offset) (l .inv .1 .holds t), s .pre .0 .clock)
+add-next c = omega (arith, run-at (c .before) .few)
 
 next-requires-2 : tie.Need-next-requires-2 Inv-loop μ-loop
 next-requires-2 c κs =
-    let s = c .before .before .before .before .before .before .before .before .before .before .before .before .before .before in
-    let a = s .args in
-    let l = c .before .before .before .before .before .before .before .before .loop in
-    let t = c .before .before .before .before .before .before .before .loop-test .taken in
-    let n = held-next (a .w) (a .times .now) (l .p .window) (l .p .event) (l .inv .1 .holds t) in
+    let s = c .before .before .before .before .before .before .before .before .before .before .before .before in
+    let n = run-at (c .before) .next in
     (s .pre .0, s .pre .1, s .pre .2 .events, n .0, n .1, n .2)
 
 loop-less : tie.Need-loop-less Inv-loop μ-loop
 loop-less c =
-    let s = c .before .before .before .before .before .before .before .before .before .before .before .before .before .before .before in
+    let s = c .before .before .before .before .before .before .before .before .before .before .before .before .before in
     let a = s .args in
-    let l = c .before .before .before .before .before .before .before .before .before .loop in
-    let t = c .before .before .before .before .before .before .before .before .loop-test .taken in
-    ahead-falls (a .w) (a .times .now) (l .inv .0) (l .p) (c .next2 .result) (s .pre .0 .offset) (l .inv .1) t (c .next2 .ensures)
+    let l = c .before .before .before .before .before .before .before .loop in
+    let o = run-at (c .before .before) .on in
+    ahead-falls (a .w) (a .times .now) (l .inv .0) (l .p) (c .next2 .result) (c .before .before .last-with .result + 1) (s .pre .0 .offset) (l .inv .1) (c .before .before .before .before .before .before .loop-test .taken) (omega arith) (c .next2 .ensures)
 
 loop-again : tie.Need-loop-again Inv-loop μ-loop
 loop-again c =
-    let s = c .before .before .before .before .before .before .before .before .before .before .before .before .before .before .before in
+    let s = c .before .before .before .before .before .before .before .before .before .before .before .before .before in
     let a = s .args in
-    let l = c .before .before .before .before .before .before .before .before .before .loop in
-    let t = c .before .before .before .before .before .before .before .before .loop-test .taken in
+    let l = c .before .before .before .before .before .before .before .loop in
+    let t = c .before .before .before .before .before .before .loop-test .taken in
     let k = l .inv .1 .from t in
     let q = l .inv .2 in
-    let r = l .inv .3 in
     let e = l .inv .4 in
-    let v = c .before .before .before .answer-at in
-    let n = c .before .before .counted .ensures in
-    let m = left-counted (a .w) (fn-of (a .f)) (a .times .now) (a .counts .now) (a .parts .now) (a .words .now) (a .picks .now) (l .inv .0) (l .p) (s .pre .0 .offset) (s .pre .1) (l .inv .1) t (v .result) _ refl (v .ensures .0) (v .ensures .1) (l .rows) n in
-    let g = counted-few (a .words .now) (a .picks .now) (v .result) in
-    let i = c .before .before .before .before .before .before .before .if1 .left in
-    (l .p .window + 1, c .next2 .ensures, omega arith, omega arith, omega arith)
+    let z = run-at (c .before .before) in
+    let o = z .on in
+    let n = c .before .before .last-with .result + 1 in
+    let x = run-left (a .w) (fn-of (a .f)) (a .times .now) (a .counts .now) (a .parts .now) (a .words .now) (a .picks .now) (l .p .event) (l .p .window) n in
+    let y = rows-left (a .w) (fn-of (a .f)) (a .times .now) (a .counts .now) (a .parts .now) (a .words .now) (a .picks .now) n in
+    let d = ap length (rows-next (a .w) (fn-of (a .f)) (a .times .now) (a .counts .now) (a .parts .now) (a .words .now) (a .picks .now) (l .inv .0) (l .p) (s .pre .0 .offset) (s .pre .1) (l .inv .1) t n (omega arith) (z .runs)) ∙ length-append x y in
+    let u = run-few (a .w) (fn-of (a .f)) (a .times .now) (a .counts .now) (a .parts .now) (a .words .now) (a .picks .now) (l .p .event) (l .p .window) n in
+    let m = c .before .count-run .ensures in
+    (n, c .next2 .ensures, omega arith, omega arith, omega arith)
 
 returns-2 : tie.Need-returns-2 Inv-loop μ-loop
 returns-2 c =
@@ -132,10 +124,11 @@ count-picked-spec =
     next-requires
     loop-holds
     returns
-    mul-end
-    add-end
-    answer-at-requires
-    counted-requires
+    cast-i
+    mul-last-with
+    shared-slice-read-last-with
+    last-with-requires
+    count-run-requires
     add-next
     next-requires-2
     loop-less

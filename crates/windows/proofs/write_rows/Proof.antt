@@ -1,6 +1,6 @@
 use mathlib.Core.Path.{_≡_, refl, sym, ap, ap₂, _∙_}
 use mathlib.Core.List.{List}
-use Prim.Native.Nat.{ℕ, _+_, _*_, _-_, _≤_}
+use Prim.Native.Nat.{ℕ, _+_, _*_, _≤_}
 use native.Mathlib.Omega.{arith}
 use lib.ListN.{length}
 use lib.Seq.{sets}
@@ -10,8 +10,9 @@ use Rattle.model.specs.Answers.{row-cells}
 use Rattle.windows.specs.Events.{fn-of, events-from}
 use Rattle.windows.specs.Windows.{Sought, answers, ahead}
 use Rattle.windows.specs.Lent.{picked-rows}
-use Rattle.windows.proofs.Skips.{held-below, held-next, ahead-falls}
-use Rattle.windows.proofs.Picks.{rows-left, rows-all, rows-none, left-cells, left-rows, put-few, put-length}
+use Rattle.windows.proofs.Skips.{ahead-falls}
+use Rattle.windows.proofs.Runs.{Last, last-made, run-ended}
+use Rattle.windows.proofs.Picks.{run-few, run-single, rows-left, rows-all, rows-none, rows-next, behind-length, behind-rows, behind-cells}
 use Rattle.windows.proofs.write_rows.Statement.{statement}
 use Rattle.windows.proofs.write_rows.Tie as tie
 
@@ -37,84 +38,77 @@ loop-holds c =
     let z : a .at + 0 * 2 ≡ a .at = omega arith in
     (0, c .next .ensures, omega arith, refl, omega arith, ap₂ (λ (i : ℕ) (rs : List Row). sets (a .cells .now) i (gather row-cells rs)) z e)
 
-mul-end : tie.Need-mul-end Inv-loop μ-loop
-mul-end c =
-    let s = c .before .before .before .before .before .before .before .before .before in
-    let a = s .args in
+cast-i : tie.Need-cast-i Inv-loop μ-loop
+cast-i c = omega arith
+
+mul-last-with : tie.Need-mul-last-with Inv-loop μ-loop
+mul-last-with c = omega arith
+
+shared-slice-read-last-with : tie.Need-shared-slice-read-last-with Inv-loop μ-loop
+shared-slice-read-last-with c =
     let l = c .before .before .before .loop in
-    let t = c .before .before .loop-test .taken in
-    let h = l .inv .1 .holds t in
-    omega (arith, h .ended, s .pre .0 .clock)
+    omega (arith, l .inv .1 .holds (c .before .before .loop-test .taken) .within)
 
-add-end : tie.Need-add-end Inv-loop μ-loop
-add-end c =
+last-with-requires : tie.Need-last-with-requires Inv-loop μ-loop
+last-with-requires c κs =
+    let s = c .before .before .before .before .before .before .before .before .before in
+    let l = c .before .before .before .loop in
+    (s .pre .0 .offset, run-ended (s .args .w) (s .args .times .now) (l .p .window) (l .p .event) (s .pre .0 .offset) (l .inv .1 .holds (c .before .before .loop-test .taken)))
+
+-- the run's last window
+run-at : (c : tie.After-last-with Inv-loop μ-loop) → Last (c .before .before .before .before .before .before .before .before .before .before .args .w) (c .before .before .before .before .before .before .before .before .before .before .args .times .now) (c .before .before .before .before .loop .p .window) (c .before .before .before .before .loop .p .event) (c .last-with .result)
+run-at c =
     let s = c .before .before .before .before .before .before .before .before .before .before in
-    let a = s .args in
     let l = c .before .before .before .before .loop in
-    let t = c .before .before .before .loop-test .taken in
-    let h = l .inv .1 .holds t in
-    omega (arith, h .ended, s .pre .0 .clock)
+    last-made (s .args .w) (s .args .times .now) (l .p .window) (l .p .event) (s .pre .0) (l .inv .1 .holds (c .before .before .before .loop-test .taken)) (c .last-with .ensures)
 
-answer-at-requires : tie.Need-answer-at-requires Inv-loop μ-loop
-answer-at-requires c κs =
-    let s = c .before .before .before .before .before .before .before .before .before .before in
-    let a = s .args in
-    let l = c .before .before .before .before .loop in
-    let t = c .before .before .before .loop-test .taken in
-    let h = l .inv .1 .holds t in
-    (s .pre .1 .order, s .pre .2, h .within)
-
-put-requires : tie.Need-put-requires Inv-loop μ-loop
-put-requires c κs =
-    let s = c .before .before .before .before .before .before .before .before .before .before .before .before in
-    let a = s .args in
-    let l = c .before .before .before .before .before .before .loop in
-    let t = c .before .before .before .before .before .loop-test .taken in
-    let q = l .inv .2 in
-    omega (arith, l .inv .1 .from t, held-below (a .w) (a .times .now) (l .p .window) (l .p .event) (s .pre .0 .offset) (l .inv .1 .holds t), s .pre .0 .clock)
+put-run-requires : tie.Need-put-run-requires Inv-loop μ-loop
+put-run-requires c κs =
+    let s = c .before .before .before .before .before .before .before .before .before .before .before in
+    let l = c .before .before .before .before .before .loop in
+    let k = l .inv .1 .from (c .before .before .before .before .loop-test .taken) in
+    let z = run-at (c .before) in
+    (s .pre .0, s .pre .1, s .pre .2, omega (arith, l .inv .2), z .on, z .runs)
 
 add-next : tie.Need-add-next Inv-loop μ-loop
-add-next c =
-    let s = c .before .before .before .before .before .before .before .before .before .before .before .before .before .before .before in
-    let a = s .args in
-    let l = c .before .before .before .before .before .before .before .before .before .loop in
-    let t = c .before .before .before .before .before .before .before .before .loop-test .taken in
-    omega (arith, held-below (a .w) (a .times .now) (l .p .window) (l .p .event) (s .pre .0 .offset) (l .inv .1 .holds t), s .pre .0 .clock)
+add-next c = omega (arith, run-at (c .before .before .before) .few)
 
 next-requires-2 : tie.Need-next-requires-2 Inv-loop μ-loop
 next-requires-2 c κs =
-    let s = c .before .before .before .before .before .before .before .before .before .before .before .before .before .before .before in
-    let a = s .args in
-    let l = c .before .before .before .before .before .before .before .before .before .loop in
-    let t = c .before .before .before .before .before .before .before .before .loop-test .taken in
-    let n = held-next (a .w) (a .times .now) (l .p .window) (l .p .event) (l .inv .1 .holds t) in
+    let s = c .before .before .before .before .before .before .before .before .before .before .before .before .before in
+    let n = run-at (c .before .before .before) .next in
     (s .pre .0, s .pre .1, s .pre .2 .events, n .0, n .1, n .2)
 
 loop-less : tie.Need-loop-less Inv-loop μ-loop
 loop-less c =
-    let s = c .before .before .before .before .before .before .before .before .before .before .before .before .before .before .before .before in
+    let s = c .before .before .before .before .before .before .before .before .before .before .before .before .before .before in
     let a = s .args in
-    let l = c .before .before .before .before .before .before .before .before .before .before .loop in
-    let t = c .before .before .before .before .before .before .before .before .before .loop-test .taken in
-    ahead-falls (a .w) (a .times .now) (l .inv .0) (l .p) (c .next2 .result) (s .pre .0 .offset) (l .inv .1) t (c .next2 .ensures)
+    let l = c .before .before .before .before .before .before .before .before .loop in
+    let o = run-at (c .before .before .before .before) .on in
+    ahead-falls (a .w) (a .times .now) (l .inv .0) (l .p) (c .next2 .result) (c .before .before .before .before .last-with .result + 1) (s .pre .0 .offset) (l .inv .1) (c .before .before .before .before .before .before .before .loop-test .taken) (omega arith) (c .next2 .ensures)
 
 loop-again : tie.Need-loop-again Inv-loop μ-loop
 loop-again c =
-    let s = c .before .before .before .before .before .before .before .before .before .before .before .before .before .before .before .before in
+    let s = c .before .before .before .before .before .before .before .before .before .before .before .before .before .before in
     let a = s .args in
-    let l = c .before .before .before .before .before .before .before .before .before .before .loop in
-    let t = c .before .before .before .before .before .before .before .before .before .loop-test .taken in
+    let l = c .before .before .before .before .before .before .before .before .loop in
+    let t = c .before .before .before .before .before .before .before .loop-test .taken in
     let k = l .inv .1 .from t in
     let q = l .inv .2 in
-    let v = c .before .before .before .before .before .answer-at in
-    let n = c .before .before .before .put .ensures in
-    let g = put-few (a .words .now) (a .picks .now) n in (
-      l .p .window + 1,
+    let z = run-at (c .before .before .before .before) in
+    let o = z .on in
+    let n = c .before .before .before .before .last-with .result + 1 in
+    let y = rows-left (a .w) (fn-of (a .f)) (a .times .now) (a .counts .now) (a .parts .now) (a .words .now) (a .picks .now) n in
+    let d = rows-next (a .w) (fn-of (a .f)) (a .times .now) (a .counts .now) (a .parts .now) (a .words .now) (a .picks .now) (l .inv .0) (l .p) (s .pre .0 .offset) (s .pre .1) (l .inv .1) t n (omega arith) (z .runs) in
+    let u = run-few (a .w) (fn-of (a .f)) (a .times .now) (a .counts .now) (a .parts .now) (a .words .now) (a .picks .now) (l .p .event) (l .p .window) n in
+    let b = c .before .before .put-run .ensures in
+    let m = b .counted in (
+      n,
       c .next2 .ensures,
       omega arith,
-      put-length (a .words .now) (a .picks .now) n ∙ l .inv .3,
-      left-rows (a .w) (fn-of (a .f)) (a .times .now) (a .counts .now) (a .parts .now) (a .words .now) (a .picks .now) (l .inv .0) (l .p) (s .pre .0 .offset) (s .pre .1) (l .inv .1) t (v .result) _ refl (v .ensures .0) (v .ensures .1) n ∙ l .inv .4,
-      left-cells (a .w) (fn-of (a .f)) (a .times .now) (a .counts .now) (a .parts .now) (a .words .now) (a .picks .now) (l .inv .0) (l .p) (s .pre .0 .offset) (s .pre .1) (l .inv .1) t (v .result) _ refl (v .ensures .0) (v .ensures .1) n ∙ l .inv .5,
+      behind-length b ∙ l .inv .3,
+      behind-rows b y d ∙ l .inv .4,
+      behind-cells b y (run-single (a .w) (fn-of (a .f)) (a .times .now) (a .counts .now) (a .parts .now) (a .words .now) (a .picks .now) (l .p .event) (l .p .window) n) d ∙ l .inv .5,
     )
 
 same-length : tie.Need-same-length Inv-loop μ-loop
@@ -138,10 +132,11 @@ write-rows-spec =
     μ-loop
     next-requires
     loop-holds
-    mul-end
-    add-end
-    answer-at-requires
-    put-requires
+    cast-i
+    mul-last-with
+    shared-slice-read-last-with
+    last-with-requires
+    put-run-requires
     add-next
     next-requires-2
     loop-less
