@@ -25,7 +25,8 @@ use Rattle.comparisons.specs.Compared.{compared, named-by, column-code}
 use Rattle.comparisons.proofs.Walked.{cond-tests}
 use Rattle.needs.specs.declared.Needs.{Needs}
 use Rattle.needs.specs.declared.Sides.{Sides}
-use Rattle.needs.specs.Asking.{all-columns, bits-of, col-code, fn-code, fn-number, rows-needs, pick-needs, keep-needs, join-needs, aggregate-needs, needs-of, outer-needs, wide-needs, form-needs, no-needs, needs-from, needs-in, laid-form, laid-forms}
+use Rattle.needs.specs.Asking.{all-columns, bits-of, col-code, fn-code, fn-number, rows-needs, pick-needs, keep-needs, join-needs, aggregate-needs, needs-of, outer-needs, wide-needs, form-needs, no-needs, needs-from, needs-in}
+use Rattle.query.specs.Shapes.{laid-form, laid-forms}
 use Rattle.needs.proofs.Codes.{code-of-col, order-columns, fn-of-number}
 
 -- ---- joins

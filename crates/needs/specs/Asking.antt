@@ -14,7 +14,7 @@ use Rattle.masks.specs.Masks.{bit?, mask-of}
 use Rattle.orders.specs.Orders.{codes-in}
 use Rattle.terms.specs.Terms.{time-code, figure-code}
 use Rattle.nodes.specs.Nodes.{link}
-use Rattle.grant.specs.Grants.{streams-mask, linked-from}
+use Rattle.grant.specs.Grants.{streams-mask}
 use Rattle.query.specs.Forms.{rows-form, pick-form, keep-form, form-order, join-form, aggregate-form, under-form}
 use Rattle.query.specs.declared.Form.{Form}
 use Rattle.comparisons.specs.Compared.{compared, col-codes, named-by, column-code}
@@ -186,12 +186,3 @@ needs-from ns ws (f ∷ fs) = form-needs ns ws f (needs-from ns ws fs)
 
 unfoldable pub needs-in : List ℕ → List ℕ → List Form → Needs
 needs-in ns ws fs = needs-from ns ws fs .outer
-
--- ---- tables of which this is exact
-
--- the words of a pick's condition are laid out as those of a stored one; and the form is one of a query's
-unfoldable pub laid-form : List ℕ → Form → Bool
-laid-form ws f = ltb (f .kind) under-form && (not (eqb (f .kind) pick-form) || ltb 0 (f .first) && linked-from (suc (f .first)) ws (f .first))
-
-unfoldable pub laid-forms : List ℕ → List Form → Bool
-laid-forms ws fs = every (laid-form ws) fs

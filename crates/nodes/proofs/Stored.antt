@@ -19,7 +19,7 @@ use Rattle.nodes.specs.Storing.{put-node, value-fits, fits, conds-list, 
 use Rattle.nodes.proofs.Puts.{Narrow, words-some, node-put, put-outside}
 use Rattle.nodes.proofs.Reaching.{Same, Stands, Chain, chain-end, chain-more, chain-list, chain-reaches, chain-join, chain-same, link-same, all-same, nodes-same}
 use Rattle.nodes.proofs.Tests.{all-before}
-use Rattle.nodes.proofs.Sizes.{size-some, sizes-some, length-store, length-all, compared-words, same-all, same-list, take-same}
+use Rattle.nodes.proofs.Sizes.{same-store, size-some, sizes-some, length-store, length-all, compared-words, same-all, same-list, take-same}
 use Rattle.nodes.proofs.Depths.{shallow-map}
 
 -- ---- one condition, whose words are those after the first b up to place k
@@ -281,6 +281,17 @@ mutual
 pub stored-stands : (c : Cond Node) (b : ℕ) (ws : List ℕ) → T (every fits (tests c)) → b + size c ≤ 255 → b + size c ≤ length ws → Stands (store c b ws) (b + size c) (map-cond node-compare c)
 stored-stands c b ws h l room = stored-cond c b ws h l room .stands
 
+-- and each of its nodes has its link, where those before it have theirs
+pub links-further : (c : Cond Node) (b : ℕ) (ws : List ℕ) → T (every fits (tests c)) → b + size c ≤ 255 → b + size c ≤ length ws
+    → T (linked-from (suc b) ws b) → T (linked-from (suc (b + size c)) (store c b ws) (b + size c))
+unfolding linked-from
+links-further c b ws h l room t =
+    stored-cond c b ws h l room .sound (λ n. true) (λ n k. refl) (all-every _ (all-weaken (λ n v. tt) (all-any (tests c)))) (passes-same (λ n. true) ws (store c b ws) b (λ i o. sym (same-store c b ws i o)) t)
+
+pub links-same : (vs ws : List ℕ) (k : ℕ) → Same vs ws k → T (linked-from (suc k) vs k) → T (linked-from (suc k) ws k)
+unfolding linked-from
+links-same vs ws k h t = passes-same (λ n. true) vs ws k h t
+
 -- ---- a list of conditions
 
 record StoredList (cs : List (Cond Node)) (ws : List ℕ) (b k : ℕ) : Type 0 where
@@ -319,11 +330,6 @@ module _ (cs : List (Cond Node)) (ws : List ℕ) (h : T (every (λ c. every fits
   none-left : (ok : Node → Bool) (vs : List ℕ) → Passes ok vs 0
   unfolding all-sound
   none-left ok vs = tt
-
-  -- each node has its link
-  pub stored-linked : T (linked-from (suc (list-size cs)) (store-list cs 0 ws) (list-size cs))
-  unfolding linked-from
-  stored-linked = from-none .sound (λ n. true) (λ n b. refl) (all-every _ (all-weaken (λ c u. all-every _ (all-weaken (λ n v. tt) (all-any (tests c)))) (all-any cs))) (none-left (λ n. true) (store-list cs 0 ws))
 
   terms-blind : (mask : ℕ) → Blind (terms-sound mask)
   unfolding terms-sound compared

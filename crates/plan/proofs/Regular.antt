@@ -14,12 +14,12 @@ use Rattle.model.specs.Queries.{sources}
 use Rattle.schema.specs.Schemas.{streams-in}
 use Rattle.orders.specs.Orders.{order-end}
 use Rattle.query.specs.Forms.{Words, rows-form, pick-form, keep-form, keep-of, form-order, join-form, aggregate-form, under-form, inner, queries-in}
-use Rattle.query.specs.Shapes.{depth, taken}
+use Rattle.query.specs.Shapes.{has-number, depth, taken}
 use Rattle.query.specs.declared.Form.{Form}
 use Rattle.query.proofs.Rewritten.{keep-order}
 use Rattle.query.proofs.Shapes.{Laid, laid-rows, laid-pick, laid-keep, laid-join, laid-aggregate, form-rows, form-pick, form-keep, form-join, form-aggregate}
 use Rattle.rewrite.proofs.Shown.{declared-all}
-use Rattle.plan.specs.Plans.{viewless, form-regular, regular, has-number}
+use Rattle.plan.specs.Plans.{viewless, form-regular, regular}
 use Rattle.plan.proofs.Meaning.{Kind, k-rows, k-pick, k-keep, k-join, k-aggregate, k-under, kind-of, form-under}
 
 -- ---- what a form tells by itself

@@ -21,7 +21,7 @@ use Rattle.model.proofs.Accepted.{accepted, sources-rewritten}
 use Rattle.model.proofs.Keeps.{keeps-distinct}
 use Rattle.schema.specs.Schemas.{streams-in, schema-of}
 use Rattle.query.specs.Forms.{Words, query-in}
-use Rattle.query.specs.Shapes.{depth, formed, one-query}
+use Rattle.query.specs.Shapes.{has-number, depth, formed, one-query}
 use Rattle.query.specs.Tables.{table-words, rewritten-forms, rewritten-table}
 use Rattle.query.specs.declared.Form.{Form}
 use Rattle.query.proofs.Shapes.{one-laid}
@@ -33,7 +33,7 @@ use Rattle.rewrite.proofs.Shown.{declared-all}
 use Rattle.rewrite.proofs.SideBySide.{cut-long, one-side, two-sides}
 use Rattle.rewrite.proofs.OnPair.{pair-long, on-pair, sum-on-pair}
 use Rattle.rewrite.proofs.OneStream.{sum-long, on-stream}
-use Rattle.plan.specs.Plans.{plan-in, planned, regular, pick-count, has-number}
+use Rattle.plan.specs.Plans.{plan-in, planned, regular, pick-count}
 use Rattle.plan.proofs.Meaning.{plan-means}
 use Rattle.plan.proofs.Regular.{told, told-laid}
 use Rattle.plan.proofs.Rewriter.{cut-depth, cut-regular, pair-depth, pair-regular, sum-depth, sum-regular}

@@ -306,7 +306,3 @@ regular w ns (f ∷ fs) = form-regular w ns f fs && regular w ns fs
 unfoldable pub pick-count : List Form → ℕ
 pick-count [] = 0
 pick-count (f ∷ fs) = cond (eqb (f .kind) pick-form) (suc (pick-count fs)) (pick-count fs)
-
--- a form that is an aggregate has its number
-unfoldable pub has-number : Form → Bool
-has-number f = cond (eqb (f .kind) aggregate-form) (not (eqb (f .first) 0)) true

@@ -7,5 +7,6 @@ pub mod Widths
 pub mod Running
 pub mod Standing
 pub mod Meaning
+pub mod Linking
 pub mod Verdicts
 pub mod Texts

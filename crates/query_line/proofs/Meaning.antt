@@ -75,7 +75,7 @@ unfoldable pub forms-run : List ℕ → Reading → List Inner → List Q.Form
 forms-run ns r [] = []
 forms-run ns r (i ∷ is) = own-of ns (r .words) (i .around) (i .part) 0 .form ∷ forms-run ns (with-part ns r i) is
 
-part-length : (ns : List ℕ) (b : ℕ) (x : Part) (ws : List ℕ) → length (part-stored ns b x ws) ≡ length ws
+pub part-length : (ns : List ℕ) (b : ℕ) (x : Part) (ws : List ℕ) → length (part-stored ns b x ws) ≡ length ws
 unfolding part-stored
 part-length ns b (rows s) ws = refl
 part-length ns b (pick c) ws = length-store (nodes-of ns c) b ws
@@ -156,7 +156,7 @@ module _ (ns : List ℕ) where
   unfoldable pub Agrees : List ℕ → Reading → List ℕ → List Inner → Type 0
   Agrees vs r ws is = Same vs (store-parts ns r ws is) (with-parts ns r is .words)
 
-  agrees-here : (vs : List ℕ) (is : List Inner) (r : Reading) (ws : List ℕ) → with-parts ns r is .over ≡ false → Agrees vs r ws is → Same vs ws (r .words)
+  pub agrees-here : (vs : List ℕ) (is : List Inner) (r : Reading) (ws : List ℕ) → with-parts ns r is .over ≡ false → Agrees vs r ws is → Same vs ws (r .words)
   unfolding Agrees
   agrees-here vs is r ws e a i h = let k = parts-words is r e in a i (omega arith) ∙ parts-same is r ws e i h
 

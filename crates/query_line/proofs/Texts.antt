@@ -1,5 +1,5 @@
 -- Whole texts: each return of the code that reads them.
-use mathlib.Core.Path.{_≡_, refl, sym, ap, _∙_}
+use mathlib.Core.Path.{_≡_, refl, sym, ap, _∙_, subst}
 use mathlib.Core.List.{List, [], _∷_}
 use mathlib.Core.Bool.{Bool, true, false, not, cond}
 use mathlib.Core.Option.{Option, none, some, Option·none-ne-some, Option·some-injective}
@@ -37,7 +37,7 @@ use Rattle.query.specs.Tables.{query-forms}
 use Rattle.query_read.specs.Seeing.{readable}
 use Rattle.query_line.specs.declared.Asked.{Asked}
 use Rattle.query_line.specs.declared.Routed.{Routed}
-use Rattle.query_line.specs.Asking.{form-checks, Tells, Asks}
+use Rattle.query_line.specs.Asking.{form-checks, Tells, Asks, Means}
 use Rattle.query_line.specs.Texts.{unread-asked, unread-routed, routed-of, Told, QueryTold, AskTold, RouteTold}
 
 never : {X : Type 0} → _≡_ {A = Bool} true false → X
@@ -106,10 +106,10 @@ module _ {A : Type 0} (form : A → Form) (spare : ℕ) (ns : List ℕ) (s : Byt
     text-some h e f =
         record {
           checks = λ sound lent. let k = f sound lent in k .tells .checks ∙ sym (verdict (k .what) (k .read) h (k .is) (k .same) (e (k .what) (k .is)));
-          query = λ sound lent b p g granted profile.
+          query = λ sound lent b p g.
               let k = f sound lent in
               let u : k .what ≡ b = Option·some-injective (k .what) b (sym (k .is) ∙ p) in
-              ap (resolve (schema-of ns)) (ap form (sym u) ∙ k .same) ∙ k .tells .query (sym (verdict (k .what) (k .read) h (k .is) (k .same) (e (k .what) (k .is))) ∙ g) granted profile;
+              subst (λ y. Means (schema-of ns) y vs (x .query)) (sym (ap form (sym u) ∙ k .same)) (k .tells .query (sym (verdict (k .what) (k .read) h (k .is) (k .same) (e (k .what) (k .is))) ∙ g));
           kept = k;
         }
       where

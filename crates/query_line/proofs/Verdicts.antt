@@ -3,7 +3,7 @@ use mathlib.Core.Path.{_≡_, refl, sym, ap, ap₂, _∙_, subst}
 use mathlib.Core.List.{List, [], _∷_, _++_, map}
 use mathlib.Core.Bool.{Bool, true, false, _&&_, _||_, not, cond}
 use mathlib.Core.Option.{Option, none, some, Option·none-ne-some}
-use Prim.Native.Nat.{ℕ, _+_, _-_, _≤_, _<_}
+use Prim.Native.Nat.{ℕ, _+_, _-_, _≤_, _<_, suc}
 use native.Mathlib.Omega.{arith}
 use lib.Dec.{T, leb, ltb}
 use lib.ListN.{length, drop, getD, length-drop}
@@ -27,12 +27,14 @@ use Rattle.claims.proofs.Known.{placed-allowed}
 use Rattle.claims.proofs.Resolved.{resolved-distinct}
 use Rattle.text.specs.Readings.{any-form}
 use Rattle.schema.specs.Schemas.{schema-of, schema-sound}
+use Rattle.nodes.specs.Nodes.{linked-from, all-sound}
 use Rattle.nodes.specs.Storing.{list-size, store-list}
 use Rattle.conditions.specs.Seeing.{nodes-of}
 use Rattle.conditions.proofs.Capacity.{form-room}
 use Rattle.query.specs.Forms.{query-in}
+use Rattle.query.specs.declared.Query.{Query}
 use Rattle.query.specs.Tables.{new-query, query-forms}
-use Rattle.query.proofs.Shapes.{laid-query}
+use Rattle.query.proofs.Shapes.{Laid, laid-query, laid-one}
 use Rattle.query_read.specs.Parts as R
 use Rattle.query_read.specs.Parts.{Inner}
 use Rattle.query_read.specs.Seeing.{with-own, with-part, with-parts, no-reading, reading-ended, form-read, form-stored, readable, FormRead}
@@ -42,12 +44,13 @@ use Rattle.query_read.proofs.Answering as A
 use Rattle.query_line.specs.declared.Asked.{Asked}
 use Rattle.query_line.specs.declared.Placing.{Placing}
 use Rattle.query_line.specs.Placing.{begun}
-use Rattle.query_line.specs.Asking.{placing-of, asked-of, form-checks, Tells, Asks}
+use Rattle.query_line.specs.Asking.{placing-of, asked-of, form-checks, Tells, Asks, Means}
 use Rattle.query_line.specs.Texts.{unread-asked}
 use Rattle.query_line.proofs.Bounds.{part-fine, over-is, parts-fine, parts-few}
 use Rattle.query_line.proofs.Known.{sane, part-declared, all-sane, all-declared, unknown-is, repeated-is, keeps-few}
 use Rattle.query_line.proofs.Running.{run-parts, placing-is, nothing-full, nothing-counted}
 use Rattle.query_line.proofs.Standing.{known, misplaced-is, window-is, both-left, both-right}
+use Rattle.query_line.proofs.Linking.{all-numbered, all-laid}
 use Rattle.query_line.proofs.Meaning.{forms-run, forms-are, nothing-formed, parts-words, Agrees, Lays, lays}
 
 never : {X : Type 0} → _≡_ {A = Bool} true false → X
@@ -179,17 +182,40 @@ module _ (ns : List ℕ) (sound : T (schema-sound ns)) (s : Bytes) (at : ℕ) (w
         let l = few db in
         forms-are ns (R.parts 0 f) no-reading (omega arith) (nothing-full ns) ∙ ap (λ x. x ++ forms-run ns no-reading (R.parts 0 f)) (nothing-formed ns)
 
-  meaning : first (form-checks (schema-of ns) f) ≡ none → (granted : List ℕ) (profile : List Entry)
-      → resolve (schema-of ns) f ≡ query-in (record { own = form-stored ns (some q) ws; granted = granted; profile = profile }) (query-forms (asked-of (form-read ns s (some q)) (placing-of ns (form-read ns s (some q))) .query))
+  abbrev stored : List ℕ
+  stored = form-stored ns (some q) ws
+
+  abbrev table-read : Query
+  table-read = asked-of (form-read ns s (some q)) (placing-of ns (form-read ns s (some q))) .query
+
+  linked-none : T (linked-from (suc (no-reading .words)) stored (no-reading .words))
+  unfolding linked-from all-sound no-reading
+  linked-none = tt
+
+  run-length : (is : List Inner) (r : Reading) → length (forms-run ns r is) ≡ length is
+  unfolding forms-run
+  run-length [] r = refl
+  run-length (i ∷ is) r = ap suc (run-length is (with-part ns r i))
+
+  meaning : first (form-checks (schema-of ns) f) ≡ none → Means (schema-of ns) f stored table-read
   unfolding form-checks query-checks Lays
-  meaning no-refusal granted profile =
+  meaning no-refusal =
       let p = first-none shallow (form-bounded f) (query-declared (schema-of ns) f) (every (distinct same-ref) (form-keeps f)) (placed (schema-of ns) (resolve (schema-of ns) f)) (sized (resolve (schema-of ns) f)) no-refusal in
       let db : (shallow && form-bounded f) ≡ true = ap₂ _&&_ (p .deep) (p .bound) in
       let stands = true-T (placed (schema-of ns) (resolve (schema-of ns) f)) (p .stands) in
       let al = T-true (allowed (columns-of (schema-of ns)) (resolve (schema-of ns) f)) (placed-allowed (schema-of ns) (resolve (schema-of ns) f) stands) in
       let once = resolved-distinct (schema-of ns) f (true-T (query-declared (schema-of ns) f) (p .declared)) stands (true-T (sized (resolve (schema-of ns) f)) (p .fits)) (true-T (every (distinct same-ref) (form-keeps f)) (p .once)) in
-      sym (ap (query-in (record { own = form-stored ns (some q) ws; granted = granted; profile = profile })) (forms-there db)
-      ∙ laid-query (lays ns sound (form-stored ns (some q) ws) granted profile 0 f no-reading ws (all-known db (p .declared)) al once (read-over db) (words-most db) (lines s ws rd .1) (agrees db)))
+      let forms = forms-run ns no-reading (R.parts 0 f) in
+      let e : query-forms table-read ≡ forms = forms-there db in
+      let laid : (granted : List ℕ) (profile : List Entry) → Laid (record { own = stored; granted = granted; profile = profile }) (resolve (schema-of ns) f) forms =
+      λ granted profile. lays ns sound stored granted profile 0 f no-reading ws (all-known db (p .declared)) al once (read-over db) (words-most db) (lines s ws rd .1) (agrees db) in
+      record {
+        is = λ granted profile. sym (ap (query-in (record { own = stored; granted = granted; profile = profile })) e ∙ laid-query (laid granted profile));
+        one = rw e (laid-one (laid [] []));
+        few = rw (e, run-length (R.parts 0 f) no-reading) (few db);
+        laid = rw e (all-laid ns sound stored (R.parts 0 f) no-reading ws (all-known db (p .declared)) (read-over db) (words-most db) (lines s ws rd .1) (agrees db) linked-none);
+        numbers = rw e (all-numbered ns (R.parts 0 f) no-reading);
+      }
 
   passing : first (form-checks (schema-of ns) f) ≡ none → (shallow && form-bounded f) ≡ true
   unfolding form-checks query-checks
@@ -273,9 +299,9 @@ module _ (ns : List ℕ) (s : Bytes) (at : ℕ) (ws vs : List ℕ) (r : Reading)
             ok = ap (λ a. a .ok) y ∙ asked-ok (form-read ns s (some q)) (placing-of ns (form-read ns s (some q)));
             next = ap (λ a. a .next) y ∙ asked-next ns s q (placing-of ns (form-read ns s (some q)));
             checks = ap (λ a. first (table (a .checks))) y ∙ verdict ns sound s at ws rd q e;
-            query = λ none-fails granted profile.
+            query = λ none-fails.
                 let db = passing ns sound s at ws rd q e none-fails in
                 let over : r .over ≡ false = ap (λ a. a .over) i ∙ over-is ns s q ∙ ap not db in
                 let w : vs ≡ form-stored ns (some q) ws = h .stored (ap (λ a. a .ok) i ∙ read-ok q) over ∙ rw e in
-                rw (w, y) (meaning ns sound s at ws rd q e none-fails granted profile);
+                rw (w, y) (meaning ns sound s at ws rd q e none-fails);
           }

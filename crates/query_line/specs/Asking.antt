@@ -3,13 +3,14 @@ use mathlib.Core.Path.{_≡_}
 use mathlib.Core.List.{List, _∷_}
 use mathlib.Core.Bool.{Bool, true, false, not}
 use mathlib.Core.Option.{Option, none, some}
-use Prim.Native.Nat.{ℕ, _-_}
+use Prim.Native.Nat.{ℕ, _-_, _≤_}
 use lib.Dec.{T, leb}
 use lib.ListN.{length, drop}
+use Rattle.lists.specs.Lists.{every}
 use Rattle.refusal.specs.Checks.{Check, refuse, first, table, shown}
 use Rattle.refusal.specs.declared.Refusal.the-variants.{Bound}
 use Rattle.syntax.specs.Grammar.{Bytes, Form, Entry}
-use Rattle.syntax.specs.Limits.{max-depth, form-depth}
+use Rattle.syntax.specs.Limits.{max-depth, max-forms, form-depth}
 use Rattle.syntax.specs.Readers.{Read}
 use Rattle.model.specs.Queries.{Schema}
 use Rattle.calls.specs.Names.{resolve}
@@ -18,6 +19,8 @@ use Rattle.text.specs.Readings.{any-form}
 use Rattle.schema.specs.Schemas.{schema-of, schema-sound}
 use Rattle.query.specs.Forms.{query-in}
 use Rattle.query.specs.Tables.{query-forms}
+use Rattle.query.specs.Shapes.{one-query, laid-forms, has-number}
+use Rattle.query.specs.declared.Query.{Query}
 use Rattle.query_read.specs.Seeing.{readable}
 use Rattle.query_read.specs.declared.Reading.{Reading}
 use Rattle.query_line.specs.Placing.{begun, placed-from}
@@ -38,13 +41,20 @@ asked-of r p = record { ok = true; next = r .next; checks = shown (r .over) (r .
 unfoldable pub form-checks : Schema → Form → List Check
 form-checks d q = refuse Bound (not (leb (form-depth q) max-depth)) ∷ query-checks d q
 
--- its place, its checks, and the query that its table and the words stand for where none of them fails
+-- A table and words that stand for a query, whatever is granted and whoever asks: one query of forms that people write.
+pub record Means (d : Schema) (q : Form) (ws : List ℕ) (t : Query) : Type 0 where
+  pub is : (granted : List ℕ) (profile : List Entry) → resolve d q ≡ query-in (record { own = ws; granted = granted; profile = profile }) (query-forms t)
+  pub one : T (one-query (query-forms t))
+  pub few : length (query-forms t) ≤ max-forms
+  pub laid : T (laid-forms ws (query-forms t))
+  pub numbers : T (every has-number (query-forms t))
+
+-- its place, its checks, and the table and words that stand for it where none of them fails
 pub record Tells (ns : List ℕ) (s : Bytes) (ws : List ℕ) (q : Read Form) (r : Asked) : Type 0 where
   pub ok : r .ok ≡ true
   pub next : r .next ≡ length s - length (q .left)
   pub checks : first (table (r .checks)) ≡ first (form-checks (schema-of ns) (q .what))
-  pub query : first (form-checks (schema-of ns) (q .what)) ≡ none
-      → (granted : List ℕ) (profile : List Entry) → resolve (schema-of ns) (q .what) ≡ query-in (record { own = ws; granted = granted; profile = profile }) (query-forms (r .query))
+  pub query : first (form-checks (schema-of ns) (q .what)) ≡ none → Means (schema-of ns) (q .what) ws (r .query)
 
 -- for a line that is not too long, words enough and a sound schema
 pub record Asks (ns : List ℕ) (s : Bytes) (at : ℕ) (ws ws′ : List ℕ) (r : Asked) : Type 0 where

@@ -9,16 +9,15 @@ use lib.Dec.{T, leb}
 use lib.ListN.{length}
 use Rattle.refusal.specs.Checks.{Check, first, table, unread}
 use Rattle.syntax.specs.Grammar as G
-use Rattle.syntax.specs.Grammar.{Bytes, Form, RouteLine, Entry}
+use Rattle.syntax.specs.Grammar.{Bytes, Form, RouteLine}
 use Rattle.syntax.specs.Readers.{parse-as, parse-query}
-use Rattle.calls.specs.Names.{resolve}
 use Rattle.calls.specs.Tables.{query-checks}
 use Rattle.calls.specs.Replies.{written}
 use Rattle.text.specs.Words.{clamp}
 use Rattle.schema.specs.Schemas.{schema-of, schema-sound}
-use Rattle.query.specs.Forms.{query-in}
-use Rattle.query.specs.Tables.{new-query, query-forms}
+use Rattle.query.specs.Tables.{new-query}
 use Rattle.query_read.specs.Seeing.{max-words}
+use Rattle.query_line.specs.Asking.{Means}
 use Rattle.query_line.specs.declared.Asked.{Asked}
 use Rattle.query_line.specs.declared.Routed.{Routed}
 
@@ -32,11 +31,11 @@ unread-routed long = record { route = pos 0; asked = unread-asked long }
 unfoldable pub routed-of : ℤ → Asked → Routed
 routed-of n a = record { route = n; asked = a }
 
--- its checks, and the query that its table and the words stand for where none of them fails; `spare` brackets of the text are not counted
+-- its checks, and the table and words that stand for it where none of them fails; `spare` brackets of the text are not counted
 pub record Told {A : Type 0} (form : A → Form) (spare : ℕ) (o : Option A) (ns : List ℕ) (s : Bytes) (ws ws′ : List ℕ) (r : Asked) : Type 0 where
   pub checks : T (schema-sound ns) → T (leb max-words (length ws)) → first (table (r .checks)) ≡ first (written spare s o (λ a. query-checks (schema-of ns) (form a)))
   pub query : T (schema-sound ns) → T (leb max-words (length ws)) → (a : A) → o ≡ some a → first (written spare s o (λ a. query-checks (schema-of ns) (form a))) ≡ none
-      → (granted : List ℕ) (profile : List Entry) → resolve (schema-of ns) (form a) ≡ query-in (record { own = ws′; granted = granted; profile = profile }) (query-forms (r .query))
+      → Means (schema-of ns) (form a) ws′ (r .query)
   pub kept : length ws′ ≡ length ws
 
 -- the text of a query alone

@@ -624,8 +624,12 @@ module _ (ns ws roles profile : List ℕ) (gs : List D.Grant) (q : Query ℕ) (p
             subst (All Known-route) (sym (sides-both e))
             (all-gather {P = Found on-left}
             (λ i f. all-map {P = Found on-right} (side-route i)
-            (λ j h. (stands f, stands h, on-two (n .left) (n .right) refl (streams-both e .0) (left-of f)
-            (its-streams (n .right ∷ []) h (right-streams (h .slot) (and-r (mine n ws roles profile (h .slot)) _ (h .passes))))))
+            (λ j h. (
+              stands f,
+              stands h,
+              on-two (n .left) (n .right) refl (streams-both e .0) (left-of f)
+                  (its-streams (n .right ∷ []) h (right-streams (h .slot) (and-r (mine n ws roles profile (h .slot)) _ (h .passes)))),
+            ))
             (found-at on-right (o .right) (right-places n ws roles profile gs few)))
             left-known)
 
