@@ -1,5 +1,5 @@
-pub mod Sides
-pub mod Planned
+pub mod Columns
 pub mod Pairs
+pub mod Alone
 pub mod Joined
 pub mod Given
