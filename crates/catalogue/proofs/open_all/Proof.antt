@@ -160,8 +160,7 @@ module _ {M : Type 1} (𝓤 : URA M) (H : Heap 𝓤) (A : Atoms 𝓤) (W : Given
   abbrev Toks : Item 𝓤
   Toks = ‵ (flft κ₁ q₁) ⊛ ‵ (flft κ₂ q₂) ⊛ ‵ ftrue
 
-  -- all of them can be copied
-
+  -- Rest can be copied
   rest-twice : ent 𝓤 (sem 𝓤 H A Rest) (⋆ 𝓤 H A (‵ Rest ∷ ‵ Rest ∷ []))
   rest-twice =
       qed W (‵ Rest ∷ []) ∵ fsplit ! $ use1 W (‵ (ShrSlice (named 1) κ₁ u64 .own ns (nsv ∷ [])) ⊛ ‵ (ShrSlice (named 1) κ₁ u64 .own ns (nsv ∷ []))) (shr-slice-copy 𝓤 H A W (named 1) κ₁ u64 .twice ns (nsv ∷ [])) $ split ! $ move ! (2 ∷ []) $
