@@ -1,6 +1,6 @@
 -- Numbers of rows, at steps through lists, and the rows whose numbers compare so.
 use mathlib.Core.List.{List}
-use mathlib.Core.Bool.{Bool, _&&_, cond}
+use mathlib.Core.Bool.{Bool, _&&_, _||_, cond}
 use Prim.Native.Nat.{ℕ, _+_, _*_, _-_, _≤_, _<_}
 use lib.IntN.{ℤ, pos}
 use lib.Dec.{leb, ltb, eqb}
@@ -17,18 +17,18 @@ use Rattle.rows.specs.Masks.{row-bit, rows-of, no-rows}
 unfoldable pub strip : List ℤ → ℕ → ℕ → ℕ → ℤ
 strip xs p s i = getD xs (p + i * s) (pos 0)
 
--- the numbers of cells that are compared have 31 bits
+-- the first has a number of 31 bits
 abbrev pub near-end : ℕ
 near-end = 2147483648
 
--- there are n rows, at most 128, and a list of so many holds the numbers of all, the last of which stands last
+-- at most 128 rows, steps of at most 6, and a list of so many holds the number of the last row
 unfoldable pub strip-lent : ℕ → ℕ → ℕ → ℕ → Bool
-strip-lent size p s n = ltb 0 n && leb n max-rows && ltb (p + (n - 1) * s) size && ltb (p + (n - 1) * s) near-end
+strip-lent size p s n = leb n max-rows && leb s max-columns && ltb p near-end && (eqb n 0 || ltb (p + (n - 1) * s) size)
 
--- the numbers of n rows from one on are there
+-- the numbers of n rows from one on are there, at places that 32 bits hold
 pub record Strip (xs : List ℤ) (p s from n : ℕ) : Type 0 where
   pub inside : (i : ℕ) → from ≤ i → i < from + n → p + i * s < length xs
-  pub near : (i : ℕ) → from ≤ i → i < from + n → p + i * s < near-end
+  pub near : (i : ℕ) → from ≤ i → i < from + n → p + i * s < 4294967296
 
 -- ---- two numbers for each row
 
