@@ -1,7 +1,7 @@
 -- The six comparisons by two: the same, and below; and of two values once for all rows.
 use mathlib.Core.Path.{_≡_, refl, sym, ap, ap₂, _∙_}
-use mathlib.Core.Bool.{Bool, true, false, _&&_, _||_, not, cond}
-use Prim.Native.Nat.{ℕ, _<_, _≤_}
+use mathlib.Core.Bool.{Bool, true, false, _&&_, _||_, not, and-comm, or-comm}
+use Prim.Native.Nat.{ℕ, _<_}
 use native.Mathlib.Decide.{decLt}
 use native.Mathlib.Omega.{arith}
 use lib.IntN.{ℤ, pos, negsuc}
@@ -10,7 +10,7 @@ use lib.Signed.{ltZ, leZ}
 use mir.Syntax.{w32}
 use mir.Val.{ofZ, toZ, SFits}
 use mir.ValLaws.{toZ-ofZ}
-use borrow.Author.Tests.{eq-eqb, ne-eqb, lt-ltb, le-ltb, le-leb, lt-leb}
+use borrow.Author.Tests.{ne-eqb, lt-ltb, le-ltb, le-leb, lt-leb}
 use Rattle.syntax.specs.Grammar.{eq, lt}
 use Rattle.model.specs.Meaning.{compares}
 use Rattle.nodes.specs.Nodes.{numbered-op}
@@ -77,18 +77,6 @@ pub ruleset compared-ends = (compared-eq, compared-lt, compared-gt, compared-ne,
 
 -- ---- turned
 
-and-swap : (a b : Bool) → (a && b) ≡ (b && a)
-and-swap true true = refl
-and-swap true false = refl
-and-swap false true = refl
-and-swap false false = refl
-
-or-swap : (a b : Bool) → (a || b) ≡ (b || a)
-or-swap true true = refl
-or-swap true false = refl
-or-swap false true = refl
-or-swap false false = refl
-
 module _ (head : ℕ) where
   -- a head that says the same of two numbers the other way round
   abbrev pub Turned : ℕ → Type 0
@@ -96,11 +84,11 @@ module _ (head : ℕ) where
 
   pub turned-eq : head ≡ 1 → Turned 1
   unfolding numbered-op compares
-  turned-eq e x y = rw e (and-swap (leZ x y) (leZ y x))
+  turned-eq e x y = rw e (and-comm (leZ x y) (leZ y x))
 
   pub turned-ne : head ≡ 2 → Turned 2
   unfolding numbered-op compares
-  turned-ne e x y = rw e (or-swap (ltZ x y) (ltZ y x))
+  turned-ne e x y = rw e (or-comm (ltZ x y) (ltZ y x))
 
   pub turned-lt : head ≡ 3 → Turned 5
   unfolding numbered-op compares
