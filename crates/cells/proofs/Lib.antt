@@ -1,3 +1,5 @@
+pub mod Columns
+pub mod Keyed
 pub mod Tests
 pub mod Stored
 pub mod Walks

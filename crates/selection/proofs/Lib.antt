@@ -1,4 +1,3 @@
-pub mod Cells
 pub mod Comparing
 pub mod Sides
 pub mod Relating

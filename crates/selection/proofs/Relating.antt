@@ -1,15 +1,15 @@
 -- Two sides of a comparison as numbers at steps through lists, and the times of rows as such a list.
 use mathlib.Core.Path.{_≡_, refl, sym, ap, ap₂, _∙_}
 use mathlib.Core.List.{List, [], _∷_, map}
-use mathlib.Core.Bool.{Bool, true, false, _&&_, _||_, not, cond}
-use Prim.Native.Nat.{ℕ, zero, suc, _+_, _*_, _-_, _/_, _%_, _<_, _≤_, min, max}
+use mathlib.Core.Bool.{Bool, true, false, _&&_, not, cond}
+use Prim.Native.Nat.{ℕ, _+_, _*_, _-_, _/_, _%_, _<_, _≤_, min, max}
 use native.Mathlib.Decide.{decLt}
 use native.Mathlib.Omega.{arith}
 use lib.IntN.{ℤ, pos, negsuc}
 use lib.Dec.{T, leb, ltb, eqb, eqb→eq, ltb→lt}
 use lib.ListN.{length, getD, set, length-set}
 use lib.Seq.{getD-set-same, getD-set-other}
-use lib.Signed.{ltZ, leZ}
+use lib.Signed.{ltZ}
 use mir.Syntax.{w32}
 use mir.Val.{toZ}
 use mir.ValLaws.{toZ-pos}
@@ -17,21 +17,25 @@ use borrow.Author.Tests.{eq-eqb, ne-eqb, lt-ltb, le-ltb, le-leb, ltb-true, ltb-f
 use Rattle.lists.specs.Lists.{count-from, same-list}
 use Rattle.lists.proofs.Laws.{or-cases, true-T, and-l, and-r}
 use Rattle.syntax.specs.Grammar.{Op, eq, ne, lt, le, gt, ge, test}
-use Rattle.syntax.specs.Limits.{max-streams, max-columns, max-rows, top}
+use Rattle.syntax.specs.Limits.{max-columns, max-rows, top}
 use Rattle.model.specs.Conditions.{true-of}
 use Rattle.model.specs.Meaning.{compares, term-value, compare-holds}
 use Rattle.model.specs.Grants.{entry-value, fill-term, fill-compare}
 use Rattle.text.specs.Words.{name-of}
+use Rattle.ledger.specs.Records.{values-size}
 use Rattle.nodes.specs.declared.Node.{Node}
 use Rattle.nodes.specs.Nodes.{unbiased, coded-term, numbered-op, node-compare}
 use Rattle.rows.specs.declared.Rows.{Rows}
-use Rattle.rows.specs.Masks.{rows-of}
-use Rattle.rows.proofs.Masks.{rows-alike}
+use Rattle.rows.specs.Masks.{bits, part, rows-of}
+use Rattle.rows.proofs.Masks.{rows-alike, bits-shift}
+use Rattle.rows.proofs.Loops.{rows-from-start}
+use Rattle.cells.specs.Columns.{strip, strip-lent, compared-at}
+use Rattle.cells.proofs.Columns.{lent-true}
 use Rattle.selection.specs.declared.Side.{Side}
 use Rattle.selection.specs.declared.Scope.{Scope}
 use Rattle.selection.specs.Scopes.{scope-columns, scope-row, paired, entry-at, profile-in}
-use Rattle.selection.specs.Evaluating.{relate, strip, Strip, side-at, column-end, Room, left-time, time-at, Clock, side-value, Stands, Lent, wide, narrow, test-at, passing}
-use Rattle.selection.proofs.Comparing.{le-not}
+use Rattle.selection.specs.Evaluating.{relate, clock-size, side-at, column-end, moved-side, next-words, Room, left-time, time-at, Clock, side-value, Stands, Lent, wide, narrow, test-at, passing}
+use Rattle.selection.proofs.Comparing.{le-not, Turned}
 
 -- ---- a side as numbers at steps
 
@@ -47,34 +51,50 @@ module _ (x : Side) (ck vs : List ℤ) where
   unfolding strip side-at
   sided-time e = record { each = λ i. let z : 0 + i * 1 ≡ i = omega arith in rw e (ap (λ (k : ℕ). getD ck k (pos 0)) z) }
 
+  fixed-at : (i : ℕ) → (x .kind ≡ 1 → ⊥) → (x .kind ≡ 2 → ⊥) → side-at x ck vs i ≡ x .value
+  unfolding side-at
+  fixed-at i n m = rw (ne-eqb (x .kind) 1 n, ne-eqb (x .kind) 2 m)
+
   pub sided-fixed : {xs : List ℤ} → (x .kind ≡ 1 → ⊥) → (x .kind ≡ 2 → ⊥) → xs ≡ x .value ∷ [] → Sided xs 0 0 x ck vs
-  unfolding strip side-at
-  sided-fixed n m e =
-      record { each = λ i. let z : 0 + i * 0 ≡ 0 = omega arith in rw (ne-eqb (x .kind) 1 n, ne-eqb (x .kind) 2 m) (ap₂ (λ (l : List ℤ) (k : ℕ). getD l k (pos 0)) e z) }
+  unfolding strip
+  sided-fixed n m e = record { each = λ i. let z : 0 + i * 0 ≡ 0 = omega arith in ap₂ (λ (l : List ℤ) (k : ℕ). getD l k (pos 0)) e z ∙ sym (fixed-at i n m) }
 
+-- what is read of it is lent
 module _ {x : Side} {n : ℕ} {ck vs : List ℤ} (h : Room x n ck vs) where
-  pub column-strip : Strip vs (x .at) 6 0 n
-  column-strip = let a = h .few in let b = h .near in let c = h .values in record { inside = λ i k l. omega arith; near = λ i k l. omega arith }
+  pub column-lent : strip-lent (length vs) (x .at) 6 n ≡ true
+  column-lent =
+      let b = h .near in
+      let c = h .values in
+      lent-true vs (x .at) 6 n (h .few) (omega arith) (omega arith) (λ k. let a = h .column k in omega arith)
 
-  pub time-strip : x .kind ≡ 2 → Strip ck 0 1 0 n
-  time-strip e = let a = h .few in let c = h .clock e in record { inside = λ i k l. omega arith; near = λ i k l. omega arith }
+  pub time-lent : x .kind ≡ 2 → strip-lent (length ck) 0 1 n ≡ true
+  time-lent e = let c = h .clock e in lent-true ck 0 1 n (h .few) (omega arith) (omega arith) (λ k. omega arith)
 
-pub single-strip : {xs : List ℤ} {v : ℤ} (n : ℕ) → xs ≡ v ∷ [] → Strip xs 0 0 0 n
-single-strip {xs} n e = let z : length xs ≡ 1 = ap length e in record { inside = λ i a b. omega arith; near = λ i a b. omega arith }
+  pub single-lent : {xs : List ℤ} {v : ℤ} → xs ≡ v ∷ [] → strip-lent (length xs) 0 0 n ≡ true
+  single-lent {xs} e = let z : length xs ≡ 1 = ap length e in lent-true xs 0 0 n (h .few) (omega arith) (omega arith) (λ k. omega arith)
+
+pub plain-lent : (vs : List ℤ) (p n : ℕ) → n ≤ max-rows → p < column-end → values-size ≤ length vs → strip-lent (length vs) p 6 n ≡ true
+plain-lent vs p n h k l = lent-true vs p 6 n h (omega arith) (omega arith) (λ m. omega arith)
 
 module _ (head n : ℕ) (ck vs : List ℤ) where
   pub against-end : (f : ℕ → ℤ) (r : Side) {x : Rows} {ys : List ℤ} {q t : ℕ} → x ≡ rows-of (relate head f (strip ys q t)) 0 n → Sided ys q t r ck vs → x ≡ rows-of (relate head f (side-at r ck vs)) 0 n
-  unfolding relate
+  unfolding compared-at
   against-end f r {ys = ys} {q = q} {t = t} e b = e ∙ rows-alike (relate head f (strip ys q t)) (relate head f (side-at r ck vs)) 0 n (λ i k l. ap (compares (numbered-op head) (f i)) (b .each i))
 
+  pub against-value : (f : ℕ → ℤ) (r : Side) {v : ℤ} {x : Rows} → x ≡ rows-of (relate head f (λ i. v)) 0 n → v ≡ r .value → (r .kind ≡ 1 → ⊥) → (r .kind ≡ 2 → ⊥) → x ≡ rows-of (relate head f (side-at r ck vs)) 0 n
+  unfolding compared-at
+  against-value f r {v = v} e z a b = e ∙ rows-alike (relate head f (λ i. v)) (relate head f (side-at r ck vs)) 0 n (λ i k l. ap (compares (numbered-op head) (f i)) (z ∙ sym (fixed-at r ck vs i a b)))
+
   pub sided-end : (l r : Side) {x : Rows} {xs : List ℤ} {p s : ℕ} → x ≡ rows-of (relate head (strip xs p s) (side-at r ck vs)) 0 n → Sided xs p s l ck vs → x ≡ rows-of (relate head (side-at l ck vs) (side-at r ck vs)) 0 n
-  unfolding relate
+  unfolding compared-at
   sided-end l r {xs = xs} {p = p} {s = s} e a =
       e ∙ rows-alike (relate head (strip xs p s) (side-at r ck vs)) (relate head (side-at l ck vs) (side-at r ck vs)) 0 n (λ i k m. ap (λ (z : ℤ). compares (numbered-op head) z (side-at r ck vs i)) (a .each i))
 
 pub ruleset side-ends = (sided-column, sided-time, sided-fixed, against-end, sided-end)
 
-pub ruleset strip-rooms = (column-strip, time-strip, single-strip)
+pub ruleset by-column-ends = (sided-column, against-end)
+
+pub ruleset strip-rooms = (column-lent, time-lent, single-lent)
 
 -- ---- times
 
@@ -82,13 +102,13 @@ pub set-kept : {A : Type 0} {m : ℕ} (xs : List A) (i : ℕ) (x : A) → length
 set-kept xs i x e = length-set xs i x ∙ e
 
 module _ {low from : ℕ} {ts : List ℕ} where
-  pub clock-start : {ck : List ℤ} → max-rows ≤ length ck → Clock low from 0 ts ck
+  pub clock-start : {ck : List ℤ} → clock-size ≤ length ck → Clock low from 0 ts ck
   clock-start h = record { size = h; each = λ j k. absurd (omega arith) }
 
-  pub clock-more : {i n : ℕ} {ck : List ℤ} {t u : ℕ} → Clock low from i ts ck → i < n → n ≤ max-rows → t ≡ getD ts (from + i) 0 → u ≡ min (max low t) top → u < 2147483648 → Clock low from (i + 1) ts (set ck i (toZ w32 u))
+  pub clock-more : {i n : ℕ} {ck : List ℤ} {t u : ℕ} → Clock low from i ts ck → i < n → n ≤ clock-size → t ≡ getD ts (from + i) 0 → u ≡ min (max low t) top → u < 2147483648 → Clock low from (i + 1) ts (set ck i (toZ w32 u))
   clock-more {i} {n} {ck} {t} {u} c h k e f g = record { size = size; each = λ j l. go j l (decLt j i) }
     where
-      size : max-rows ≤ length (set ck i (toZ w32 u))
+      size : clock-size ≤ length (set ck i (toZ w32 u))
       size = let z = length-set ck i (toZ w32 u) in let s = c .size in omega arith
 
       here : toZ w32 u ≡ pos (min (max low (getD ts (from + i) 0)) top)
@@ -108,35 +128,67 @@ pub ruleset clock-ends = (set-kept, clock-start, clock-more, clock-done)
 
 -- ---- sides with their times
 
-module _ (sc : Scope) (ts : List ℕ) (vs : List ℤ) (l r : Side) (h : Lent sc ts vs) where
-  pub room-plain : {ck : List ℤ} (x : Side) → (x .kind ≡ 2 → ⊥) → x .at < column-end → Room x (sc .rows) ck vs
-  room-plain x n b = record { few = h .rows; near = b; values = h .values; clock = λ e. absurd (n e) }
+-- numbers that are a side's in each row
+pub record Valued (f : ℕ → ℤ) (x : Side) (sc : Scope) (ts : List ℕ) (vs : List ℤ) : Type 0 where
+  pub each : (i : ℕ) → f i ≡ side-value x sc ts vs i
 
-  pub room-timed : {ck : List ℤ} {low from : ℕ} (x : Side) → Clock low from (sc .rows) ts ck → x .at < column-end → Room x (sc .rows) ck vs
-  room-timed x c b = record { few = h .rows; near = b; values = h .values; clock = λ e. c .size }
+module _ (sc : Scope) (ts : List ℕ) (vs : List ℤ) where
+  pub valued-column : (x : Side) → x .kind ≡ 1 → Valued (strip vs (x .at) 6) x sc ts vs
+  unfolding strip side-value
+  valued-column x e = record { each = λ i. rw e }
 
-  plain-value : (ck : List ℤ) (x : Side) → (x .kind ≡ 2 → ⊥) → (i : ℕ) → side-at x ck vs i ≡ side-value x sc ts vs i
+  pub valued-fixed : (x : Side) {v : ℤ} → v ≡ x .value → (x .kind ≡ 1 → ⊥) → (x .kind ≡ 2 → ⊥) → Valued (λ i. v) x sc ts vs
+  unfolding side-value
+  valued-fixed x e n m = record { each = λ i. rw (ne-eqb (x .kind) 1 n, ne-eqb (x .kind) 2 m) e }
+
+  pub valued-plain : (x : Side) → (x .kind ≡ 2 → ⊥) → Valued (side-at x [] vs) x sc ts vs
   unfolding side-at side-value
-  plain-value ck x n i = rw (ne-eqb (x .kind) 2 n)
+  valued-plain x m = record { each = λ i. rw (ne-eqb (x .kind) 2 m) }
 
-  timed-value : (x : Side) {ck : List ℤ} {low : ℕ} → low ≡ left-time sc ts → Clock low (sc .stream * max-rows) (sc .rows) ts ck → (i : ℕ) → i < sc .rows → side-at x ck vs i ≡ side-value x sc ts vs i
-  unfolding side-at side-value time-at
-  timed-value x {ck} e c i k =
-      let z : getD ck i (pos 0) ≡ pos (min (max (left-time sc ts) (getD ts (sc .stream * max-rows + i) 0)) top) = c .each i k ∙ ap (λ (y : ℕ). pos (min (max y (getD ts (sc .stream * max-rows + i) 0)) top)) e in
-      ap (λ (y : ℤ). cond (eqb (x .kind) 1) (getD vs (x .at + i * max-columns) (pos 0)) (cond (eqb (x .kind) 2) y (x .value))) z
+  module _ (l r : Side) where
+    -- the rows that are asked for
+    abbrev answer : ℕ → Rows
+    answer head = rows-of (relate head (side-value l sc ts vs) (side-value r sc ts vs)) 0 (sc .rows)
 
-  abbrev answer : ℕ → Rows
-  answer head = rows-of (relate head (side-value l sc ts vs) (side-value r sc ts vs)) 0 (sc .rows)
+    pub compared-valued : (head : ℕ) {f g : ℕ → ℤ} {x : Rows} → x ≡ rows-of (relate head f g) 0 (sc .rows) → Valued f l sc ts vs → Valued g r sc ts vs → x ≡ answer head
+    unfolding compared-at
+    compared-valued head {f = f} {g = g} e a b =
+        e ∙ rows-alike (relate head f g) (relate head (side-value l sc ts vs) (side-value r sc ts vs)) 0 (sc .rows) (λ i m n. ap₂ (compares (numbered-op head)) (a .each i) (b .each i))
 
-  pub compared-plain : (head : ℕ) {x : Rows} → (l .kind ≡ 2 → ⊥) → (r .kind ≡ 2 → ⊥) → x ≡ rows-of (relate head (side-at l vs vs) (side-at r vs vs)) 0 (sc .rows) → x ≡ answer head
-  unfolding relate
-  compared-plain head n m e =
-      e ∙ rows-alike (relate head (side-at l vs vs) (side-at r vs vs)) (relate head (side-value l sc ts vs) (side-value r sc ts vs)) 0 (sc .rows) (λ i a b. ap₂ (compares (numbered-op head)) (plain-value vs l n i) (plain-value vs r m i))
+    pub compared-turned : (head k : ℕ) {f g : ℕ → ℤ} {x : Rows} → x ≡ rows-of (relate k f g) 0 (sc .rows) → Turned head k → Valued f r sc ts vs → Valued g l sc ts vs → x ≡ answer head
+    unfolding compared-at
+    compared-turned head k {f = f} {g = g} e t a b =
+        e ∙ rows-alike (relate k f g) (relate head (side-value l sc ts vs) (side-value r sc ts vs)) 0 (sc .rows) (λ i m n. t (f i) (g i) ∙ ap₂ (compares (numbered-op head)) (b .each i) (a .each i))
 
-  pub compared-clock : (head : ℕ) {ck : List ℤ} {low : ℕ} {x : Rows} → low ≡ left-time sc ts → Clock low (sc .stream * max-rows) (sc .rows) ts ck → x ≡ rows-of (relate head (side-at l ck vs) (side-at r ck vs)) 0 (sc .rows) → x ≡ answer head
-  unfolding relate
-  compared-clock head {ck = ck} f c e =
-      e ∙ rows-alike (relate head (side-at l ck vs) (side-at r ck vs)) (relate head (side-value l sc ts vs) (side-value r sc ts vs)) 0 (sc .rows) (λ i a b. ap₂ (compares (numbered-op head)) (timed-value l f c i (omega arith)) (timed-value r f c i (omega arith)))
+    module _ (h : Lent sc ts vs) where
+      pub room-moved : {ck : List ℤ} (x : Side) (from : ℕ) {y : Side} {m : ℕ} → y ≡ moved-side x from → x .at < column-end → from ≤ 96 → m ≡ part (sc .rows) from → clock-size ≤ length ck → Room y m ck vs
+      room-moved x from f b l e k = let a = h .rows in rw f (record { few = omega arith; near = omega arith; column = λ z. omega arith; values = h .values; clock = λ z. omega arith })
+
+      moved-value : (x : Side) (from : ℕ) {ck : List ℤ} {low m : ℕ} → low ≡ left-time sc ts → Clock low (sc .stream * max-rows + from) m ts ck → (i : ℕ) → i < m → side-at (moved-side x from) ck vs i ≡ side-value x sc ts vs (from + i)
+      unfolding side-at side-value time-at
+      moved-value x from {ck} e c i k =
+          let p : x .at + from * max-columns + i * max-columns ≡ x .at + (from + i) * max-columns = omega arith in
+          let q : sc .stream * max-rows + from + i ≡ sc .stream * max-rows + (from + i) = omega arith in
+          let z : getD ck i (pos 0) ≡ pos (min (max (left-time sc ts) (getD ts (sc .stream * max-rows + (from + i)) 0)) top) = c .each i k ∙ ap₂ (λ (x y : ℕ). pos (min (max x (getD ts y 0)) top)) e q in
+          ap₂ (λ (n : ℕ) (y : ℤ). cond (eqb (x .kind) 1) (getD vs n (pos 0)) (cond (eqb (x .kind) 2) y (x .value))) p z
+
+      -- a word of the rows that are asked for
+      abbrev asked : ℕ → ℕ → ℕ
+      asked head from = bits (relate head (side-value l sc ts vs) (side-value r sc ts vs)) from (part (sc .rows) from)
+
+      pub timed-none : (head from : ℕ) {m : ℕ} → m ≡ part (sc .rows) from → m ≡ 0 → 0 ≡ asked head from
+      unfolding bits
+      timed-none head from e f = rw (sym e ∙ f)
+
+      pub timed-some : (head from : ℕ) {ck : List ℤ} {low m : ℕ} {y z : Side} {x : Rows} → low ≡ left-time sc ts → m ≡ part (sc .rows) from → Clock low (sc .stream * max-rows + from) m ts ck
+          → y ≡ moved-side l from → z ≡ moved-side r from → x ≡ rows-of (relate head (side-at y ck vs) (side-at z ck vs)) 0 m → x .a ≡ asked head from
+      unfolding rows-of compared-at
+      timed-some head from {ck = ck} {m = m} {y = y} {z = z} f g c ey ez e =
+          let u : min (m - 0) 32 ≡ m = omega arith in
+          ap (λ (x : Rows). x .a) e ∙ ap (bits (relate head (side-at y ck vs) (side-at z ck vs)) 0) u
+          ∙ bits-shift (relate head (side-at y ck vs) (side-at z ck vs)) (relate head (side-value l sc ts vs) (side-value r sc ts vs)) 0 from m
+          (λ i k. let j : 0 + i ≡ i = omega arith in rw (j, ey, ez) (ap₂ (compares (numbered-op head)) (moved-value l from f c i k) (moved-value r from f c i k)))
+          ∙ ap (bits (relate head (side-value l sc ts vs) (side-value r sc ts vs)) from) g
 
 pub left-some : (sc : Scope) (ts : List ℕ) → sc .fixed < 512 → getD ts (sc .fixed) 0 ≡ left-time sc ts
 unfolding left-time paired
@@ -148,9 +200,37 @@ left-none sc ts h = rw (le-ltb (sc .fixed) 512 h)
 
 pub ruleset left-times = (left-some, left-none)
 
-pub ruleset compared-rooms = (room-plain, room-timed)
+-- ---- four words, one after the other, put in from above
 
-pub ruleset compared-sides = (compared-plain, compared-clock)
+module _ (p : ℕ → Bool) (n : ℕ) where
+  abbrev word-at : ℕ → ℕ
+  word-at k = bits p (k * 32) (part n (k * 32))
+
+  pub record Filled (q : ℕ) (m : Rows) : Type 0 where
+    pub fourth : 1 ≤ q → m .d ≡ word-at (q - 1)
+    pub third : 2 ≤ q → m .c ≡ word-at (q - 2)
+    pub second : 3 ≤ q → m .b ≡ word-at (q - 3)
+    pub first : 4 ≤ q → m .a ≡ word-at (q - 4)
+
+  pub filled-none : (m : Rows) → Filled 0 m
+  filled-none m = record { fourth = λ h. absurd (omega arith); third = λ h. absurd (omega arith); second = λ h. absurd (omega arith); first = λ h. absurd (omega arith) }
+
+  pub filled-more : (q : ℕ) {m m′ : Rows} {w : ℕ} → Filled q m → w ≡ word-at q → m′ ≡ next-words m w → Filled (q + 1) m′
+  filled-more q f e g =
+      rw g record {
+        fourth = λ h. let z : q ≡ q + 1 - 1 = omega arith in e ∙ ap word-at z;
+        third = λ h. let z : q - 1 ≡ q + 1 - 2 = omega arith in f .fourth (omega arith) ∙ ap word-at z;
+        second = λ h. let z : q - 2 ≡ q + 1 - 3 = omega arith in f .third (omega arith) ∙ ap word-at z;
+        first = λ h. let z : q - 3 ≡ q + 1 - 4 = omega arith in f .second (omega arith) ∙ ap word-at z;
+      }
+
+  pub filled-all : (q : ℕ) {m : Rows} → Filled q m → q ≤ 4 → 4 ≤ q → m ≡ rows-of p 0 n
+  filled-all q {m} f h k =
+      let a : q - 4 ≡ 0 = omega arith in
+      let b : q - 3 ≡ 1 = omega arith in
+      let c : q - 2 ≡ 2 = omega arith in
+      let d : q - 1 ≡ 3 = omega arith in
+      rows-from-start p n refl refl refl refl (f .first k ∙ ap word-at a) (f .second (omega arith) ∙ ap word-at b) (f .third (omega arith) ∙ ap word-at c) (f .fourth (omega arith) ∙ ap word-at d)
 
 -- ---- a number of more than 32 bits is above every profile entry
 
@@ -212,7 +292,7 @@ module _ (sc : Scope) (ts : List ℕ) (vs : List ℤ) (ps : List ℕ) (n : Node)
   wide-less h = small-entry ps (name-of (n .value)) (n .value - 2147483648) (omega arith) (count-from 0 (length ps / 2))
 
   pub node-wide : {b : Bool} {x : Rows} → b ≡ wide n → b ≡ true → T (narrow n) → x ≡ rows-of (relate (n .head) (λ i. pos 1) (λ i. pos 0)) 0 (sc .rows) → x ≡ passing sc ts vs ps (test (node-compare n))
-  unfolding passing true-of test-at compare-holds fill-compare node-compare relate
+  unfolding passing true-of test-at compare-holds fill-compare node-compare compared-at
   node-wide {b} {x} d c t f =
       let e = wide-is (sym d ∙ c) .0 in
       let h = wide-is (sym d ∙ c) .1 in
@@ -221,7 +301,7 @@ module _ (sc : Scope) (ts : List ℕ) (vs : List ℤ) (ps : List ℕ) (n : Node)
 
   pub node-sides : {l r : Side} {x : Rows} → Stands sc vs (fill-term (profile-in ps) (coded-term (n .left) (n .value))) l → Stands sc vs (fill-term (profile-in ps) (coded-term (n .right) (n .value))) r
       → x ≡ rows-of (relate (n .head) (side-value l sc ts vs) (side-value r sc ts vs)) 0 (sc .rows) → x ≡ passing sc ts vs ps (test (node-compare n))
-  unfolding passing true-of test-at compare-holds fill-compare node-compare relate
+  unfolding passing true-of test-at compare-holds fill-compare node-compare compared-at
   node-sides {l} {r} s t e =
       e ∙ rows-alike (relate (n .head) (side-value l sc ts vs) (side-value r sc ts vs)) (λ i. true-of (test-at sc ts vs ps i) (test (node-compare n))) 0 (sc .rows)
       (λ i a b. ap₂ (compares (numbered-op (n .head))) (s .value ts i) (t .value ts i))
@@ -247,12 +327,5 @@ module _ (n : Node) where
 pub ruleset wide-ends = (wide-other, wide-number)
 
 pub ruleset narrow-ends = (left-narrow, right-narrow)
-
--- a number above another
-pub outranked : (head n : ℕ) {x : Rows} → x ≡ rows-of (relate head (strip (pos 1 ∷ []) 0 0) (strip (pos 0 ∷ []) 0 0)) 0 n → x ≡ rows-of (relate head (λ i. pos 1) (λ i. pos 0)) 0 n
-unfolding relate strip
-outranked head n e =
-    e ∙ rows-alike (relate head (strip (pos 1 ∷ []) 0 0) (strip (pos 0 ∷ []) 0 0)) (relate head (λ i. pos 1) (λ i. pos 0)) 0 n
-    (λ i a b. let z : 0 + i * 0 ≡ 0 = omega arith in ap (λ (k : ℕ). compares (numbered-op head) (getD (pos 1 ∷ []) k (pos 0)) (getD (pos 0 ∷ []) k (pos 0))) z)
 
 pub ruleset node-ends = (node-wide, node-sides)

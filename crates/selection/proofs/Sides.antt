@@ -1,63 +1,43 @@
 -- What stands for a side of a comparison: a column of either row, the time, a number or a profile entry.
-use mathlib.Core.Path.{_≡_, refl, sym, ap, ap₂, _∙_}
-use mathlib.Core.List.{List, [], _∷_, _++_, map}
-use mathlib.Core.Bool.{Bool, true, false, _&&_, _||_, not, cond}
+use mathlib.Core.Path.{_≡_, refl, sym, ap, _∙_}
+use mathlib.Core.List.{List, _++_, map}
+use mathlib.Core.Bool.{Bool, true, false, _&&_, not, cond}
 use Prim.Native.Nat.{ℕ, zero, suc, _+_, _*_, _-_, _/_, _%_, _<_, _≤_, min, max}
-use native.Mathlib.Decide.{decLt}
 use native.Mathlib.Omega.{arith}
 use lib.IntN.{ℤ, pos, negsuc, _-ℤ_}
-use lib.Dec.{T, leb, ltb, eqb, ltb→lt, eqb→eq}
+use lib.Dec.{ltb, eqb, ltb→lt, eqb→eq}
 use lib.ListN.{length, getD}
 use mir.Syntax.{w32}
 use mir.Val.{ofZ, toZ, Fits, SFits}
 use mir.ValLaws.{toZ-ofZ, toZ-pos}
-use borrow.Author.Tests.{eq-eqb, ne-eqb, lt-ltb, le-ltb, le-leb, lt-leb, ltb-true, eqb-true}
+use borrow.Author.Tests.{eq-eqb, ne-eqb, lt-ltb, le-ltb, le-leb, lt-leb}
 use Rattle.lists.specs.Lists.{count-from, same-list}
-use Rattle.lists.proofs.Laws.{T-true, true-T, same-list-refl, and-l, and-r, parts}
+use Rattle.lists.proofs.Laws.{T-true, true-T, same-list-refl, parts}
 use Rattle.lists.proofs.Counting.{count-left, count-done}
 use Rattle.syntax.specs.Grammar.{Entry}
 use Rattle.syntax.specs.Limits.{max-streams, max-columns, max-rows, top}
-use Rattle.model.specs.Queries.{Col, col, figure, same-col, Term, column, time, number, self, Row}
+use Rattle.model.specs.Queries.{Col, col, figure, same-col, Term, column, time, number, Row}
 use Rattle.model.specs.Meaning.{value, term-value, both}
 use Rattle.model.specs.Grants.{entry-value, fill-term}
 use Rattle.text.specs.Words.{name-of}
 use Rattle.schema.proofs.FreeNames.{name-one}
 use Rattle.ledger.specs.Records.{row-in, places-size, values-size}
 use Rattle.nodes.specs.Nodes.{unbiased, coded-term}
+use Rattle.cells.proofs.Shown.{value-left, value-own}
 use Rattle.selection.specs.declared.Side.{Side}
 use Rattle.selection.specs.declared.Scope.{Scope}
 use Rattle.selection.specs.Scopes.{columns-in, row-at, paired, scope-columns, scope-row, entry-at, profile-in}
 use Rattle.selection.specs.Evaluating.{left-time, time-at, side-value, Stands, left-named}
 
--- ---- the value of a column among columns numbered from a on, with others after them
+-- ---- the value of what is no column among columns numbered from a on, with others after them
 
 module _ (s : ℕ) (f : ℕ → ℤ) where
-  value-at : (w a c : ℕ) → a ≤ c → c < a + w → value (map (col s) (count-from a w)) (map f (count-from a w)) (col s c) ≡ f c
-  unfolding value count-from same-col
-  value-at zero a c h k = absurd (omega arith)
-  value-at (suc w) a c h k = go (decLt a c) (λ l. value-at w (suc a) c (omega arith) (omega arith))
-    where
-      go : Dec (a < c) → (a < c → value (map (col s) (count-from (suc a) w)) (map f (count-from (suc a) w)) (col s c) ≡ f c)
-          → cond (eqb s s && eqb c a) (f a) (value (map (col s) (count-from (suc a) w)) (map f (count-from (suc a) w)) (col s c)) ≡ f c
-      go (yes l) k = rw (eq-eqb s s refl, ne-eqb c a (λ e. omega arith)) (k l)
-      go (no l) k = let e : c ≡ a = omega arith in rw (eq-eqb s s refl, eq-eqb c a e) (ap f (sym e))
-
   value-none : (x : Col) (w a : ℕ) → ((j : ℕ) → a ≤ j → j < a + w → same-col x (col s j) ≡ false) → value (map (col s) (count-from a w)) (map f (count-from a w)) x ≡ pos 0
   unfolding value count-from
   value-none x zero a h = refl
   value-none x (suc w) a h = rw (h a (omega arith) (omega arith)) (value-none x w (suc a) (λ j k l. h j (omega arith) (omega arith)))
 
   module _ (ds : List Col) (vs : List ℤ) where
-    value-first : (w a c : ℕ) → a ≤ c → c < a + w → value (map (col s) (count-from a w) ++ ds) (map f (count-from a w) ++ vs) (col s c) ≡ f c
-    unfolding value count-from same-col
-    value-first zero a c h k = absurd (omega arith)
-    value-first (suc w) a c h k = go (decLt a c) (λ l. value-first w (suc a) c (omega arith) (omega arith))
-      where
-        go : Dec (a < c) → (a < c → value (map (col s) (count-from (suc a) w) ++ ds) (map f (count-from (suc a) w) ++ vs) (col s c) ≡ f c)
-            → cond (eqb s s && eqb c a) (f a) (value (map (col s) (count-from (suc a) w) ++ ds) (map f (count-from (suc a) w) ++ vs) (col s c)) ≡ f c
-        go (yes l) k = rw (eq-eqb s s refl, ne-eqb c a (λ e. omega arith)) (k l)
-        go (no l) k = let e : c ≡ a = omega arith in rw (eq-eqb s s refl, eq-eqb c a e) (ap f (sym e))
-
     value-pass : (x : Col) (w a : ℕ) → ((j : ℕ) → a ≤ j → j < a + w → same-col x (col s j) ≡ false) → value (map (col s) (count-from a w) ++ ds) (map f (count-from a w) ++ vs) x ≡ value ds vs x
     unfolding value count-from
     value-pass x zero a h = refl
@@ -102,7 +82,7 @@ module _ (sc : Scope) (vs : List ℤ) (s c : ℕ) where
       let p = T-true (ltb (sc .fixed) places-size) (search parts) in
       let q : s ≡ sc .other = eqb→eq s (sc .other) (search parts) in
       let l : c < sc .breadth = ltb→lt c (sc .breadth) (search parts) in
-      rw (p, q) (value-first (sc .other) (cells (sc .fixed)) (map (col (sc .stream)) (count-from 0 (sc .width))) (map (cells (sc .stream * max-rows + i)) (count-from 0 (sc .width))) (sc .breadth) 0 c (omega arith) (omega arith))
+      rw (p, q) (value-left (sc .other) (cells (sc .fixed)) (map (col (sc .stream)) (count-from 0 (sc .width))) (map (cells (sc .stream * max-rows + i)) (count-from 0 (sc .width))) (sc .breadth) 0 c (omega arith) (omega arith))
 
   missed : (eqb s (sc .other) && ltb c (sc .breadth)) ≡ false → (j : ℕ) → 0 ≤ j → j < 0 + sc .breadth → same-col (col s c) (col (sc .other) j) ≡ false
   unfolding same-col
@@ -160,7 +140,7 @@ module _ (sc : Scope) (vs : List ℤ) (s c : ℕ) where
           near = omega arith;
           value = λ ts i.
               let z : sc .stream * max-rows * max-columns + c + i * max-columns ≡ (sc .stream * max-rows + i) * max-columns + c = omega arith in
-              ap (λ (k : ℕ). getD vs k (pos 0)) z ∙ sym (found-right (sym e ∙ t) ts i ∙ ap (λ (x : ℕ). value (map (col (sc .stream)) (count-from 0 (sc .width))) (map (cells (sc .stream * max-rows + i)) (count-from 0 (sc .width))) (col x c)) f ∙ value-at (sc .stream) (cells (sc .stream * max-rows + i)) (sc .width) 0 c (omega arith) (omega arith));
+              ap (λ (k : ℕ). getD vs k (pos 0)) z ∙ sym (found-right (sym e ∙ t) ts i ∙ ap (λ (x : ℕ). value (map (col (sc .stream)) (count-from 0 (sc .width))) (map (cells (sc .stream * max-rows + i)) (count-from 0 (sc .width))) (col x c)) f ∙ value-own (sc .stream) (cells (sc .stream * max-rows + i)) (sc .width) 0 c (omega arith) (omega arith));
         }
 
 pub column-low : (code : ℕ) → code % max-columns < max-columns

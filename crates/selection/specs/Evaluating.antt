@@ -5,13 +5,12 @@ use mathlib.Core.Bool.{Bool, _&&_, _||_, cond}
 use Prim.Native.Nat.{ℕ, _+_, _*_, _-_, _≤_, _<_, min, max}
 use lib.IntN.{ℤ, pos}
 use lib.Dec.{T, leb, ltb, eqb}
-use lib.Signed.{ltZ, leZ}
 use lib.ListN.{length, getD}
 use Rattle.lists.specs.Lists.{every, some?}
 use Rattle.syntax.specs.Grammar.{Cond}
 use Rattle.syntax.specs.Limits.{max-streams, max-columns, max-rows, top}
 use Rattle.model.specs.Queries.{Term, Compare}
-use Rattle.model.specs.Meaning.{compares, term-value, compare-holds}
+use Rattle.model.specs.Meaning.{term-value, compare-holds}
 use Rattle.model.specs.Conditions.{true-of}
 use Rattle.model.specs.Grants.{fill-compare}
 use Rattle.ledger.specs.Records.{places-size, values-size}
@@ -21,34 +20,16 @@ use Rattle.nodes.specs.Nodes.{node-at, numbered-op, first-cond, list-in}
 use Rattle.grant.specs.Grants.{no-time}
 use Rattle.rows.specs.declared.Rows.{Rows}
 use Rattle.rows.specs.Masks.{rows-of, no-rows, first-rows, both-of, either-of}
+use Rattle.cells.specs.Columns.{compared-at}
 use Rattle.selection.specs.declared.Side.{Side}
 use Rattle.selection.specs.declared.Scope.{Scope}
 use Rattle.selection.specs.Scopes.{paired, scope-columns, scope-row, profile-in, cond-at}
 
 -- ---- two numbers for each row
 
--- whether two numbers are the same
-unfoldable pub sameZ : ℤ → ℤ → Bool
-sameZ x y = leZ x y && leZ y x
-
--- they are the same, the first is below the second, they compare by the number of a node's head
-unfoldable pub agree : (ℕ → ℤ) → (ℕ → ℤ) → ℕ → Bool
-agree f g i = sameZ (f i) (g i)
-
-unfoldable pub precede : (ℕ → ℤ) → (ℕ → ℤ) → ℕ → Bool
-precede f g i = ltZ (f i) (g i)
-
-unfoldable pub relate : ℕ → (ℕ → ℤ) → (ℕ → ℤ) → ℕ → Bool
-relate head f g i = compares (numbered-op head) (f i) (g i)
-
--- every s-th of a list's numbers from number p on
-unfoldable pub strip : List ℤ → ℕ → ℕ → ℕ → ℤ
-strip xs p s i = getD xs (p + i * s) (pos 0)
-
--- those of n rows from one on are there, at places that 31 bits hold
-pub record Strip (xs : List ℤ) (p s from n : ℕ) : Type 0 where
-  pub inside : (i : ℕ) → from ≤ i → i < from + n → p + i * s < length xs
-  pub near : (i : ℕ) → from ≤ i → i < from + n → p + i * s < 2147483648
+-- they compare by the number of a node's head
+abbrev pub relate : ℕ → (ℕ → ℤ) → (ℕ → ℤ) → ℕ → Bool
+relate head f g = compared-at (numbered-op head) f g
 
 -- ---- one side of a comparison
 
@@ -63,9 +44,14 @@ column-end = (places-size - max-rows) * max-columns + max-columns
 -- what is read of it is there for n rows
 pub record Room (x : Side) (n : ℕ) (ck vs : List ℤ) : Type 0 where
   pub few : n ≤ max-rows
-  pub near : x .at < column-end
+  pub near : x .at < values-size
+  pub column : 0 < n → x .at + (n - 1) * max-columns < values-size
   pub values : values-size ≤ length vs
-  pub clock : x .kind ≡ 2 → max-rows ≤ length ck
+  pub clock : x .kind ≡ 2 → n ≤ length ck
+
+-- the same side from a later row on
+abbrev pub moved-side : Side → ℕ → Side
+moved-side x from = record { kind = x .kind; at = x .at + from * max-columns; value = x .value }
 
 -- the time of the left row, 0 where there is none
 unfoldable pub left-time : Scope → List ℕ → ℕ
@@ -75,10 +61,18 @@ left-time sc ts = cond (paired sc) (getD ts (sc .fixed) 0) 0
 unfoldable pub time-at : Scope → List ℕ → ℕ → ℕ
 time-at sc ts i = min (max (left-time sc ts) (getD ts (sc .stream * max-rows + i) 0)) top
 
+-- times are copied as many at once as a word has bits
+abbrev pub clock-size : ℕ
+clock-size = 32
+
 -- the times of n rows are in a list
 pub record Clock (low from n : ℕ) (ts : List ℕ) (ck : List ℤ) : Type 0 where
-  pub size : max-rows ≤ length ck
+  pub size : clock-size ≤ length ck
   pub each : (i : ℕ) → i < n → getD ck i (pos 0) ≡ pos (min (max low (getD ts (from + i) 0)) top)
+
+-- the words of a mask one place lower, and another as the last
+abbrev pub next-words : Rows → ℕ → Rows
+next-words m w = record { a = m .b; b = m .c; c = m .d; d = w }
 
 unfoldable pub side-value : Side → Scope → List ℕ → List ℤ → ℕ → ℤ
 side-value x sc ts vs i = cond (eqb (x .kind) 1) (getD vs (x .at + i * max-columns) (pos 0)) (cond (eqb (x .kind) 2) (pos (time-at sc ts i)) (x .value))

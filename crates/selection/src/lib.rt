@@ -1,22 +1,24 @@
 // The rows that conditions select, for all rows of a stream at once.
 ghost use mathlib.Core.Path.{_≡_};
 ghost use mathlib.Core.List.{[], _∷_, map};
+ghost use mathlib.Core.Bool.{true};
 ghost use Prim.Native.Nat.{_≤_, _<_, _+_, _*_, _-_, _/_, _%_, min, max};
 ghost use lib.Dec.{T};
-ghost use lib.IntN.{pos};
+ghost use lib.IntN.{ℤ};
 ghost use lib.ListN.{length, getD};
-ghost use lib.Signed.{ltZ};
 ghost use Rattle.syntax.specs.Grammar.{test};
 ghost use Rattle.syntax.specs.Limits.{max-streams, max-columns, max-rows, top};
 ghost use Rattle.model.specs.Queries.{column, col};
+ghost use Rattle.model.specs.Meaning.{compares};
 ghost use Rattle.model.specs.Grants.{entry-value, fill-term, fill};
 ghost use Rattle.text.specs.Words.{name-of};
 ghost use Rattle.ledger.specs.Records.{places-size, values-size};
-ghost use Rattle.terms.specs.Terms.{number-code};
-ghost use Rattle.nodes.specs.Nodes.{unbiased, coded-term, node-of, node-at, node-compare, link, conditions-of};
-ghost use Rattle.rows.specs.Masks.{one, bits, rows-of};
+ghost use Rattle.nodes.specs.Nodes.{unbiased, coded-term, numbered-op, node-of, node-at, node-compare, link, conditions-of};
+ghost use Rattle.rows.specs.Masks.{one, bits, part, rows-of};
+ghost use Rattle.cells.specs.Columns.{strip, strip-lent};
 ghost use Rattle.selection.specs.Scopes.{times-fit, scope-fits, profile-in, cond-at, selected, selected-all, timely};
-ghost use Rattle.selection.specs.Evaluating.{sameZ, agree, precede, relate, strip, Strip, side-at, column-end, Room, left-time, Clock, side-value, Stands, Lent, left-named, wide, narrow, Taken, Leads, passing, list-passing, list-at, start-of, joined-of, in-span, timed, past, low-of, high-of};
+ghost use Rattle.selection.specs.Evaluating.{relate, clock-size, side-at, column-end, moved-side, next-words, Room, left-time, Clock, side-value, Stands, Lent, left-named, wide, narrow, Taken, Leads, passing, list-passing, list-at, start-of, joined-of, in-span, timed, past, low-of, high-of};
+use cells::Cell;
 use grant::Grant;
 use ledger::Ledger;
 use nodes::Node;
@@ -64,120 +66,109 @@ impl Side {
     const TIME: u32 = 2;
 }
 
-struct Cell {
-    v: i32,
-}
+// How many times are copied at once.
+const CLOCK: usize = 32;
 
-// ---- numbers at steps through a list, two for each row
+// ---- two numbers for each row
 
-fn value_at(a: &[i32], i: u32) -> Cell
-    requires { ⌜ i < length (now a) ⌝ }
-    ensures { λ r. ⌜ r .v ≡ getD (now (a .entry)) i (pos 0) ⌝ }
-{
-    Cell { v: a[i as usize] }
-}
-
-// Whether two numbers are the same, as a bit.
-fn same_bit(a: &[i32], i: u32, b: &[i32], j: u32) -> u32
-    requires { ⌜ (i < length (now a)) × (j < length (now b)) ⌝ }
-    ensures { λ r. ⌜ r ≡ one (sameZ (getD (now (a .entry)) i (pos 0)) (getD (now (b .entry)) j (pos 0))) ⌝ }
-{
-    let x = value_at(a, i);
-    let y = value_at(b, j);
-    if x.v == y.v {
-        return 1;
-    }
-    0
-}
-
-// Whether one number is below another, as a bit.
-fn less_bit(a: &[i32], i: u32, b: &[i32], j: u32) -> u32
-    requires { ⌜ (i < length (now a)) × (j < length (now b)) ⌝ }
-    ensures { λ r. ⌜ r ≡ one (ltZ (getD (now (a .entry)) i (pos 0)) (getD (now (b .entry)) j (pos 0))) ⌝ }
-{
-    let x = value_at(a, i);
-    let y = value_at(b, j);
-    if x.v < y.v {
-        return 1;
-    }
-    0
-}
-
-// Of at most 32 rows from one on, those with the same numbers.
-fn same_word(a: &[i32], p: u32, s: u32, b: &[i32], q: u32, t: u32, from: u32, n: u32) -> u32
-    requires { ⌜ (n ≤ 32) × (from ≤ 96) × Strip (now a) p s from n × Strip (now b) q t from n ⌝ }
-    ensures { λ x. ⌜ x ≡ bits (agree (strip (now (a .entry)) p s) (strip (now (b .entry)) q t)) from n ⌝ }
-{
-    let mut m: u32 = 0;
-    let mut i = n;
-    while 0 < i {
-        i -= 1;
-        m = m * 2 + same_bit(a, p + (from + i) * s, b, q + (from + i) * t);
-    }
-    m
-}
-
-// Of at most 32 rows from one on, those with the first number below the second.
-fn less_word(a: &[i32], p: u32, s: u32, b: &[i32], q: u32, t: u32, from: u32, n: u32) -> u32
-    requires { ⌜ (n ≤ 32) × (from ≤ 96) × Strip (now a) p s from n × Strip (now b) q t from n ⌝ }
-    ensures { λ x. ⌜ x ≡ bits (precede (strip (now (a .entry)) p s) (strip (now (b .entry)) q t)) from n ⌝ }
-{
-    let mut m: u32 = 0;
-    let mut i = n;
-    while 0 < i {
-        i -= 1;
-        m = m * 2 + less_bit(a, p + (from + i) * s, b, q + (from + i) * t);
-    }
-    m
-}
-
-// Of at most 128 rows, those with the same numbers.
-fn same_rows(a: &[i32], p: u32, s: u32, b: &[i32], q: u32, t: u32, n: u32) -> Rows
-    requires { ⌜ Strip (now a) p s 0 n × Strip (now b) q t 0 n ⌝ }
-    ensures { λ x. ⌜ x ≡ rows-of (agree (strip (now (a .entry)) p s) (strip (now (b .entry)) q t)) 0 n ⌝ }
-{
-    Rows {
-        a: same_word(a, p, s, b, q, t, 0, rows::part(n, 0)),
-        b: same_word(a, p, s, b, q, t, 32, rows::part(n, 32)),
-        c: same_word(a, p, s, b, q, t, 64, rows::part(n, 64)),
-        d: same_word(a, p, s, b, q, t, 96, rows::part(n, 96)),
-    }
-}
-
-// Of at most 128 rows, those with the first number below the second.
-fn less_rows(a: &[i32], p: u32, s: u32, b: &[i32], q: u32, t: u32, n: u32) -> Rows
-    requires { ⌜ Strip (now a) p s 0 n × Strip (now b) q t 0 n ⌝ }
-    ensures { λ x. ⌜ x ≡ rows-of (precede (strip (now (a .entry)) p s) (strip (now (b .entry)) q t)) 0 n ⌝ }
-{
-    Rows {
-        a: less_word(a, p, s, b, q, t, 0, rows::part(n, 0)),
-        b: less_word(a, p, s, b, q, t, 32, rows::part(n, 32)),
-        c: less_word(a, p, s, b, q, t, 64, rows::part(n, 64)),
-        d: less_word(a, p, s, b, q, t, 96, rows::part(n, 96)),
-    }
-}
-
-// Of at most 128 rows, those where the two numbers compare so; 1 to 5 are `=` `/=` `<` `<=` `>`, any other is `>=`.
+// The rows where the numbers of two lists compare so; 1 to 5 are `=` `/=` `<` `<=` `>`, any other is `>=`.
 fn related(head: u32, a: &[i32], p: u32, s: u32, b: &[i32], q: u32, t: u32, n: u32) -> Rows
-    requires { ⌜ Strip (now a) p s 0 n × Strip (now b) q t 0 n ⌝ }
+    requires { ⌜ (strip-lent (length (now a)) p s n ≡ true) × (strip-lent (length (now b)) q t n ≡ true) ⌝ }
     ensures { λ x. ⌜ x ≡ rows-of (relate head (strip (now (a .entry)) p s) (strip (now (b .entry)) q t)) 0 n ⌝ }
 {
     if head == 1 {
-        return same_rows(a, p, s, b, q, t, n);
+        return cells::same_rows(a, p, s, b, q, t, n);
     }
     if head == 2 {
-        return Rows::first(n).flip(same_rows(a, p, s, b, q, t, n));
+        return Rows::first(n).flip(cells::same_rows(a, p, s, b, q, t, n));
     }
     if head == 3 {
-        return less_rows(a, p, s, b, q, t, n);
+        return cells::less_rows(a, p, s, b, q, t, n);
     }
     if head == 4 {
-        return Rows::first(n).flip(less_rows(b, q, t, a, p, s, n));
+        return Rows::first(n).flip(cells::less_rows(b, q, t, a, p, s, n));
     }
     if head == 5 {
-        return less_rows(b, q, t, a, p, s, n);
+        return cells::less_rows(b, q, t, a, p, s, n);
     }
-    Rows::first(n).flip(less_rows(a, p, s, b, q, t, n))
+    Rows::first(n).flip(cells::less_rows(a, p, s, b, q, t, n))
+}
+
+// The rows where a column, which begins at a place of the values, compares so with a value.
+fn by_value(head: u32, values: &[i32], p: u32, v: Cell, n: u32) -> Rows
+    requires { ⌜ strip-lent (length (now values)) p max-columns n ≡ true ⌝ }
+    ensures { λ x. ⌜ x ≡ rows-of (relate head (strip (now (values .entry)) p max-columns) (λ i. v .v)) 0 n ⌝ }
+{
+    if head == 1 {
+        return cells::matched(Cell::SAME, values, p, v, n);
+    }
+    if head == 2 {
+        return Rows::first(n).flip(cells::matched(Cell::SAME, values, p, v, n));
+    }
+    if head == 3 {
+        return cells::matched(Cell::BELOW, values, p, v, n);
+    }
+    if head == 4 {
+        return Rows::first(n).flip(cells::matched(Cell::ABOVE, values, p, v, n));
+    }
+    if head == 5 {
+        return cells::matched(Cell::ABOVE, values, p, v, n);
+    }
+    Rows::first(n).flip(cells::matched(Cell::BELOW, values, p, v, n))
+}
+
+// The head of a comparison whose sides are turned.
+fn turned(head: u32) -> u32
+    ensures { λ r. ⌜ ((x y : ℤ) → compares (numbered-op r) x y ≡ compares (numbered-op head) y x) ⌝ }
+{
+    if head == 1 {
+        return 1;
+    }
+    if head == 2 {
+        return 2;
+    }
+    if head == 3 {
+        return 5;
+    }
+    if head == 4 {
+        return 6;
+    }
+    if head == 5 {
+        return 3;
+    }
+    4
+}
+
+// Whether two values compare so.
+fn holds(head: u32, x: Cell, y: Cell) -> bool
+    ensures { λ r. ⌜ r ≡ compares (numbered-op head) (x .v) (y .v) ⌝ }
+{
+    if head == 1 {
+        return x.v == y.v;
+    }
+    if head == 2 {
+        return x.v != y.v;
+    }
+    if head == 3 {
+        return x.v < y.v;
+    }
+    if head == 4 {
+        return x.v <= y.v;
+    }
+    if head == 5 {
+        return y.v < x.v;
+    }
+    y.v <= x.v
+}
+
+// All of n rows where two values compare so, or none.
+fn settled(head: u32, x: Cell, y: Cell, n: u32) -> Rows
+    ensures { λ r. ⌜ r ≡ rows-of (relate head (λ i. x .v) (λ i. y .v)) 0 n ⌝ }
+{
+    if holds(head, x, y) {
+        return Rows::first(n);
+    }
+    Rows::none()
 }
 
 // ---- two sides compared
@@ -200,7 +191,7 @@ fn against(
     values: &[i32],
     n: u32,
 ) -> Rows
-    requires { ⌜ Strip (now a) p s 0 n × Room r n (now clock) (now values) ⌝ }
+    requires { ⌜ (strip-lent (length (now a)) p s n ≡ true) × Room r n (now clock) (now values) ⌝ }
     ensures { λ x. ⌜ x ≡ rows-of (relate head (strip (now (a .entry)) p s) (side-at r (now (clock .entry)) (now (values .entry)))) 0 n ⌝ }
 {
     if r.kind == Side::COLUMN {
@@ -246,7 +237,7 @@ fn later(s: u32, t: u32) -> u32
 
 // The times of n places from one on, each the later of it and another.
 fn put_times(clock: &mut [i32], times: &[u32], from: u32, low: u32, n: u32)
-    requires { ⌜ (n ≤ max-rows) × (max-rows ≤ length (now clock)) × (from + n ≤ length (now times)) × (from ≤ 384) ⌝ }
+    requires { ⌜ (n ≤ clock-size) × (clock-size ≤ length (now clock)) × (from + n ≤ length (now times)) × (from ≤ 480) ⌝ }
     ensures { λ _. ⌜ Clock low from n (now (times .entry)) (now (clock .exit)) ⌝ }
 {
     let mut i: u32 = 0;
@@ -268,15 +259,88 @@ fn left_time(sc: Scope, times: &[u32]) -> u32
     0
 }
 
-// The rows where two sides compare so, of which one may be the time.
+// A side from a later row on.
+fn moved(x: Side, from: u32) -> Side
+    requires { ⌜ (x .at < column-end) × (from ≤ 96) ⌝ }
+    ensures { λ r. ⌜ r ≡ moved-side x from ⌝ }
+{
+    Side {
+        kind: x.kind,
+        at: x.at + from * Scope::COLUMNS,
+        value: x.value,
+    }
+}
+
+// Of at most 32 rows from one on, those where two sides compare so, of which one may be the time; `low` is that of the left row.
+fn timed_word(
+    head: u32,
+    l: Side,
+    r: Side,
+    sc: Scope,
+    low: u32,
+    from: u32,
+    times: &[u32],
+    values: &[i32],
+) -> u32
+    requires { ⌜ Lent sc (now times) (now values) × (l .at < column-end) × (r .at < column-end) × (low ≡ left-time sc (now times)) × (from ≤ 96) ⌝ }
+    ensures { λ x. ⌜ x ≡ bits (relate head (side-value l sc (now (times .entry)) (now (values .entry))) (side-value r sc (now (times .entry)) (now (values .entry)))) from (part (sc .rows) from) ⌝ }
+{
+    let n = rows::part(sc.rows, from);
+    if n == 0 {
+        return 0;
+    }
+    let mut clock: [i32; CLOCK] = [0; CLOCK];
+    put_times(&mut clock, times, sc.stream * Scope::ROWS + from, low, n);
+    let m = sided(head, moved(l, from), moved(r, from), &clock, values, n);
+    m.a
+}
+
+// A mask with its words one place lower and another as the last.
+fn with_word(m: Rows, w: u32) -> Rows
+    ensures { λ r. ⌜ r ≡ next-words m w ⌝ }
+{
+    Rows {
+        a: m.b,
+        b: m.c,
+        c: m.d,
+        d: w,
+    }
+}
+
+// The rows where two sides compare so, of which one may be the time: a word at a time, so that few times are copied.
 fn compared_timed(head: u32, l: Side, r: Side, sc: Scope, times: &[u32], values: &[i32]) -> Rows
     requires { ⌜ Lent sc (now times) (now values) × (l .at < column-end) × (r .at < column-end) ⌝ }
     ensures { λ x. ⌜ x ≡ rows-of (relate head (side-value l sc (now (times .entry)) (now (values .entry))) (side-value r sc (now (times .entry)) (now (values .entry)))) 0 (sc .rows) ⌝ }
 {
-    let mut clock: [i32; Ledger::ROWS] = [0; Ledger::ROWS];
     let low = left_time(sc, times);
-    put_times(&mut clock, times, sc.stream * Scope::ROWS, low, sc.rows);
-    sided(head, l, r, &clock, values, sc.rows)
+    let mut m = Rows::none();
+    let mut q: u32 = 0;
+    while q < 4 {
+        let w = timed_word(head, l, r, sc, low, q * 32, times, values);
+        m = with_word(m, w);
+        q += 1;
+    }
+    m
+}
+
+// The rows where a column, which begins at a place of the values, compares so with a side that is no time.
+fn by_column(head: u32, values: &[i32], p: u32, r: Side, n: u32) -> Rows
+    requires { ⌜ (n ≤ max-rows) × (p < column-end) × (r .at < column-end) × (values-size ≤ length (now values)) × (r .kind ≡ 2 → ⊥) ⌝ }
+    ensures { λ x. ⌜ x ≡ rows-of (relate head (strip (now (values .entry)) p max-columns) (side-at r [] (now (values .entry)))) 0 n ⌝ }
+{
+    if r.kind == Side::COLUMN {
+        return related(
+            head,
+            values,
+            p,
+            Scope::COLUMNS,
+            values,
+            r.at,
+            Scope::COLUMNS,
+            n,
+        );
+    }
+    by_value(head, values, p, Cell { v: r.value }, n)
 }
 
 // The rows where two sides compare so.
@@ -290,7 +354,13 @@ fn compared(head: u32, l: Side, r: Side, sc: Scope, times: &[u32], values: &[i32
     if r.kind == Side::TIME {
         return compared_timed(head, l, r, sc, times, values);
     }
-    sided(head, l, r, values, values, sc.rows)
+    if l.kind == Side::COLUMN {
+        return by_column(head, values, l.at, r, sc.rows);
+    }
+    if r.kind == Side::COLUMN {
+        return by_value(turned(head), values, r.at, Cell { v: l.value }, sc.rows);
+    }
+    settled(head, Cell { v: l.value }, Cell { v: r.value }, sc.rows)
 }
 
 // ---- the sides of a comparison
@@ -316,7 +386,7 @@ fn column_side(code: u32, sc: Scope, values: &[i32]) -> Side
     let s = code / Scope::COLUMNS;
     let c = code % Scope::COLUMNS;
     if left_names(sc, s, c) {
-        let x = value_at(values, sc.fixed * Scope::COLUMNS + c);
+        let x = cells::value(values, sc.fixed * Scope::COLUMNS + c);
         return Side {
             kind: Side::VALUE,
             at: 0,
@@ -410,15 +480,6 @@ fn side_of(code: u32, value: u64, sc: Scope, profile: &[u64], values: &[i32]) ->
     entry_side(value, profile)
 }
 
-// A number of more than 32 bits and a profile entry: the number is above it, as 1 is above 0.
-fn outranks(head: u32, n: u32) -> Rows
-    ensures { λ r. ⌜ r ≡ rows-of (relate head (λ i. pos 1) (λ i. pos 0)) 0 n ⌝ }
-{
-    let a: [i32; 1] = [1];
-    let b: [i32; 1] = [0];
-    related(head, &a, 0, 0, &b, 0, 0, n)
-}
-
 // The number on a comparison's left is one of more than 32 bits: then a profile entry is on its right.
 fn is_wide(n: Node) -> bool
     ensures { λ r. ⌜ r ≡ wide n ⌝ }
@@ -429,13 +490,13 @@ fn is_wide(n: Node) -> bool
     4294967295 < n.value
 }
 
-// The rows that a comparison holds of.
+// The rows that a comparison holds of. A number of more than 32 bits is above every profile entry, as 1 is above 0.
 fn compare_node(n: Node, sc: Scope, profile: &[u64], times: &[u32], values: &[i32]) -> Rows
     requires { ⌜ Lent sc (now times) (now values) × T (narrow n) ⌝ }
     ensures { λ r. ⌜ r ≡ passing sc (now (times .entry)) (now (values .entry)) (now (profile .entry)) (test (node-compare n)) ⌝ }
 {
     if is_wide(n) {
-        return outranks(n.head, sc.rows);
+        return settled(n.head, Cell { v: 1 }, Cell { v: 0 }, sc.rows);
     }
     let l = side_of(n.left, n.value, sc, profile, values);
     let r = side_of(n.right, n.value, sc, profile, values);

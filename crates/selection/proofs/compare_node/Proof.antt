@@ -1,5 +1,5 @@
 use borrow.Author.Needs.{needs}
-use Rattle.selection.proofs.Relating.{node-ends, narrow-ends}
+use Rattle.selection.proofs.Relating.{node-ends, node-wide, narrow-ends}
 use Rattle.selection.proofs.compare_node.Statement.{statement}
 use Rattle.selection.proofs.compare_node.Tie as tie
 
@@ -8,11 +8,11 @@ compare-node-spec =
     tie.close
     (tie.spec
     {- is-wide-requires -}
-    (λ c κs. search (narrow-ends, needs))
-    {- outranks-requires -}
-    (λ c κs. search (narrow-ends, needs))
+    (λ c κs. search needs)
+    {- settled-requires -}
+    (λ c κs. search needs)
     {- returns -}
-    (λ c. search (node-ends, needs))
+    (λ c. let s = c .before .before .before .before .before in let a = s .args in node-wide (a .sc) (a .times .now) (a .values .now) (a .profile .now) (a .n) (c .before .before .is-wide .ensures) (c .before .if1 .taken) (s .pre .1) (c .settled .ensures))
     {- side-of-requires -}
     (λ c κs. search (narrow-ends, needs))
     {- side-of-requires-2 -}

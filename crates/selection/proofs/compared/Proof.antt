@@ -1,5 +1,5 @@
 use borrow.Author.Needs.{needs}
-use Rattle.selection.proofs.Relating.{compared-sides, compared-rooms}
+use Rattle.selection.proofs.Relating.{plain-lent, valued-column, valued-fixed, valued-plain, compared-valued, compared-turned}
 use Rattle.selection.proofs.compared.Statement.{statement}
 use Rattle.selection.proofs.compared.Tie as tie
 
@@ -8,14 +8,24 @@ compared-spec =
     tie.close
     (tie.spec
     {- compared-timed-requires -}
-    (λ c κs. search (compared-rooms, needs))
+    (λ c κs. search needs)
     {- returns -}
-    (λ c. search (compared-sides, needs))
+    (λ c. search needs)
     {- compared-timed-requires-2 -}
-    (λ c κs. search (compared-rooms, needs))
+    (λ c κs. search needs)
     {- returns-2 -}
-    (λ c. search (compared-sides, needs))
-    {- sided-requires -}
-    (λ c κs. search (compared-rooms, needs))
+    (λ c. search needs)
+    {- by-column-requires -}
+    (λ c κs. let s = c .before .before .before .before .before .before .before in (s .pre .0 .rows, s .pre .1, s .pre .2, s .pre .0 .values, c .before .before .if2 .left))
     {- returns-3 -}
-    (λ c. search (compared-sides, needs)))
+    (λ c. let s = c .before .before .before .before .before .before .before .before in let a = s .args in compared-valued (a .sc) (a .times .now) (a .values .now) (a .l) (a .r) (a .head) (c .by-column .ensures) (valued-column (a .sc) (a .times .now) (a .values .now) (a .l) (c .before .if3 .taken)) (valued-plain (a .sc) (a .times .now) (a .values .now) (a .r) (c .before .before .before .if2 .left)))
+    {- turned-requires -}
+    (λ c κs. search needs)
+    {- by-value-requires -}
+    (λ c κs. let s = c .before .before .before .before .before .before .before .before .before .before .before in let a = s .args in plain-lent (a .values .now) (a .r .at) (a .sc .rows) (s .pre .0 .rows) (s .pre .2) (s .pre .0 .values))
+    {- returns-4 -}
+    (λ c. let s = c .before .before .before .before .before .before .before .before .before .before .before .before in let a = s .args in compared-turned (a .sc) (a .times .now) (a .values .now) (a .l) (a .r) (a .head) _ (c .by-value .ensures) (c .before .before .turned .ensures) (valued-column (a .sc) (a .times .now) (a .values .now) (a .r) (c .before .before .before .if4 .taken)) (valued-fixed (a .sc) (a .times .now) (a .values .now) (a .l) (search needs) (c .before .before .before .before .before .if3 .left) (c .before .before .before .before .before .before .before .before .before .if1 .left)))
+    {- settled-requires -}
+    (λ c κs. search needs)
+    {- returns-5 -}
+    (λ c. let s = c .before .before .before .before .before .before .before .before .before .before .before .before in let a = s .args in compared-valued (a .sc) (a .times .now) (a .values .now) (a .l) (a .r) (a .head) (c .settled .ensures) (valued-fixed (a .sc) (a .times .now) (a .values .now) (a .l) (search needs) (c .before .before .before .before .before .if3 .left) (c .before .before .before .before .before .before .before .before .before .if1 .left)) (valued-fixed (a .sc) (a .times .now) (a .values .now) (a .r) (search needs) (c .before .before .before .if4 .left) (c .before .before .before .before .before .before .before .if2 .left))))
