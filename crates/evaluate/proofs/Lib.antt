@@ -1,3 +1,1 @@
 pub mod Routed
-pub mod Few
-pub mod Shapes

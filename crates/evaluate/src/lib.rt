@@ -1,1 +1,90 @@
-// The rows of a route.
+// A route of a query: its rewritten table, its plan, and the rows that the plan asks for as cells.
+ghost use mathlib.Core.Path.{_≡_};
+ghost use mathlib.Core.Bool.{_&&_};
+ghost use lib.ListN.{getD};
+ghost use Rattle.query.specs.Tables.{query-forms, held, rewritten-table};
+ghost use Rattle.evaluate.specs.Ways.{granted-in, way-of, way-forms, way-plan};
+use needs::Needs;
+use plan::Plan;
+use query::Query;
+use rewrite::Granted;
+use routes::Open;
+use routes::Route;
+
+// A route: whether its query has one stream, its kind, and its grants, twice the same where it has one.
+pub struct Way {
+    pub lone: bool,
+    pub kind: u32,
+    pub left: Granted,
+    pub right: Granted,
+}
+
+// The number at a place, 0 past the end.
+fn number_at(xs: &[u32], i: u32) -> u32
+    ensures { λ r. ⌜ r ≡ getD (now (xs .entry)) i 0 ⌝ }
+{
+    let k = i as usize;
+    if xs.len() <= k {
+        return 0;
+    }
+    xs[k]
+}
+
+// The opened grant in a place.
+fn granted_in(o: Open, i: u32) -> Granted
+    ensures { λ r. ⌜ r ≡ granted-in o i ⌝ }
+{
+    let shown = o.shown;
+    let words = o.words;
+    let from = o.from;
+    let to = o.to;
+    Granted {
+        place: i,
+        shown: number_at(&shown, i),
+        words: number_at(&words, i),
+        from: number_at(&from, i),
+        to: number_at(&to, i),
+    }
+}
+
+impl Way {
+    // Returns a route as its query and its grants have it.
+    pub fn of(o: Open, n: Needs, x: Route) -> Way
+        ensures { λ r. ⌜ r ≡ way-of o n x ⌝ }
+    {
+        Way {
+            lone: n.right == Needs::NONE,
+            kind: x.kind,
+            left: granted_in(o, x.left),
+            right: granted_in(o, x.right),
+        }
+    }
+
+    // Returns how many forms the rewritten query of the route has.
+    // Leaves the forms in the words from the first on, and all else as it was.
+    pub fn put_table(self, q: Query, names: &[u64], table: &mut [u32]) -> u32
+        ensures { λ r. ⌜ held (now (table .exit)) r ≡ rewritten-table (now (table .entry)) (way-forms (now (names .entry)) self (query-forms q)) ⌝ }
+    {
+        let g = self.left;
+        if self.kind == Route::SIDES {
+            let h = self.right;
+            return rewrite::sides(q, names, g, h, table);
+        }
+        if self.kind != Route::FIGURES {
+            return rewrite::pair(q, names, g, table);
+        }
+        if self.lone {
+            return rewrite::sum(q, names, g, table);
+        }
+        rewrite::pair(q, names, g, table)
+    }
+
+    // Returns the plan of the rewritten query of the route.
+    pub fn plan(self, q: Query, names: &[u64]) -> Plan
+        ensures { λ r. ⌜ r ≡ way-plan (now (names .entry)) self (query-forms q) ⌝ }
+    {
+        let mut table: [u32; query::TABLE] = [0; query::TABLE];
+        let n = self.put_table(q, names, &mut table);
+        plan::laid(&table, n, names)
+    }
+}

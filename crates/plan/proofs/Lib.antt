@@ -7,3 +7,5 @@ pub mod Regular
 pub mod Rewriter
 pub mod Picks
 pub mod Rewritten
+pub mod Shapes
+pub mod Few

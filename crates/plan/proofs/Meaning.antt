@@ -410,23 +410,23 @@ module _ (w : Words) (ns : List ℕ) where
     unfolding form-regular
     regular-rows e t = ltb→lt (f .first) (streams-in ns) (rw e at t)
 
-    regular-pick : f .kind ≡ 1 → T (form-regular w ns f fs) → 1 ≤ length qs
+    pub regular-pick : f .kind ≡ 1 → T (form-regular w ns f fs) → 1 ≤ length qs
     unfolding form-regular
     regular-pick e t = some-query (rw e at t)
 
-    regular-keep : f .kind ≡ 2 → T (form-regular w ns f fs) → T (leb 1 (length qs) && ltb (form-order f) order-end)
+    pub regular-keep : f .kind ≡ 2 → T (form-regular w ns f fs) → T (leb 1 (length qs) && ltb (form-order f) order-end)
     unfolding form-regular form-order
     regular-keep e t = rw e at t
 
-    regular-join : f .kind ≡ 3 → T (form-regular w ns f fs) → 2 ≤ length qs
+    pub regular-join : f .kind ≡ 3 → T (form-regular w ns f fs) → 2 ≤ length qs
     unfolding form-regular
     regular-join e t = leb→le 2 (length qs) (rw e at t)
 
-    regular-aggregate : f .kind ≡ 4 → T (form-regular w ns f fs) → T (leb 1 (length qs) && not (eqb (f .first) 0))
+    pub regular-aggregate : f .kind ≡ 4 → T (form-regular w ns f fs) → T (leb 1 (length qs) && not (eqb (f .first) 0))
     unfolding form-regular
     regular-aggregate e t = rw e at t
 
-    regular-under : 5 ≤ f .kind → T (form-regular w ns f fs) → T (leb 1 (length qs) && viewless fs)
+    pub regular-under : 5 ≤ f .kind → T (form-regular w ns f fs) → T (leb 1 (length qs) && viewless fs)
     unfolding form-regular
     regular-under h t =
         rw (ne-eqb (f .kind) 0 (λ e. omega arith), ne-eqb (f .kind) 1 (λ e. omega arith), ne-eqb (f .kind) 2 (λ e. omega arith), ne-eqb (f .kind) 3 (λ e. omega arith), ne-eqb (f .kind) 4 (λ e. omega arith)) at t

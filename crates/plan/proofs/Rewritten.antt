@@ -149,13 +149,18 @@ module _ (ns : List ℕ) (w : Words) (who : Caller) (same : who .profile ≡ w .
   abbrev q : M.Query ℕ
   q = query-in w fs
 
-  -- what the plan of a rewriter's table asks for
-  abbrev pub table-planned : List Form → Table
-  table-planned forms = planned x w (plan-in ns (rewritten-forms (rewritten-table lent forms)))
-
   -- the rewritten query of a query over views
   abbrev pub over-streams : M.Query Source → M.Query ℕ
   over-streams v = expand (defined (schema-of ns) who) v
+
+  -- a rewriter's forms: they have a plan, and their table is that of the rewritten query of a query over views
+  pub record Made (forms : List Form) (v : M.Query Source) : Type 0 where
+    pub plannable : Plannable w ns forms
+    pub is : query-in w (rewritten-forms (rewritten-table lent forms)) ≡ over-streams v
+
+  -- what the plan of such a table asks for
+  pub made-planned : (forms : List Form) (v : M.Query Source) → Made forms v → Asked x (over-streams v) → planned x w (plan-in ns (rewritten-forms (rewritten-table lent forms))) ≡ plain x (over-streams v)
+  made-planned forms v a k = table-means w ns x declared lent room forms (over-streams v) (a .plannable) (a .is) k
 
   first-declared : (s : ℕ) → T (declared-all ns (s ∷ [])) → T (ltb s (streams-in ns))
   unfolding every
@@ -166,20 +171,21 @@ module _ (ns : List ℕ) (w : Words) (who : Caller) (same : who .profile ≡ w .
   both-declared s t a b = and-both (ltb s (streams-in ns)) _ (first-declared s a) b
 
   -- a reading grant on the one stream
-  pub one-side-planned : (g : Granted) (n : Numbered) (s : ℕ) → Stands ns w g (n .grant) → n .grant .of ≡ s ∷ [] → sources q ≡ s ∷ []
-      → Asked x (over-streams (over-sides (schema-of ns) n n q)) → table-planned (side-forms ns g g fs) ≡ plain x (over-streams (over-sides (schema-of ns) n n q))
-  one-side-planned g n s a o e k =
-      table-means w ns x declared lent room (side-forms ns g g fs) (over-streams (over-sides (schema-of ns) n n q))
-      (sides-plannable w ns fs one few placing numbers (rw (e, sym o) (a .declared)) g g (rw e (omega arith)))
-      (one-side ns w who same fs one few placing lent room g n s a o e) k
+  pub one-side-made : (g : Granted) (n : Numbered) (s : ℕ) → Stands ns w g (n .grant) → n .grant .of ≡ s ∷ [] → sources q ≡ s ∷ [] → Made (side-forms ns g g fs) (over-sides (schema-of ns) n n q)
+  one-side-made g n s a o e =
+      record {
+        plannable = sides-plannable w ns fs one few placing numbers (rw (e, sym o) (a .declared)) g g (rw e (omega arith));
+        is = one-side ns w who same fs one few placing lent room g n s a o e;
+      }
 
   -- a reading grant on each of two streams
-  pub two-sides-planned : (g : Granted) (n : Numbered) (h : Granted) (m : Numbered) (s t : ℕ) → Stands ns w g (n .grant) → n .grant .of ≡ s ∷ [] → Stands ns w h (m .grant) → m .grant .of ≡ t ∷ [] → sources q ≡ s ∷ (t ∷ [])
-      → Asked x (over-streams (over-sides (schema-of ns) n m q)) → table-planned (side-forms ns g h fs) ≡ plain x (over-streams (over-sides (schema-of ns) n m q))
-  two-sides-planned g n h m s t a o b p e k =
-      table-means w ns x declared lent room (side-forms ns g h fs) (over-streams (over-sides (schema-of ns) n m q))
-      (sides-plannable w ns fs one few placing numbers (rw e (both-declared s t (rw o at (a .declared)) (rw p at (b .declared)))) g h (rw e (omega arith)))
-      (two-sides ns w who same fs one few placing lent room g n h m s t a o b p e) k
+  pub two-sides-made : (g : Granted) (n : Numbered) (h : Granted) (m : Numbered) (s t : ℕ) → Stands ns w g (n .grant) → n .grant .of ≡ s ∷ [] → Stands ns w h (m .grant) → m .grant .of ≡ t ∷ [] → sources q ≡ s ∷ (t ∷ [])
+      → Made (side-forms ns g h fs) (over-sides (schema-of ns) n m q)
+  two-sides-made g n h m s t a o b p e =
+      record {
+        plannable = sides-plannable w ns fs one few placing numbers (rw e (both-declared s t (rw o at (a .declared)) (rw p at (b .declared)))) g h (rw e (omega arith));
+        is = two-sides ns w who same fs one few placing lent room g n h m s t a o b p e;
+      }
 
   module _ (g : Granted) (n : Numbered) (a : Stands ns w g (n .grant)) (of : n .grant .of ≡ sources q) where
     theirs : T (declared-all ns (sources q))
@@ -187,20 +193,13 @@ module _ (ns : List ℕ) (w : Words) (who : Caller) (same : who .profile ≡ w .
 
     -- a grant on the pair
     module _ (once : T (keeps (distinct same-col) q)) (two : length (sources q) ≡ 2) where
-      pub pair-planned : Asked x (over-streams (over-view (schema-of ns) q n)) → table-planned (pair-forms ns g fs) ≡ plain x (over-streams (over-view (schema-of ns) q n))
-      pair-planned k =
-          table-means w ns x declared lent room (pair-forms ns g fs) (over-streams (over-view (schema-of ns) q n)) (pair-plannable w ns fs one few placing numbers theirs g)
-          (on-pair ns w who same fs one few placing once g n a of two lent room) k
+      pub pair-made : Made (pair-forms ns g fs) (over-view (schema-of ns) q n)
+      pair-made = record { plannable = pair-plannable w ns fs one few placing numbers theirs g; is = on-pair ns w who same fs one few placing once g n a of two lent room }
 
       -- an aggregate grant on the pair
-      pub sum-pair-planned : Asked x (over-streams (over-sum (schema-of ns) q n)) → table-planned (pair-forms ns g fs) ≡ plain x (over-streams (over-sum (schema-of ns) q n))
-      sum-pair-planned k =
-          table-means w ns x declared lent room (pair-forms ns g fs) (over-streams (over-sum (schema-of ns) q n)) (pair-plannable w ns fs one few placing numbers theirs g)
-          (sum-on-pair ns w who same fs one few placing once g n a of two lent room) k
+      pub sum-pair-made : Made (pair-forms ns g fs) (over-sum (schema-of ns) q n)
+      sum-pair-made = record { plannable = pair-plannable w ns fs one few placing numbers theirs g; is = sum-on-pair ns w who same fs one few placing once g n a of two lent room }
 
     -- an aggregate grant on the one stream
-    pub sum-stream-planned : T (not (no-aggregate q)) → length (sources q) ≡ 1 → Asked x (over-streams (over-sum (schema-of ns) q n))
-        → table-planned (sum-forms ns g fs) ≡ plain x (over-streams (over-sum (schema-of ns) q n))
-    sum-stream-planned u e k =
-        table-means w ns x declared lent room (sum-forms ns g fs) (over-streams (over-sum (schema-of ns) q n)) (sum-plannable w ns fs one few placing numbers theirs g u)
-        (on-stream ns w who same fs one few placing u g n a of e lent room) k
+    pub sum-stream-made : T (not (no-aggregate q)) → length (sources q) ≡ 1 → Made (sum-forms ns g fs) (over-sum (schema-of ns) q n)
+    sum-stream-made u e = record { plannable = sum-plannable w ns fs one few placing numbers theirs g u; is = on-stream ns w who same fs one few placing u g n a of e lent room }

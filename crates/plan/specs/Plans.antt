@@ -235,6 +235,10 @@ unfoldable pub plan-in : List ℕ → List Form → Plan
 plan-in ns [] = no-plan
 plan-in ns (f ∷ fs) = plan-step ns f (plan-in ns fs)
 
+-- the streams that it reads
+unfoldable pub plan-streams : Plan → List ℕ
+plan-streams p = cond (p .joined) (p .left ∷ (p .right ∷ [])) (p .left ∷ [])
+
 -- ---- its conditions
 
 -- the picks from one place of the list up to another

@@ -17,10 +17,10 @@ use Rattle.model.specs.Meaning.{both, kept-row, kept, pairs, aggregated, table-
 use Rattle.model.specs.Grants.{limited}
 use Rattle.query.specs.Forms.{Words, numbered-fn, coded-col, cols-in}
 use Rattle.rewrite.proofs.Shown.{select-fewer}
 use Rattle.plan.specs.declared.Plan.{Plan}
 use Rattle.plan.specs.Plans.{left-conds, right-conds, pair-conds, outer-conds, inner-table, figure-table, planned}
 use Rattle.plan.proofs.Tables.{link, inner-joined, inner-alone}
-use Rattle.evaluate.specs.Bounds.{stream-rows, most-rows}
+use Rattle.plan.specs.Bounds.{stream-rows, most-rows}
 
 limited-few : (cs : List (Cond Compare)) (t : Table) → length (limited cs t .rows) ≤ length (t .rows)
 unfolding limited

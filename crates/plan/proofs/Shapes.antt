@@ -22,11 +22,10 @@ use Rattle.schema.specs.Schemas.{schema-of}
 use Rattle.query.specs.declared.Form.{Form}
 use Rattle.query.specs.Forms.{Words, numbered-fn, coded-col, outer, inner, with-form, queries-in, query-in}
 use Rattle.query.proofs.Shapes.{form-rows, form-pick, form-keep, form-join, form-aggregate}
 use Rattle.plan.specs.declared.Plan.{Plan}
-use Rattle.plan.specs.Plans.{view-of, view-limits, no-plan, with-rows, with-pick, with-keep, with-join, with-aggregate, viewed, with-view, plan-step, plan-in, form-regular, regular}
+use Rattle.plan.specs.Plans.{view-of, view-limits, no-plan, with-rows, with-pick, with-keep, with-join, with-aggregate, with-view, plan-step, plan-in, form-regular, regular, plan-streams}
 use Rattle.plan.proofs.Steps.{step-rows, step-pick, step-keep, step-join, step-aggregate, step-view}
-use Rattle.plan.proofs.Meaning.{Kind, k-rows, k-pick, k-keep, k-join, k-aggregate, k-under, kind-of, form-under}
-use Rattle.evaluate.specs.Streams.{plan-streams}
+use Rattle.plan.proofs.Meaning.{Kind, k-rows, k-pick, k-keep, k-join, k-aggregate, k-under, kind-of, form-under, regular-pick, regular-keep, regular-join, regular-aggregate, regular-under}
 
 -- the OFFSET of a query's aggregate, 0 where it has none
 unfoldable pub offset-of : {S : Type 0} → Query S → ℕ
@@ -78,7 +77,7 @@ module _ (w : Words) (ns : List ℕ) where
     shape-keep cs = record { streams = s .streams; alone = s .alone; equality = s .equality; column = s .column; span = s .span; offset = s .offset }
 
     shape-under : (cs : List (Cond Compare)) → Shape (under cs q) (with-view f p)
-    unfolding under with-view viewed sources plan-streams no-aggregate side sized offset-of
+    unfolding under with-view sources plan-streams no-aggregate side sized offset-of
     shape-under [] = record { streams = s .streams; alone = s .alone; equality = s .equality; column = s .column; span = s .span; offset = s .offset }
     shape-under (c ∷ cs) = record { streams = s .streams; alone = s .alone; equality = s .equality; column = s .column; span = s .span; offset = s .offset }
 
@@ -148,7 +147,7 @@ module _ (w : Words) (ns : List ℕ) where
       shaped-keep cs = record { top = λ l a. shape-keep f (outer qs) p (y .top h (search parts)) cs; behind = λ l t a u. y .behind (more l) t a u }
 
       shaped-under : (cs : List (Cond Compare)) → Shaped (under cs (outer qs) ∷ inner qs) (with-view f p)
-      unfolding outer inner under allowed side with-view viewed
+      unfolding outer inner under allowed side with-view
       shaped-under [] = record { top = λ l a. shape-under f (outer qs) p (y .top h a) []; behind = λ l t a u. y .behind (more l) t a u }
       shaped-under (c ∷ cs) = record { top = λ l a. shape-under f (outer qs) p (y .top h (search parts)) (c ∷ cs); behind = λ l t a u. y .behind (more l) t a u }
 
@@ -179,41 +178,19 @@ module _ (w : Words) (ns : List ℕ) where
     move : {xs ys : List (Query ℕ)} {p q : Plan} → xs ≡ ys → p ≡ q → Shaped ys q → Shaped xs p
     move e g y = rw (e, g) y
 
-    some-query : T (leb 1 (length qs)) → 1 ≤ length qs
-    some-query t = leb→le 1 (length qs) t
-
-    regular-pick : f .kind ≡ 1 → T (form-regular w ns f fs) → 1 ≤ length qs
-    unfolding form-regular
-    regular-pick e t = some-query (rw e at t)
-
-    regular-keep : f .kind ≡ 2 → T (form-regular w ns f fs) → 1 ≤ length qs
-    unfolding form-regular
-    regular-keep e t = some-query (and-l (leb 1 (length qs)) _ (rw e at t))
-
-    regular-join : f .kind ≡ 3 → T (form-regular w ns f fs) → 2 ≤ length qs
-    unfolding form-regular
-    regular-join e t = leb→le 2 (length qs) (rw e at t)
-
-    regular-aggregate : f .kind ≡ 4 → T (form-regular w ns f fs) → 1 ≤ length qs
-    unfolding form-regular
-    regular-aggregate e t = some-query (and-l (leb 1 (length qs)) _ (rw e at t))
-
-    regular-under : 5 ≤ f .kind → T (form-regular w ns f fs) → 1 ≤ length qs
-    unfolding form-regular
-    regular-under h t =
-        some-query (and-l (leb 1 (length qs)) _
-        (rw (ne-eqb (f .kind) 0 (λ e. omega arith), ne-eqb (f .kind) 1 (λ e. omega arith), ne-eqb (f .kind) 2 (λ e. omega arith), ne-eqb (f .kind) 3 (λ e. omega arith), ne-eqb (f .kind) 4 (λ e. omega arith)) at t))
+    one-of : (b : Bool) → T (leb 1 (length qs) && b) → 1 ≤ length qs
+    one-of b t = leb→le 1 (length qs) (and-l (leb 1 (length qs)) b t)
 
     step : Kind f → T (form-regular w ns f fs) → Shaped qs (plan-in ns fs) → Shaped (queries-in w (f ∷ fs)) (plan-in ns (f ∷ fs))
     unfolding queries-in plan-in
     step (k-rows e) t y = move (form-rows w f qs e) (sym (step-rows ns f (plan-in ns fs) e refl)) (shaped-rows f qs (plan-in ns fs) y)
-    step (k-pick e) t y = move (form-pick w f qs e) (sym (step-pick ns f (plan-in ns fs) e refl)) (shaped-pick f qs (plan-in ns fs) y (regular-pick e t) _)
-    step (k-keep e) t y = move (form-keep w f qs e) (sym (step-keep ns f (plan-in ns fs) e refl)) (shaped-keep f qs (plan-in ns fs) y (regular-keep e t) _)
-    step (k-join e) t y = move (form-join w f qs e) (sym (step-join ns f (plan-in ns fs) e refl)) (shaped-join f qs (plan-in ns fs) y (regular-join e t))
-    step (k-aggregate e) t y = move (form-aggregate w f qs e) (sym (step-aggregate ns f (plan-in ns fs) e refl)) (shaped-aggregate f qs (plan-in ns fs) y (regular-aggregate e t))
+    step (k-pick e) t y = move (form-pick w f qs e) (sym (step-pick ns f (plan-in ns fs) e refl)) (shaped-pick f qs (plan-in ns fs) y (regular-pick w ns f fs e t) _)
+    step (k-keep e) t y = move (form-keep w f qs e) (sym (step-keep ns f (plan-in ns fs) e refl)) (shaped-keep f qs (plan-in ns fs) y (one-of _ (regular-keep w ns f fs e t)) _)
+    step (k-join e) t y = move (form-join w f qs e) (sym (step-join ns f (plan-in ns fs) e refl)) (shaped-join f qs (plan-in ns fs) y (regular-join w ns f fs e t))
+    step (k-aggregate e) t y = move (form-aggregate w f qs e) (sym (step-aggregate ns f (plan-in ns fs) e refl)) (shaped-aggregate f qs (plan-in ns fs) y (one-of _ (regular-aggregate w ns f fs e t)))
     step (k-under h) t y =
         move (form-under w f qs h) (sym (step-view ns f (plan-in ns fs) (λ u. omega arith) (λ u. omega arith) (λ u. omega arith) (λ u. omega arith) (λ u. omega arith) refl))
-        (shaped-under f qs (plan-in ns fs) y (regular-under h t) (view-limits w (view-of f)))
+        (shaped-under f qs (plan-in ns fs) y (one-of _ (regular-under w ns f fs h t)) (view-limits w (view-of f)))
 
   shaped : (fs : List Form) → T (regular w ns fs) → Shaped (queries-in w fs) (plan-in ns fs)
   unfolding regular
