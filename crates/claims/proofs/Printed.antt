@@ -45,7 +45,7 @@ grants-valid : (d : Schema) (gs : List Grant) → T (valid-catalogue d gs) → A
 unfolding valid-catalogue
 grants-valid d gs h = every-all (valid-grant d) gs (search parts)
 
-grant-is-placed : (d : Schema) (g : Grant) → T (valid-grant d g) → T (grant-placed d g)
+pub grant-is-placed : (d : Schema) (g : Grant) → T (valid-grant d g) → T (grant-placed d g)
 unfolding valid-grant
 grant-is-placed d g h = search parts
 

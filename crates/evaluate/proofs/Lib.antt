@@ -1,1 +1,4 @@
 pub mod Routed
+pub mod Ends
+pub mod Offsets
+pub mod Meant

@@ -83,7 +83,7 @@ impl Way {
     pub fn plan(self, q: Query, names: &[u64]) -> Plan
         ensures { λ r. ⌜ r ≡ way-plan (now (names .entry)) self (query-forms q) ⌝ }
     {
-        let mut table: [u32; query::TABLE] = [0; query::TABLE];
+        let mut table: [u32; query::TABLE_WORDS] = [0; query::TABLE_WORDS];
         let n = self.put_table(q, names, &mut table);
         plan::laid(&table, n, names)
     }

@@ -28,12 +28,12 @@ use Rattle.plan.proofs.Steps.{step-rows, step-pick, step-keep, step-joi
 use Rattle.plan.proofs.Meaning.{Kind, k-rows, k-pick, k-keep, k-join, k-aggregate, k-under, kind-of, form-under, regular-pick, regular-keep, regular-join, regular-aggregate, regular-under}
 
 -- the OFFSET of a query's aggregate, 0 where it has none
-unfoldable pub offset-of : {S : Type 0} → Query S → ℕ
-offset-of (source s) = 0
-offset-of (pick c q) = offset-of q
-offset-of (keep cs q) = offset-of q
-offset-of (join a b q r) = 0
-offset-of (aggregate f c size offset q) = offset
+unfoldable pub query-offset : {S : Type 0} → Query S → ℕ
+query-offset (source s) = 0
+query-offset (pick c q) = query-offset q
+query-offset (keep cs q) = query-offset q
+query-offset (join a b q r) = 0
+query-offset (aggregate f c size offset q) = offset
 
 module _ (w : Words) (ns : List ℕ) where
   abbrev hs : ℕ → List Col
@@ -45,7 +45,7 @@ module _ (w : Words) (ns : List ℕ) where
     pub equality : p .joined ≡ true → T (linked (coded-col (p .first)) (coded-col (p .second)) (hs (p .left)) (hs (p .right)))
     pub column : T (not (no-aggregate q)) → T (has (gather hs (sources q)) (coded-col (p .column)))
     pub span : T (sized q) → T (not (no-aggregate q)) → T (fitting (p .size) (p .offset))
-    pub offset : T (not (no-aggregate q)) → p .offset ≡ offset-of q
+    pub offset : T (not (no-aggregate q)) → p .offset ≡ query-offset q
 
   streams-alone : (p : Plan) → p .joined ≡ false → plan-streams p ≡ p .left ∷ []
   unfolding plan-streams
@@ -69,21 +69,21 @@ module _ (w : Words) (ns : List ℕ) where
 
   module _ (f : Form) (q : Query ℕ) (p : Plan) (s : Shape q p) where
     shape-pick : (c : Cond Compare) → Shape (pick c q) (with-pick f p)
-    unfolding with-pick sources plan-streams no-aggregate side sized offset-of
+    unfolding with-pick sources plan-streams no-aggregate side sized query-offset
     shape-pick c = record { streams = s .streams; alone = s .alone; equality = s .equality; column = s .column; span = s .span; offset = s .offset }
 
     shape-keep : (cs : List Col) → Shape (keep cs q) (with-keep f p)
-    unfolding with-keep sources plan-streams no-aggregate side sized offset-of
+    unfolding with-keep sources plan-streams no-aggregate side sized query-offset
     shape-keep cs = record { streams = s .streams; alone = s .alone; equality = s .equality; column = s .column; span = s .span; offset = s .offset }
 
     shape-under : (cs : List (Cond Compare)) → Shape (under cs q) (with-view f p)
-    unfolding under with-view sources plan-streams no-aggregate side sized offset-of
+    unfolding under with-view sources plan-streams no-aggregate side sized query-offset
     shape-under [] = record { streams = s .streams; alone = s .alone; equality = s .equality; column = s .column; span = s .span; offset = s .offset }
     shape-under (c ∷ cs) = record { streams = s .streams; alone = s .alone; equality = s .equality; column = s .column; span = s .span; offset = s .offset }
 
     shape-aggregate : T (no-aggregate q) → T (allowed hs q) → T (has (header hs q) (coded-col (f .second)))
         → Shape (aggregate (numbered-fn (f .first)) (coded-col (f .second)) (f .third) (f .fourth) q) (with-aggregate f p)
-    unfolding with-aggregate sources plan-streams no-aggregate side sized offset-of
+    unfolding with-aggregate sources plan-streams no-aggregate side sized query-offset
     shape-aggregate n a h =
         record {
           streams = s .streams;
@@ -96,7 +96,7 @@ module _ (w : Words) (ns : List ℕ) where
 
     shape-join : (r : Query ℕ) → T (side q) → T (side r) → T (allowed hs q) → T (allowed hs r) → stream r ≡ p .right → T (linked (coded-col (f .first)) (coded-col (f .second)) (header hs q) (header hs r))
         → Shape (join (coded-col (f .first)) (coded-col (f .second)) q r) (with-join f p)
-    unfolding with-join sources plan-streams no-aggregate side sized offset-of
+    unfolding with-join sources plan-streams no-aggregate side sized query-offset
     shape-join r t u a b e l =
         let x = lone q p s t in
         record {

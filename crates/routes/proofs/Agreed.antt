@@ -55,7 +55,7 @@ select-none [] = refl
 select-none (x ∷ xs) = select-none xs
 
 module _ {A B : Type 0} where
-  all-unmap : {P : B → Type 0} (f : A → B) (xs : List A) → All P (map f xs) → All (λ x. P (f x)) xs
+  pub all-unmap : {P : B → Type 0} (f : A → B) (xs : List A) → All P (map f xs) → All (λ x. P (f x)) xs
   all-unmap f [] h = all-nil
   all-unmap f (x ∷ xs) h = all-cons (all-head h) (all-unmap f xs (all-tail h))
 
