@@ -2,3 +2,4 @@ pub mod Routed
 pub mod Ends
 pub mod Offsets
 pub mod Meant
+pub mod Suited

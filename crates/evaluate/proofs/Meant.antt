@@ -211,17 +211,17 @@ module _ (x : Record) (ns ws own roles profile : List ℕ) (fs : List Form) (c :
     unfolding way-plan
     all-meant =
         all-weaken (λ y k.
-            let known = k .0 .0 in
-            let m = made-route y (known .0) (known .1) (known .2) in
-            let a = k .0 .1 in
-            record {
-              made = m;
-              asked = a;
-              streams = k .1 .0 .0;
-              fits = k .1 .0 .1;
-              offset = k .1 .1 .0;
-              means = made-planned ns w who same fs (c .one) (c .few) placing (c .numbers) x (c .schema) lent room (way-forms ns (way-of o n y) fs) (query-of y) m a ∙ k .1 .1 .1;
-            })
+        let known = k .0 .0 in
+        let m = made-route y (known .0) (known .1) (known .2) in
+        let a = k .0 .1 in
+        record {
+          made = m;
+          asked = a;
+          streams = k .1 .0 .0;
+          fits = k .1 .0 .1;
+          offset = k .1 .1 .0;
+          means = made-planned ns w who same fs (c .one) (c .few) placing (c .numbers) x (c .schema) lent room (way-forms ns (way-of o n y) fs) (query-of y) m a ∙ k .1 .1 .1;
+        })
         (all-both
         (all-both (routes-known ns ws roles profile gs q placing (c .declared) sound few z e) (each-route (λ r v. Asked x v) (route-asked x who cat (rw (c .schema) grants-placed) q (c .asked) (c .fits))))
         (all-both

@@ -495,7 +495,7 @@ module _ (w : Words) (ns : List ℕ) where
 
   -- ---- the meaning
 
-  some-queries : (f : Form) (fs : List Form) → 1 ≤ length (queries-in w (f ∷ fs))
+  pub some-queries : (f : Form) (fs : List Form) → 1 ≤ length (queries-in w (f ∷ fs))
   unfolding queries-in
   some-queries f fs = go (kind-of f)
     where

@@ -47,11 +47,11 @@ module _ (w : Words) (ns : List ℕ) where
     pub span : T (sized q) → T (not (no-aggregate q)) → T (fitting (p .size) (p .offset))
     pub offset : T (not (no-aggregate q)) → p .offset ≡ query-offset q
 
-  streams-alone : (p : Plan) → p .joined ≡ false → plan-streams p ≡ p .left ∷ []
+  pub streams-alone : (p : Plan) → p .joined ≡ false → plan-streams p ≡ p .left ∷ []
   unfolding plan-streams
   streams-alone p e = rw e refl
 
-  streams-joined : (p : Plan) → p .joined ≡ true → plan-streams p ≡ p .left ∷ (p .right ∷ [])
+  pub streams-joined : (p : Plan) → p .joined ≡ true → plan-streams p ≡ p .left ∷ (p .right ∷ [])
   unfolding plan-streams
   streams-joined p e = rw e refl
 
