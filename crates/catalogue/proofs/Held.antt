@@ -52,16 +52,22 @@ module _ (w : Caller) where
   numbers-first (suc (suc (suc (suc zero)))) h = refl
   numbers-first (suc (suc (suc (suc (suc k))))) h = absurd (omega arith)
 
+  -- the entries that count
+  pub profile-first : {e : ℕ} {ps : List ℕ} → ps ≡ numbers-of w 4 → e ≡ min (w .entries) 4 → take (e * 2 - 0) ps ≡ profile-of w
+  unfolding profile-of entries-in
+  profile-first {e} j l =
+      let b : e * 2 - 0 ≡ e * 2 = omega arith in
+      ap₂ take b j ∙ numbers-first e (omega arith) ∙ ap (numbers-of w) l
+
   module _ (o : Opened) (n : Needs) (place : ℕ) (g : Grant) (ns ws : List ℕ) (four : length (w .role) ≡ 4) where
     pub caller-end : {k e : ℕ} {ps : List ℕ} {r : Opened} → k ≡ min (w .roles) 4 → ps ≡ numbers-of w 4 → e ≡ min (w .entries) 4
         → r ≡ opened-with o n place g ns ws (take (k - 0) (w .role)) (take (e * 2 - 0) ps) → r ≡ opened-with o n place g ns ws (roles-of w) (profile-of w)
-    unfolding roles-of profile-of roles-in entries-in
+    unfolding roles-of roles-in
     caller-end {k} {e} i j l h =
         let a : k - 0 ≡ k = omega arith in
-        let b : e * 2 - 0 ≡ e * 2 = omega arith in
         h
         ∙ ap₂ (opened-with o n place g ns ws) (ap (λ (m : ℕ). take m (w .role)) a ∙ first-places (w .role) k (omega arith) ∙ ap (λ (m : ℕ). map (λ x. getD (w .role) x 0) (count-from 0 m)) i)
-        (ap₂ take b j ∙ numbers-first e (omega arith) ∙ ap (numbers-of w) l)
+        (profile-first j l)
 
 -- ---- the numbers stand for the caller
 

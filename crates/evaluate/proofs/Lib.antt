@@ -3,3 +3,5 @@ pub mod Ends
 pub mod Offsets
 pub mod Meant
 pub mod Suited
+pub mod Spans
+pub mod Evaluated

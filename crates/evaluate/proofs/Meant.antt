@@ -9,7 +9,7 @@ use lib.ListN.{length, getD, replicate, length-replicate}
 use borrow.Author.Tests.{eq-eqb, ne-eqb}
 use Rattle.lists.specs.Lists.{every, All}
 use Rattle.lists.proofs.Laws.{all-weaken, all-both, parts, and-l, every-all, and-r}
-use Rattle.syntax.specs.Limits.{max-grants, max-forms}
+use Rattle.syntax.specs.Limits.{max-grants, max-forms, top}
 use Rattle.model.specs.Queries as M
 use Rattle.model.specs.Queries.{columns-of, Record, Table, sources}
 use Rattle.model.specs.Meaning.{plain}
@@ -65,6 +65,7 @@ pub record Checked (x : Record) (ns : List ℕ) (w : Words) (fs : List Form) : T
   pub declared : T (every (declared-stream ns) (sources (query-in w fs)))
   pub asked : Asked x (query-in w fs)
   pub fits : T (sized (query-in w fs))
+  pub near : query-offset (query-in w fs) ≤ top
 
 -- the opened grant in a place that stands in a catalogue is that of the place
 held-granted : (o : Open) (i : ℕ) (g : D.Grant) → Held o i g → granted-in o i ≡ granted-of i g
@@ -196,7 +197,7 @@ module _ (x : Record) (ns ws own roles profile : List ℕ) (fs : List Form) (c :
       pub offset : query-offset (line-of y) ≡ query-offset q
       pub means : planned x w (way-plan ns (way-of o n y) fs) ≡ route-table x who (route-in y)
 
-    listed : routes (x .schema) who cat q ≡ map route-in (routes-in o n)
+    pub listed : routes (x .schema) who cat q ≡ map route-in (routes-in o n)
     listed = ap (λ s. routes s who cat q) (c .schema) ∙ routes-placed ns ws roles profile gs q placing (c .declared) sound few z e
 
     -- what holds of every route of the query and its rewritten query

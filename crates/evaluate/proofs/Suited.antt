@@ -8,7 +8,8 @@ use lib.Dec.{T, eqb, ltb, leb, eqb→eq, ltb→lt, lt→ltb}
 use lib.ListN.{length, length-map}
 use borrow.Author.Tests.{eq-eqb, ne-eqb, lt-ltb}
 use Rattle.lists.specs.Lists.{every, some?, gather, distinct, count-from}
-use Rattle.lists.proofs.Laws.{and-l, and-r, and-both, or-l, or-r, or-cases, T-true, true-T}
+use Rattle.lists.proofs.Laws.{and-l, and-r, and-both, or-l, or-r, or-cases, T-true, true-T, distinct-unmap}
+use Rattle.syntax.specs.Limits.{top as max-time}
 use Rattle.model.specs.Queries as M
 use Rattle.model.specs.Queries.{Col, col, figure, same-col, columns-of, sources, header, Table}
 use Rattle.model.specs.Checks.{has, within, linked, no-aggregate, allowed, placed, fitting, sized}
@@ -22,14 +23,17 @@ use Rattle.query.specs.declared.Form.{Form}
 use Rattle.query.specs.Forms.{Words, coded-col, cols-in, query-in, queries-in}
 use Rattle.query.specs.Shapes.{depth}
 use Rattle.plan.specs.declared.Plan.{Plan}
-use Rattle.plan.specs.Plans.{plan-streams, plan-in, planned}
+use Rattle.plan.specs.Plans.{plan-streams, plan-in, pick-count}
+use Rattle.plan.proofs.Tables.{Placed}
 use Rattle.plan.proofs.Meaning.{Top, says, some-queries}
 use Rattle.plan.proofs.Shapes.{Shape, plan-shape, streams-alone, streams-joined, query-offset}
 use Rattle.plan.proofs.Rewritten.{Plannable, Asked}
 use Rattle.sides.specs.Sides.{code-there, Alone}
 use Rattle.pairs.specs.Pairs.{Joined}
 use Rattle.pairs.specs.Given.{Stands, column-there}
-use Rattle.model.proofs.Columns.{has-append}
+use Rattle.model.proofs.Columns.{has-append, same-col-refl}
+use Rattle.model.proofs.Keeps.{header-once}
+use Rattle.evaluate.specs.Suits.{Suits}
 
 -- ---- a column of a stream by its code
 
@@ -74,16 +78,12 @@ module _ (ns : List ℕ) where
 
 -- ---- plans
 
--- what evaluating a plan needs of it
-pub record Suited (m : Memory) (q : M.Query ℕ) (p : Plan) : Type 0 where
-  pub stands : Stands m p
-  pub there : p .number ≡ 0 → T (every (column-there (m .names) p) (codes-in (p .order)))
-  pub column : (p .number ≡ 0 → ⊥) → T (column-there (m .names) p (p .column))
-  pub span : (p .number ≡ 0 → ⊥) → T (fitting (p .size) (p .offset))
-  pub offset : (p .number ≡ 0 → ⊥) → p .offset ≡ query-offset q
+-- codes of columns that stand only once
+once-codes : (cs : List ℕ) → T (distinct same-col (map coded-col cs)) → T (distinct eqb cs)
+once-codes cs h = distinct-unmap coded-col eqb same-col (λ a b e. rw (eqb→eq a b e) (same-col-refl (coded-col b))) cs h
 
 module _ (m : Memory) (safe : T (memory-sound m)) (w : Words) (forms : List Form) (q : M.Query ℕ) (plannable : Plannable w (m .names) forms) (is : query-in w forms ≡ q) (asked : Asked (record-of m) q) (fits : T (sized q))
-    (declared : T (every (declared-stream (m .names)) (sources q))) where
+    (declared : T (every (declared-stream (m .names)) (sources q))) (near : query-offset q ≤ max-time) where
   abbrev ns : List ℕ
   ns = m .names
 
@@ -155,7 +155,7 @@ module _ (m : Memory) (safe : T (memory-sound m)) (w : Words) (forms : List Form
             (and-both (code-there ns (p .left) (p .second)) _ (has-there ns (p .left) (p .second) a (and-l (has (hs (p .left)) second) _ u)) (has-there ns (p .right) (p .first) b (and-r (has (hs (p .left)) second) _ u))));
       }
 
-  plain : p .number ≡ 0 → T (no-aggregate q)
+  pub plain : p .number ≡ 0 → T (no-aggregate q)
   plain e = true-T (no-aggregate q) (top .plain-is ∙ eq-eqb (p .number) 0 e)
 
   figures : (p .number ≡ 0 → ⊥) → T (not (no-aggregate q))
@@ -167,15 +167,28 @@ module _ (m : Memory) (safe : T (memory-sound m)) (w : Words) (forms : List Form
   every-there (c ∷ cs) t =
       and-both (column-there ns p c) _ (has-column ns p c theirs (and-l (has (gather hs (plan-streams p)) (coded-col c)) _ t)) (every-there cs (and-r (has (gather hs (plan-streams p)) (coded-col c)) _ t))
 
-  pub suited : Suited m q p
-  unfolding cols-in
+  -- its window begins where the query's does
+  pub offset-is : (p .number ≡ 0 → ⊥) → p .offset ≡ query-offset q
+  offset-is e = shape .offset (figures e)
+
+  pub streams-are : plan-streams p ≡ sources q
+  streams-are = sym (shape .streams)
+
+  places : Placed p (pick-count forms)
+  places = says w ns forms (plannable .regularly) (plannable .few) .placed
+
+  pub suited : Suits m p
+  unfolding cols-in record-of
   suited =
       record {
         stands = record { alone = alone; double = double };
         there = λ e.
             let h = header-in (schema-of ns) q (plain e) may in
             every-there (codes-in (p .order)) (rw (top .header-is (plain e), shape .streams) at h);
+        once = λ e. once-codes (codes-in (p .order)) (rw (top .header-is (plain e)) at (header-once (schema-of ns) q (asked .placing) (asked .once)));
         column = λ e. has-column ns p (p .column) theirs (rw (shape .streams) at (shape .column (figures e)));
         span = λ e. shape .span fits (figures e);
-        offset = λ e. shape .offset (figures e);
+        near = λ e. rw (offset-is e) near;
+        few = rw (places .counted) (plannable .few);
+        after = λ e. places .upper;
       }

@@ -34,16 +34,12 @@ fn number_at(xs: &[u32], i: u32) -> u32
 fn granted_in(o: Open, i: u32) -> Granted
     ensures { λ r. ⌜ r ≡ granted-in o i ⌝ }
 {
-    let shown = o.shown;
-    let words = o.words;
-    let from = o.from;
-    let to = o.to;
     Granted {
         place: i,
-        shown: number_at(&shown, i),
-        words: number_at(&words, i),
-        from: number_at(&from, i),
-        to: number_at(&to, i),
+        shown: number_at(&o.shown, i),
+        words: number_at(&o.words, i),
+        from: number_at(&o.from, i),
+        to: number_at(&o.to, i),
     }
 }
 

@@ -1,13 +1,14 @@
 -- Columns that stand only once.
-use mathlib.Core.Path.{_≡_}
+use mathlib.Core.Path.{_≡_, refl, ap}
 use mathlib.Core.List.{List, [], _∷_, _++_, map}
 use mathlib.Core.Bool.{Bool, true, false, _&&_, _||_, not, cond}
-use Prim.Native.Nat.{ℕ, zero, suc, _≤_}
+use Prim.Native.Nat.{ℕ, zero, suc, _+_, _≤_, _<_}
 use native.Mathlib.Omega.{arith}
 use lib.ListN.{length}
 use lib.Dec.{T, eqb, eqb→eq, eqb-refl, not-T, T-not}
-use Rattle.lists.specs.Lists.{select, some?, gather, nth, count-from, distinct}
-use Rattle.lists.proofs.Laws.{and-both, or-l, or-r, or-cases, parts, some-before}
+use borrow.Author.Tests.{eqb-true, eqb-false, ne-eqb}
+use Rattle.lists.specs.Lists.{All, all-nil, all-cons, select, some?, gather, nth, count-from, distinct}
+use Rattle.lists.proofs.Laws.{all-select, and-both, or-l, or-r, or-cases, parts, some-before, T-false}
 use Rattle.model.specs.Queries.{Schema, no-stream, Col, col, same-col, columns-of}
 use Rattle.model.specs.Checks.{has}
 use Rattle.model.proofs.Columns.{same-col→eq, same-col-refl, has-append, has-append-r}
@@ -119,3 +120,49 @@ module _ (d : Schema) where
   gather-distinct (s ∷ ss) h =
       distinct-append (columns-of d s) (gather (columns-of d) ss) (columns-distinct s) (gather-distinct ss (search parts))
       (λ c t u. T-not (some? (eqb s) ss) (search parts) (among-streams s ss c t u))
+
+-- ---- numbers that stand only once
+
+absent : (k : ℕ) (xs : List ℕ) → T (not (some? (eqb k) xs)) → select (λ x. not (eqb k x)) xs ≡ xs
+unfolding select some?
+absent k [] h = refl
+absent k (x ∷ xs) h = go (eqb k x) h (absent k xs)
+  where
+    go : (b : Bool) → T (not (b || some? (eqb k) xs)) → (T (not (some? (eqb k) xs)) → select (λ x. not (eqb k x)) xs ≡ xs)
+        → cond (not b) (x ∷ select (λ x. not (eqb k x)) xs) (select (λ x. not (eqb k x)) xs) ≡ x ∷ xs
+    go true n f = absurd n
+    go false n f = ap (λ l. x ∷ l) (f n)
+
+-- without one number there is at most one less
+without : (k : ℕ) (xs : List ℕ) → T (distinct eqb xs) → length xs ≤ suc (length (select (λ x. not (eqb k x)) xs))
+unfolding select distinct
+without k [] h = omega arith
+without k (x ∷ xs) h = go (eqb k x) refl (without k xs (search parts))
+  where
+    go : (b : Bool) → eqb k x ≡ b → length xs ≤ suc (length (select (λ x. not (eqb k x)) xs)) → length (x ∷ xs) ≤ suc (length (cond (not b) (x ∷ select (λ x. not (eqb k x)) xs) (select (λ x. not (eqb k x)) xs)))
+    go true e i =
+        let s : k ≡ x = eqb-true k x e in
+        let z : select (λ y. not (eqb k y)) xs ≡ xs = absent k xs (rw s (search parts)) in
+        let n : length (select (λ y. not (eqb k y)) xs) ≡ length xs = ap length z in
+        omega arith
+    go false e i = omega arith
+
+-- among n numbers there are at most n
+pub distinct-few : (a n : ℕ) (xs : List ℕ) → T (distinct eqb xs) → All (λ x. (a ≤ x) × (x < a + n)) xs → length xs ≤ n
+distinct-few a zero [] h all-nil = omega arith
+distinct-few a zero (x ∷ xs) h (all-cons (l, u) r) = absurd (omega arith)
+distinct-few a (suc n) xs h b =
+    let i = distinct-few a n (select (λ x. not (eqb (a + n) x)) xs) (distinct-select eqb (λ x. not (eqb (a + n) x)) xs h)
+    (all-select (λ x. not (eqb (a + n) x)) (λ x t (l, u). (l, let e = eqb-false (a + n) x (T-false (eqb (a + n) x) t) in omega (arith, e))) b) in
+    let w = without (a + n) xs h in
+    omega arith
+
+later : (a b n : ℕ) → a < b → T (not (some? (eqb a) (count-from b n)))
+unfolding some? count-from
+later a b zero h = tt
+later a b (suc n) h = rw (ne-eqb a b (λ e. omega arith)) (later a (suc b) n (omega arith))
+
+pub count-distinct : (a n : ℕ) → T (distinct eqb (count-from a n))
+unfolding distinct count-from
+count-distinct a zero = tt
+count-distinct a (suc n) = and-both (not (some? (eqb a) (count-from (suc a) n))) _ (later a (suc a) n (omega arith)) (count-distinct (suc a) n)

@@ -171,6 +171,19 @@ module _ (d : Schema) where
       streams : T (once (gather (columns-of d) (sources q) ++ gather (columns-of d) (sources r)))
       streams = rw (gather-append (columns-of d) (sources q) (sources r)) at (gather-distinct d (sources q ++ sources r) u)
 
+  once-shows : (q : Query ℕ) → T (allowed (columns-of d) q) → T (distinct eqb (sources q)) → T (keeps once q) → T (once (header (columns-of d) q))
+  unfolding allowed sources keeps header distinct some?
+  once-shows (source s) w u h = columns-distinct d s
+  once-shows (pick c q) w u h = once-shows q (search parts) u h
+  once-shows (keep cs q) w u h = search parts
+  once-shows (join a b q r) w u h = once-pair a b q r w u h
+  once-shows (aggregate f c size offset q) w u h = tt
+
+  -- no column stands twice in what a query shows
+  pub header-once : (q : Query ℕ) → T (placed d q) → T (keeps (distinct same-col) q) → T (distinct same-col (header (columns-of d) q))
+  unfolding placed
+  header-once q w h = once-shows q (search parts) (search parts) h
+
 module _ (d : Schema) (who : Caller) where
   abbrev Once : Query ℕ → Query Source → Type 0
   Once q x = T (allowed (columns-of d) q) → T (distinct eqb (sources q)) → T (keeps once q) → T (keeps once (line d who x))

@@ -2,19 +2,21 @@
 use mathlib.Core.Path.{_≡_, refl, sym, ap, ap₂, _∙_, subst}
 use mathlib.Core.List.{List, [], _∷_, _++_, map}
 use mathlib.Core.Bool.{Bool, true, false, cond}
-use Prim.Native.Nat.{ℕ, suc, _+_, _*_, _/_, _≤_}
+use Prim.Native.Nat.{ℕ, suc, _+_, _*_, _-_, _/_, _≤_, _<_}
 use native.Mathlib.Omega.{arith}
-use native.Mathlib.Nat.{le-trans, mul-le-mul}
-use lib.Dec.{eqb, leb}
+use native.Mathlib.Nat.{le-trans, mul-le-mul, suc-mul, add-mul, le-div-iff-mul-le, div-lt-iff-lt-mul, lt-div-mul-add}
+use lib.Dec.{T, eqb, leb, leb→le, ltb→lt}
 use lib.IntN.{ℤ}
 use lib.ListN.{length, length-map, length-append}
-use Rattle.lists.specs.Lists.{select, gather, count-from}
+use Rattle.lists.specs.Lists.{select, gather, count-from, distinct}
+use Rattle.lists.proofs.Laws.{all-any, all-select, parts}
 use Rattle.lists.proofs.Counting.{count-length}
 use Rattle.syntax.specs.Grammar.{Fn, Cond}
 use Rattle.model.specs.Queries.{Col, Compare, Row, Table, Record}
-use Rattle.model.specs.Aggregates.{closed, answer-row, window, figures-of}
+use Rattle.model.specs.Aggregates.{in-window, closed, answer-row, window, figures-of}
 use Rattle.model.specs.Meaning.{both, kept-row, kept, pairs, aggregated, table-of}
 use Rattle.model.specs.Grants.{limited}
+use Rattle.model.proofs.Distinct.{distinct-select, distinct-few, count-distinct}
 use Rattle.query.specs.Forms.{Words, numbered-fn, coded-col, cols-in}
 use Rattle.rewrite.proofs.Shown.{select-fewer}
 use Rattle.plan.specs.declared.Plan.{Plan}
@@ -64,6 +66,85 @@ figures-few clock f value size offset rs =
     let c = count-length 0 (suc (clock / offset)) in
     omega arith
 
+-- ---- windows by the rows that they hold
+
+row-once : (f : Fn) (end : ℕ) (vs : List ℤ) → length (answer-row f end vs) ≤ length vs
+unfolding answer-row
+row-once f end [] = omega arith
+row-once f end (v ∷ vs) = omega arith
+
+module _ (size offset : ℕ) (some : 1 ≤ offset) where
+  -- the windows that hold a time are those from one number on, as many as begin in the time of one
+  held-from : (r : Row) (k : ℕ) → T (in-window size offset k r) → (r .at / offset - size / offset ≤ k) × (k < r .at / offset - size / offset + suc (size / offset))
+  unfolding in-window
+  held-from r k t =
+      let low : k ≤ r .at / offset = le-div-iff-mul-le some .1 (leb→le (k * offset) (r .at) (search parts)) in
+      let high = ltb→lt (r .at) (k * offset + size) (search parts) in
+      let s = lt-div-mul-add {a = size} some in
+      let e = add-mul (suc k) (size / offset) offset in
+      let u = suc-mul k offset in
+      let near : r .at / offset < suc (k + size / offset) = div-lt-iff-lt-mul some .1 (omega arith) in
+      (omega arith, omega arith)
+
+  abbrev held : Row → ℕ → Bool
+  held r k = in-window size offset k r
+
+  held-few : (r : Row) (ks : List ℕ) → T (distinct eqb ks) → length (select (held r) ks) ≤ suc (size / offset)
+  held-few r ks h = distinct-few (r .at / offset - size / offset) (suc (size / offset)) (select (held r) ks) (distinct-select eqb (held r) ks h) (all-select {P = λ k. Unit {0}} (held r) (λ k t u. held-from r k t) (all-any ks))
+
+  -- how many rows the windows hold, each counted in each that holds it
+  abbrev holdings : List Row → List ℕ → List Row
+  holdings rs ks = gather (λ k. select (in-window size offset k) rs) ks
+
+  holdings-more : (r : Row) (rs : List Row) (ks : List ℕ) → length (holdings (r ∷ rs) ks) ≡ length (select (held r) ks) + length (holdings rs ks)
+  unfolding gather select
+  holdings-more r rs [] = omega arith
+  holdings-more r rs (k ∷ ks) =
+      let i = holdings-more r rs ks in
+      let a = length-append (select (in-window size offset k) rs) (gather (λ k. select (in-window size offset k) rs) ks) in
+      length-append (select (in-window size offset k) (r ∷ rs)) (holdings (r ∷ rs) ks) ∙ go (in-window size offset k r) i a
+    where
+      go : (b : Bool) → length (holdings (r ∷ rs) ks) ≡ length (select (held r) ks) + length (holdings rs ks)
+          → length (select (in-window size offset k) rs ++ holdings rs ks) ≡ length (select (in-window size offset k) rs) + length (holdings rs ks)
+          → length (cond b (r ∷ select (in-window size offset k) rs) (select (in-window size offset k) rs)) + length (holdings (r ∷ rs) ks)
+          ≡ length (cond b (k ∷ select (held r) ks) (select (held r) ks)) + length (select (in-window size offset k) rs ++ holdings rs ks)
+      go true i a = omega arith
+      go false i a = omega arith
+
+  holdings-none : (ks : List ℕ) → length (holdings [] ks) ≡ 0
+  unfolding gather select
+  holdings-none [] = refl
+  holdings-none (k ∷ ks) = holdings-none ks
+
+  holdings-few : (rs : List Row) (ks : List ℕ) → T (distinct eqb ks) → length (holdings rs ks) ≤ length rs * suc (size / offset)
+  holdings-few [] ks h = let e = holdings-none ks in omega arith
+  holdings-few (r ∷ rs) ks h =
+      let i = holdings-few rs ks h in
+      let a = holdings-more r rs ks in
+      let b = held-few r ks h in
+      let c = suc-mul (length rs) (suc (size / offset)) in
+      omega arith
+
+  windows-held : (f : Fn) (value : Row → ℤ) (rs : List Row) (ks : List ℕ) → length (gather (window f value size offset rs) ks) ≤ length (holdings rs ks)
+  unfolding gather window
+  windows-held f value rs [] = omega arith
+  windows-held f value rs (k ∷ ks) =
+      let i = windows-held f value rs ks in
+      let a = length-append (window f value size offset rs k) (gather (window f value size offset rs) ks) in
+      let b = length-append (select (in-window size offset k) rs) (holdings rs ks) in
+      let c : length (window f value size offset rs k) ≤ length (map value (select (in-window size offset k) rs)) = row-once f (k * offset + size) _ in
+      let d = length-map (select (in-window size offset k) rs) value in
+      omega arith
+
+  -- no more answer rows than the windows of each row
+  pub figures-dense : (clock : ℕ) (f : Fn) (value : Row → ℤ) (rs : List Row) → length (figures-of clock f value size offset rs) ≤ length rs * suc (size / offset)
+  unfolding figures-of closed
+  figures-dense clock f value rs =
+      let ks = select (λ k. leb (k * offset + size) clock) (count-from 0 (suc (clock / offset))) in
+      let a = windows-held f value rs ks in
+      let b = holdings-few rs ks (distinct-select eqb (λ k. leb (k * offset + size) clock) (count-from 0 (suc (clock / offset))) (count-distinct 0 (suc (clock / offset)))) in
+      omega arith
+
 aggregated-few : (clock : ℕ) (f : Fn) (c : Col) (size offset : ℕ) (t : Table) → length (aggregated clock f c size offset t .rows) ≤ suc (clock / offset)
 unfolding aggregated
 aggregated-few clock f c size offset t = figures-few clock f _ size offset (t .rows)
@@ -88,7 +169,7 @@ module _ (x : Record) (w : Words) (p : Plan) where
       let a = limited-few (left-conds w p) (table-of x (p .left)) in
       omega arith
 
-  inner-few : length (inner-table (table-of x) w p .rows) ≤ cond (p .joined) (stream-rows x (p .left) * stream-rows x (p .right)) (stream-rows x (p .left))
+  pub inner-few : length (inner-table (table-of x) w p .rows) ≤ cond (p .joined) (stream-rows x (p .left) * stream-rows x (p .right)) (stream-rows x (p .left))
   inner-few = go (p .joined) refl
     where
       go : (b : Bool) → p .joined ≡ b → length (inner-table (table-of x) w p .rows) ≤ cond b (stream-rows x (p .left) * stream-rows x (p .right)) (stream-rows x (p .left))
@@ -98,6 +179,11 @@ module _ (x : Record) (w : Words) (p : Plan) where
   summed-few : length (figure-table (x .clock) (table-of x) w p .rows) ≤ suc (x .clock / p .offset)
   unfolding figure-table
   summed-few = le-trans (limited-few (outer-conds w p) _) (aggregated-few (x .clock) (numbered-fn (p .number)) (coded-col (p .column)) (p .size) (p .offset) (inner-table (table-of x) w p))
+
+  -- the figures, by the rows that they are taken of
+  pub summed-dense : 1 ≤ p .offset → length (figure-table (x .clock) (table-of x) w p .rows) ≤ length (inner-table (table-of x) w p .rows) * suc (p .size / p .offset)
+  unfolding figure-table aggregated
+  summed-dense some = le-trans (limited-few (outer-conds w p) _) (figures-dense (p .size) (p .offset) some (x .clock) (numbered-fn (p .number)) _ (inner-table (table-of x) w p .rows))
 
   -- a plan asks for no more rows than its bound
   pub planned-few : length (planned x w p .rows) ≤ most-rows x p

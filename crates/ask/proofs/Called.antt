@@ -1,0 +1,70 @@
+-- What the functions of a call return, one law for each return.
+use mathlib.Core.Path.{_≡_, refl, sym, ap, _∙_, subst}
+use mathlib.Core.List.{List}
+use mathlib.Core.Bool.{Bool, true, false, _&&_, not}
+use Prim.Native.Nat.{ℕ}
+use lib.IntN.{ℤ}
+use borrow.Author.Tests.{not-true, not-false}
+use Rattle.refusal.specs.Numbers.{verdict-of}
+use Rattle.refusal.specs.Checks.{first, table}
+use Rattle.refusal.specs.declared.Refusal.{Refusal}
+use Rattle.refusal.specs.declared.Verdict.{Verdict}
+use Rattle.refusal.specs.declared.Verdict.the-variants.{Accepted, Refused}
+use Rattle.ledger.specs.Records.{Memory, memory-sound}
+use Rattle.caller.specs.declared.Caller.{Caller}
+use Rattle.caller.specs.Callers.{caller-sound}
+use Rattle.query.specs.Tables.{query-forms}
+use Rattle.catalogue.specs.Callers.{profile-of}
+use Rattle.catalogue.specs.declared.Opened.{Opened}
+use Rattle.ask.specs.declared.Reply.{Reply}
+use Rattle.ask.specs.declared.Told.{Told}
+use Rattle.ask.specs.Replies.{refused-with, Replies}
+use Rattle.ask.specs.Cells.{run-reply, Ready}
+use Rattle.ask.specs.Asking.{Prepared, Answers}
+use Rattle.ask.proofs.Replied.{with-lent, text-refused, text-ready, text-answered}
+
+-- ---- what may be lent
+
+module _ (a b c : Bool) where
+  pub lent-catalogue : not b ≡ true → false ≡ (a && b && c)
+  lent-catalogue h = rw (not-true b h) (go a)
+    where
+      go : (a : Bool) → false ≡ (a && false && c)
+      go true = refl
+      go false = refl
+
+  pub lent-caller : {d : Bool} → d ≡ c → not d ≡ true → false ≡ (a && b && c)
+  lent-caller {d} e h = rw (sym e ∙ not-true d h) (go a b)
+    where
+      go : (a b : Bool) → false ≡ (a && b && false)
+      go true true = refl
+      go true false = refl
+      go false b = refl
+
+  pub lent-record : not b ≡ false → {d : Bool} → d ≡ c → not d ≡ false → {r : Bool} → r ≡ a → r ≡ (a && b && c)
+  lent-record h {d} e k f = rw (f, not-false b h, sym e ∙ not-false d k) (go a)
+    where
+      go : (a : Bool) → a ≡ (a && true && true)
+      go true = refl
+      go false = refl
+
+-- ---- a query of which the text and the catalogue were read
+
+module _ (m : Memory) (ws : List ℕ) (who : Caller) (t : Told) (x : Opened) {b : Bool} (may : b ≡ (memory-sound m && x .sound && caller-sound who)) {v : Verdict} (told : v ≡ verdict-of (first (table (with-lent (not b) (t .checks))))) (cells : List ℤ) where
+  pub answers-refused : {f : Refusal} → v ≡ Refused f → {r : Reply} → r ≡ refused-with f → Answers m ws who t x cells cells r
+  answers-refused e g = record { shown = λ spare bs form gs text opened. text-refused m ws who t spare bs form gs text opened may told cells e g }
+
+  pub answers-ready : Prepared (m .names) ws who t x → v ≡ Accepted → {ps : List ℕ} → ps ≡ profile-of who
+      → Ready (record { memory = m; own = t .words; granted = ws; profile = ps; forms = query-forms (t .query) }) (x .opens) (t .needs)
+  answers-ready p e {ps} g =
+      subst (λ l. Ready (record { memory = m; own = t .words; granted = ws; profile = l; forms = query-forms (t .query) }) (x .opens) (t .needs)) (sym g)
+      (text-ready m ws who t (p .spare) (p .bytes) (p .form) (p .grants) (p .text) (p .opened) may told cells e)
+
+  pub answers-given : v ≡ Accepted → {ps : List ℕ} → ps ≡ profile-of who → {cells′ : List ℤ} {r : Reply}
+      → Replies (run-reply (record { memory = m; own = t .words; granted = ws; profile = ps; forms = query-forms (t .query) }) (x .opens) (t .needs) cells) cells cells′ r
+      → Answers m ws who t x cells cells′ r
+  answers-given e g {cells′} {r} h =
+      record {
+        shown = λ spare bs form gs text opened. text-answered m ws who t spare bs form gs text opened may told cells e
+            (subst (λ l. Replies (run-reply (record { memory = m; own = t .words; granted = ws; profile = l; forms = query-forms (t .query) }) (x .opens) (t .needs) cells) cells cells′ r) g h);
+      }

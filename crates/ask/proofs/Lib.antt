@@ -1,0 +1,14 @@
+pub mod Ones
+pub mod Ends
+pub mod Plans
+pub mod Headers
+pub mod Routes
+pub mod Loops
+pub mod Most
+pub mod Running
+pub mod Sizes
+pub mod Evaluable
+pub mod Accepted
+pub mod Answers
+pub mod Replied
+pub mod Called

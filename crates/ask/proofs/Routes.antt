@@ -1,0 +1,139 @@
+-- The cells of a route, counted or written.
+use mathlib.Core.Path.{_≡_, refl, sym, ap, _∙_}
+use mathlib.Core.List.{List, [], _∷_, _++_}
+use mathlib.Core.Bool.{Bool, true, false, not, true≢false}
+use Prim.Native.Nat.{ℕ, suc, _+_, _*_, _/_, _≤_, _<_}
+use native.Mathlib.Omega.{arith}
+use mir.Syntax.{w32}
+use mir.Val.{Fits}
+use lib.IntN.{ℤ}
+use lib.Dec.{leb}
+use lib.ListN.{length, length-append, set}
+use lib.Seq.{sets, length-sets, set-comm}
+use borrow.Author.Tests.{le-leb, not-true, not-false}
+use Rattle.lists.specs.Lists.{gather}
+use Rattle.model.specs.Queries.{Row}
+use Rattle.model.specs.Answers.{row-cells}
+use Rattle.cells.specs.Cells.{room-for}
+use Rattle.cells.proofs.Stored.{sets-append}
+use Rattle.rows.specs.declared.Rows.{Rows}
+use Rattle.plan.specs.declared.Plan.{Plan}
+use Rattle.sides.specs.Sides.{words-of, left-mask, right-mask}
+use Rattle.pairs.specs.Given.{Masked, plan-rows, row-list, Counted}
+use Rattle.ledger.specs.Records.{Memory}
+use Rattle.query.specs.declared.Form.{Form}
+use Rattle.evaluate.specs.Ways.{way-plan}
+use Rattle.evaluate.specs.declared.Way.{Way}
+use Rattle.ask.specs.declared.Aim.{Aim}
+use Rattle.evaluate.specs.Suits.{Suits}
+use Rattle.ask.specs.Rows.{plan-width, Gives}
+use Rattle.ask.specs.Cells.{Setting, plan-of, way-rows, way-header, way-cells, Enterable, Turns}
+use Rattle.ask.proofs.Plans.{rows-long, width-is}
+
+module _ (s : Setting) (y : Way) where
+  abbrev rs : List Row
+  rs = way-rows s y
+
+  abbrev p : Plan
+  p = plan-of s y
+
+  module _ (k : Suits (s .memory) p) where
+    -- four cells, and those of its rows
+    pub way-long : length (way-cells s y) ≡ 4 + length (way-rows s y) * plan-width (plan-of s y)
+    unfolding way-cells way-header way-rows
+    way-long = let e = rows-long (s .memory) (s .own) (s .granted) (s .profile) p k in omega arith
+
+    pub way-wide : 1 ≤ plan-width (plan-of s y)
+    way-wide = let e = width-is (s .memory) (s .own) (s .granted) (s .profile) p k in omega arith
+
+-- ---- cells behind others, and then those before them
+
+pub set-past : (cells : List ℤ) (i k : ℕ) (x : ℤ) (ys : List ℤ) → i < k → set (sets cells k ys) i x ≡ sets (set cells i x) k ys
+set-past cells i k x [] h = refl
+set-past cells i k x (y ∷ ys) h = set-past (set cells k y) i (suc k) x ys (omega arith) ∙ ap (λ l. sets l (suc k) ys) (set-comm cells k i y x (λ e. omega arith))
+
+sets-past : (cells : List ℤ) (i k : ℕ) (xs ys : List ℤ) → i + length xs ≤ k → sets (sets cells k ys) i xs ≡ sets (sets cells i xs) k ys
+sets-past cells i k [] ys h = refl
+sets-past cells i k (x ∷ xs) ys h = ap (λ l. sets l (suc i) xs) (set-past cells i k x ys (omega arith)) ∙ sets-past (set cells i x) (suc i) k xs ys (omega arith)
+
+sets-before : (cells : List ℤ) (at k : ℕ) (xs ys : List ℤ) → k ≡ at + length xs → sets (sets cells k ys) at xs ≡ sets cells at (xs ++ ys)
+sets-before cells at k xs ys e = sets-past cells at k xs ys (omega arith) ∙ ap (λ n. sets (sets cells at xs) n ys) e ∙ sym (sets-append cells at xs ys)
+
+module _ (m : Memory) (own gs ps : List ℕ) (fs : List Form) (y : Way) (write : Bool) (at room : ℕ) (cells : List ℤ) (e : Enterable (record { memory = m; own = own; granted = gs; profile = ps; forms = fs }) y write at room (length cells)) {q : Plan} (f : q ≡ way-plan (m .names) y fs) where
+  abbrev s : Setting
+  s = record { memory = m; own = own; granted = gs; profile = ps; forms = fs }
+
+  pub rows-ready : {lefts rights : Rows} → lefts ≡ left-mask m (words-of own gs ps) q → rights ≡ right-mask m (words-of own gs ps) q
+      → Suits m q × Masked m own gs ps q lefts rights
+  rows-ready a b = (rw f (e .suits), record { left = a; right = λ j. b })
+
+  module _ {w n : ℕ} {cells₁ : List ℤ} (g : w ≡ plan-width q) (h : Gives (plan-width q) (plan-rows m own gs ps q) (record { write = write; at = at + 4; room = room }) cells cells₁ n) where
+    wide : 1 ≤ w
+    wide = let a = way-wide s y (e .suits) in rw (g, f) a
+
+    pub after-ready : (1 ≤ w) × (at ≤ room) × (room ≤ 67108864)
+    after-ready = (wide, e .from, e .near)
+
+    long : length (way-cells s y) ≡ 4 + length (way-rows s y) * w
+    long = rw (g, f) (way-long s y (e .suits))
+
+    rows-same : plan-rows m own gs ps q ≡ way-rows s y
+    unfolding way-rows
+    rows-same = rw f
+
+    pub route-counted : not write ≡ true → {r : ℕ} → ((k : ℕ) → Counted k (room / w) n → Counted (at + (4 + k * w)) room r) → Turns (record { memory = m; own = own; granted = gs; profile = ps; forms = fs }) y write at room cells cells₁ r
+    route-counted a {r} k =
+        let x = h .counted (not-true write a) in
+        record {
+          counted = λ b. (x .0, rw long (k (length (way-rows s y)) (rw (← rows-same, g) (x .1))));
+          written = λ b. absurd (true≢false (sym b ∙ not-true write a));
+        }
+
+    module _ (a : not write ≡ false) where
+      all-fit : at + (4 + length (way-rows s y) * w) ≤ room
+      all-fit = let x = e .fits (not-false write a) in let z = long in omega arith
+
+      cells-long : length (gather row-cells (way-rows s y)) ≡ length (way-rows s y) * w
+      unfolding way-rows
+      cells-long = rw (g, f) (rows-long m own gs ps (plan-of s y) (e .suits))
+
+      roomy : (n : ℕ) → at + 4 + n ≤ room → room-for n (at + 4) (length cells) ≡ true
+      unfolding room-for
+      roomy n l = let b = e .near in let d = e .lent in rw (le-leb (at + 4 + n) (length cells) (omega arith), le-leb (at + 4 + n) 4294967295 (omega arith))
+
+      done : (cells₁ ≡ sets cells (at + 4) (gather row-cells (way-rows s y))) × (n ≡ length (way-rows s y))
+      done =
+          let x = all-fit in
+          let b = e .near in
+          let d = e .lent in
+          let many : length (gather row-cells (way-rows s y)) ≡ length (way-rows s y) * w = cells-long in
+          let room-is : room-for (length (gather row-cells (way-rows s y))) (at + 4) (length cells) ≡ true = roomy (length (gather row-cells (way-rows s y))) (omega arith) in
+          rw rows-same at (h .written (not-false write a) (rw rows-same room-is))
+
+      pub header-ready : (at + 4 ≤ length cells₁) × (at ≤ 67108864)
+      header-ready =
+          let x = all-fit in
+          let b = e .near in
+          let d = e .lent in
+          let l : length cells₁ ≡ length cells = ap length (done .0) ∙ simp length-sets in
+          (omega arith, omega arith)
+
+      pub header-fits : Fits w32 (at + 4)
+      header-fits = let x = all-fit in let z = e .near in record { fits = omega arith }
+
+      pub rows-fit : Fits w32 (n * w)
+      rows-fit = let x = all-fit in let z = e .near in let d = done .1 in record { fits = rw d (omega arith) }
+
+      pub route-fits : Fits w32 (at + 4 + n * w)
+      route-fits = let x = all-fit in let z = e .near in let d = done .1 in record { fits = rw d (omega arith) }
+
+      cells-are : {cells₂ : List ℤ} → cells₂ ≡ sets cells₁ at (way-header y w n) → cells₂ ≡ sets cells at (way-cells s y)
+      unfolding way-cells way-header
+      cells-are k = k ∙ rw (done .0, done .1, g, f) (sets-before cells at (at + 4) (way-header y (plan-width (plan-of s y)) (length (way-rows s y))) (gather row-cells (way-rows s y)) (omega arith))
+
+      pub route-written : {cells₂ : List ℤ} → cells₂ ≡ sets cells₁ at (way-header y w n) → Turns (record { memory = m; own = own; granted = gs; profile = ps; forms = fs }) y write at room cells cells₂ (at + 4 + n * w)
+      route-written {cells₂} k =
+          record {
+            counted = λ b. absurd (true≢false (sym (not-false write a) ∙ b));
+            written = λ b. (cells-are k, let d = done .1 in rw (long, d) (omega arith));
+          }

@@ -1,0 +1,70 @@
+use borrow.Author.Needs.{needs}
+use native.Mathlib.Omega.{arith}
+use Rattle.ask.proofs.Routes.{rows-ready, after-ready, route-counted, header-ready, header-fits, rows-fit, route-fits, route-written}
+use Rattle.ask.proofs.enter.Statement.{statement}
+use Rattle.ask.proofs.enter.Tie as tie
+
+plan-requires : tie.Need-plan-requires
+plan-requires c κs = search needs
+
+left-requires : tie.Need-left-requires
+left-requires c κs = search needs
+
+right-requires : tie.Need-right-requires
+right-requires c κs = search needs
+
+width-requires : tie.Need-width-requires
+width-requires c κs = search needs
+
+add-result : tie.Need-add-result
+add-result c = search needs
+
+rows-requires : tie.Need-rows-requires
+rows-requires c κs = rows-ready _ _ _ _ _ _ _ _ _ (c .before .before .before .before .before .before .before .before .before .before .args .cells .now) (c .before .before .before .before .before .before .before .before .before .before .pre) (c .before .before .before .before .plan .ensures) (c .before .before .before .left .ensures) (c .before .before .right .ensures)
+
+after-requires : tie.Need-after-requires
+after-requires c κs = after-ready _ _ _ _ _ _ _ _ _ _ (c .before .before .before .before .before .before .before .before .before .before .before .before .before .pre) (c .before .before .before .before .before .before .before .plan .ensures) (c .before .before .before .before .width .ensures) (c .before .before .rows .ensures)
+
+same-length : tie.Need-same-length
+same-length c = search needs
+
+returns : tie.Need-returns
+returns c = route-counted _ _ _ _ _ _ _ _ _ _ (c .before .before .before .before .before .before .before .before .before .before .before .before .before .before .pre) (c .before .before .before .before .before .before .before .before .plan .ensures) (c .before .before .before .before .before .width .ensures) (c .before .before .before .rows .ensures) (c .before .if1 .taken) (c .after .ensures)
+
+put-header-requires : tie.Need-put-header-requires
+put-header-requires c κs = header-ready _ _ _ _ _ _ _ _ _ _ (c .before .before .before .before .before .before .before .before .before .before .before .before .before .before .pre) (c .before .before .before .before .before .before .before .before .plan .ensures) (c .before .before .before .before .before .width .ensures) (c .before .before .before .rows .ensures) (c .before .if1 .left)
+
+add-result-2 : tie.Need-add-result-2
+add-result-2 c = header-fits _ _ _ _ _ _ _ _ _ _ (c .before .before .before .before .before .before .before .before .before .before .before .before .before .before .before .before .pre) (c .before .before .before .before .before .before .before .before .before .before .plan .ensures) (c .before .before .before .before .before .before .before .width .ensures) (c .before .before .before .before .before .rows .ensures) (c .before .before .before .if1 .left)
+
+mul-result : tie.Need-mul-result
+mul-result c = rows-fit _ _ _ _ _ _ _ _ _ _ (c .before .before .before .before .before .before .before .before .before .before .before .before .before .before .before .before .pre) (c .before .before .before .before .before .before .before .before .before .before .plan .ensures) (c .before .before .before .before .before .before .before .width .ensures) (c .before .before .before .before .before .rows .ensures) (c .before .before .before .if1 .left)
+
+add-result-3 : tie.Need-add-result-3
+add-result-3 c = route-fits _ _ _ _ _ _ _ _ _ _ (c .before .before .before .before .before .before .before .before .before .before .before .before .before .before .before .before .pre) (c .before .before .before .before .before .before .before .before .before .before .plan .ensures) (c .before .before .before .before .before .before .before .width .ensures) (c .before .before .before .before .before .rows .ensures) (c .before .before .before .if1 .left)
+
+same-length-2 : tie.Need-same-length-2
+same-length-2 c = search needs
+
+returns-2 : tie.Need-returns-2
+returns-2 c = route-written _ _ _ _ _ _ _ _ _ _ (c .before .before .before .before .before .before .before .before .before .before .before .before .before .before .before .before .pre) (c .before .before .before .before .before .before .before .before .before .before .plan .ensures) (c .before .before .before .before .before .before .before .width .ensures) (c .before .before .before .before .before .rows .ensures) (c .before .before .before .if1 .left) (c .before .put-header .ensures)
+
+pub enter-spec : {M : Type 1} → statement M
+enter-spec =
+    tie.close
+    (tie.spec
+    plan-requires
+    left-requires
+    right-requires
+    width-requires
+    add-result
+    rows-requires
+    after-requires
+    same-length
+    returns
+    put-header-requires
+    add-result-2
+    mul-result
+    add-result-3
+    same-length-2
+    returns-2)

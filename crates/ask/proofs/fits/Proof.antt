@@ -1,0 +1,94 @@
+use mathlib.Core.Path.{_≡_, refl, sym, ap, _∙_}
+use Prim.Native.Nat.{suc, _≤_, _-_}
+use native.Mathlib.Omega.{arith}
+use lib.ListN.{length}
+use borrow.Author.Needs.{needs}
+use Rattle.query.specs.Tables.{query-forms}
+use Rattle.pairs.specs.Given.{Counted}
+use Rattle.ask.proofs.Loops.{first-cells, count-ready, count-more, count-sure, count-start, count-past, count-end, sum-fits, product-fits}
+use Rattle.ask.proofs.fits.Statement.{statement}
+use Rattle.ask.proofs.fits.Tie as tie
+
+abbrev Inv-loop : tie.InvT-loop
+Inv-loop o r l names times values granted profile most room cells₀ t n at₀ i₀ cells at i =
+    (i ≤ r .count) × (cells ≡ cells₀) × Counted (suc (length (first-cells (record { memory = record { ledger = l; names = names; times = times; values = values }; own = t .words; granted = granted; profile = profile; forms = query-forms (t .query) }) o (t .needs) i))) room at
+
+abbrev μ-loop : tie.MeasureT-loop
+μ-loop o r l names times values granted profile most room cells₀ t n at₀ i₀ cells at i = r .count - i
+
+loop-holds : tie.Need-loop-holds Inv-loop μ-loop
+loop-holds c = (omega arith, refl, count-start _ _ _ (c .before .before .before .before .before .pre))
+
+same-length : tie.Need-same-length Inv-loop μ-loop
+same-length c = ap length (c .before .before .before .loop .inv .1)
+
+returns : tie.Need-returns Inv-loop μ-loop
+returns c = (c .before .before .before .loop .inv .1, count-past _ _ _ (c .before .before .before .before .before .before .before .before .before .pre) (c .before .before .before .loop .i) (c .before .before .before .loop .inv .2) (c .if2 .taken))
+
+sub-if3 : tie.Need-sub-if3 Inv-loop μ-loop
+sub-if3 c = search needs
+
+add-if3 : tie.Need-add-if3 Inv-loop μ-loop
+add-if3 c = search needs
+
+mul-if3 : tie.Need-mul-if3 Inv-loop μ-loop
+mul-if3 c = product-fits _ _ _ (c .before .before .before .before .before .before .before .before .before .before .pre) (c .before .before .before .before .loop .i)
+
+add-if3-2 : tie.Need-add-if3-2 Inv-loop μ-loop
+add-if3-2 c = sum-fits _ _ _ (c .before .before .before .before .before .before .before .before .before .before .pre) (c .before .before .before .before .loop .i) (c .before .if2 .left)
+
+same-length-2 : tie.Need-same-length-2 Inv-loop μ-loop
+same-length-2 c = ap length (c .before .before .before .before .before .loop .inv .1)
+
+returns-2 : tie.Need-returns-2 Inv-loop μ-loop
+returns-2 c = (c .before .before .before .before .before .loop .inv .1, count-sure _ _ _ (c .before .before .before .before .before .before .before .before .before .before .before .pre) (c .before .before .before .if1 .taken) refl refl (c .before .before .before .before .before .loop .inv .2) (c .before .before .if2 .left) (c .if3 .taken))
+
+route-requires : tie.Need-route-requires Inv-loop μ-loop
+route-requires c κs = search needs
+
+of-requires : tie.Need-of-requires Inv-loop μ-loop
+of-requires c κs = search needs
+
+enter-requires : tie.Need-enter-requires Inv-loop μ-loop
+enter-requires c κs = count-ready _ _ _ (c .before .before .before .before .before .before .before .before .before .before .before .before .before .before .before .before .before .before .pre) (c .before .before .before .before .before .before .before .before .before .before .if1 .taken) (c .before .before .before .before .before .before .route .ensures) (c .before .before .before .before .before .of .ensures) (c .before .before .before .before .before .before .before .before .before .before .before .before .loop .inv .2) (c .before .before .before .before .before .before .before .before .before .if2 .left) (c .before .before .before .before .before .before .before .before .before .before .before .before .loop .cells) (ap length (c .before .before .before .before .before .before .before .before .before .before .before .before .loop .inv .1))
+
+add-i : tie.Need-add-i Inv-loop μ-loop
+add-i c = search needs
+
+loop-less : tie.Need-loop-less Inv-loop μ-loop
+loop-less c = omega arith
+
+loop-again : tie.Need-loop-again Inv-loop μ-loop
+loop-again c =
+    let x = count-more _ _ _ (c .before .before .before .before .before .before .before .before .before .before .before .before .before .before .before .before .before .before .before .before .pre) (c .before .before .before .before .before .before .before .before .before .before .before .before .if1 .taken) (c .before .before .before .before .before .before .before .before .route .ensures) (c .before .before .before .before .before .before .before .of .ensures) (c .before .before .before .before .before .before .before .before .before .before .before .before .before .before .loop .inv .2) (c .before .before .before .before .before .before .before .before .before .before .before .if2 .left) (c .before .enter .ensures) in
+    (omega arith, x .0 ∙ c .before .before .before .before .before .before .before .before .before .before .before .before .before .before .loop .inv .1, x .1)
+
+same-length-3 : tie.Need-same-length-3 Inv-loop μ-loop
+same-length-3 c = ap length (c .before .before .loop .inv .1)
+
+returns-3 : tie.Need-returns-3 Inv-loop μ-loop
+returns-3 c = (c .before .before .loop .inv .1, count-end _ _ _ (c .before .before .before .before .before .before .before .before .pre) (c .before .before .loop .i) (c .if1 .left) (c .before .before .loop .inv .0) (c .before .before .loop .inv .2))
+
+pub fits-spec : {M : Type 1} → statement M
+fits-spec =
+    tie.close
+    (tie.spec
+    Inv-loop
+    μ-loop
+    loop-holds
+    same-length
+    returns
+    sub-if3
+    add-if3
+    mul-if3
+    add-if3-2
+    same-length-2
+    returns-2
+    route-requires
+    of-requires
+    enter-requires
+    add-i
+    loop-less
+    loop-again
+    same-length-3
+    returns-3)

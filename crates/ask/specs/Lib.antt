@@ -1,0 +1,5 @@
+pub mod Replies
+pub mod Texts
+pub mod Rows
+pub mod Cells
+pub mod Asking
