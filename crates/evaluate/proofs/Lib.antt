@@ -3,3 +3,4 @@ pub mod Ends
 pub mod Offsets
 pub mod Meant
 pub mod Suited
+pub mod Short
