@@ -7,7 +7,7 @@ use native.Mathlib.Omega.{arith}
 use lib.Dec.{T, ltb, ltb→lt, lt→ltb}
 use lib.ListN.{length, length-append}
 use Rattle.lists.specs.Lists.{every, some?, select, nth, gather, same-list, position}
-use Rattle.lists.proofs.Laws.{parts, and-both, or-l, or-r, or-cases, T-true, All, all-nil, all-cons, all-head, all-tail, all-weaken, all-left, all-right, all-any, all-gather, every-all, every-map, every-append-l, every-weaken, nth-before, some-before, map-same, position-before, gather-same}
+use Rattle.lists.proofs.Laws.{parts, and-both, or-l, or-r, or-cases, T-true, All, all-nil, all-cons, all-head, all-tail, all-weaken, all-left, all-right, every-all, every-map, every-append-l, every-weaken, nth-before, some-before, map-same, position-before, gather-same}
 use Rattle.syntax.specs.Grammar as G
 use Rattle.syntax.specs.Grammar.{Bytes, Cond, Ref, Operand, Test, Show, GrantLine}
 use Rattle.syntax.specs.Limits.{natural}
@@ -21,7 +21,7 @@ use Rattle.calls.specs.Tables.{declared, ref-declared, show-placed}
 use Rattle.calls.proofs.Accepted.{grant-accepted, grant-passes}
 use Rattle.calls.proofs.Valid.{names-add}
 use Rattle.calls.proofs.Stored.{below}
-use Rattle.claims.proofs.Known.{Known, columns-known, all-within, unknown}
+use Rattle.claims.proofs.Known.{Known, streams-known, all-within, unknown}
 use Rattle.claims.proofs.Fitting.{Written}
 
 -- ---- streams and columns
@@ -171,7 +171,7 @@ module _ (d : Schema) (s : Stream) where
 
   shown-known : (g : GrantLine) → T (show-placed d g) → All (Known d) (map (column-of d) (show-refs (g .show)))
   unfolding show-placed
-  shown-known g h = all-within (map (column-of d) (show-refs (g .show))) (all-gather {P = λ i. Unit {0}} (λ i u. columns-known d i) (all-any (map (stream-number d) (g .of)))) h
+  shown-known g h = all-within (map (column-of d) (show-refs (g .show))) (streams-known d (map (stream-number d) (g .of))) h
 
   show-placed-later : (g : GrantLine) (names : T (every (declared d) (g .of))) (refs : T (every (ref-declared d) (show-refs (g .show) ++ gather cond-refs (g .when)))) → T (show-placed d g) → T (show-placed later g)
   unfolding show-placed

@@ -5,7 +5,7 @@ use mathlib.Core.Bool.{Bool, true, false, _&&_, _||_, cond}
 use mathlib.Core.Option.{Option, none, some}
 use Prim.Native.Nat.{ℕ, zero, suc, _+_, _*_, _≤_}
 use native.Mathlib.Omega.{arith}
-use lib.IntN.{ℤ, pos, negsuc}
+use lib.IntN.{pos}
 use lib.ListN.{length, length-map}
 use lib.Dec.{T, leb→le}
 use Rattle.refusal.specs.Checks.{passes}
@@ -14,7 +14,7 @@ use Rattle.lists.proofs.Laws.{parts, All, all-nil, all-cons, all-head, all-tail
 use Rattle.lists.proofs.Counting.{count-length}
 use Rattle.syntax.specs.Grammar as G
 use Rattle.syntax.specs.Grammar.{Bytes, Op, Cond, test, all, any, neg, Conds, last, more, Form, Ref, Operand, Test, GrantLine, Entry, ref?, operand?, test?, cond?, grant?, fn-word, put-cond, line-text, query-text}
-use Rattle.syntax.specs.Limits.{natural, is-value, is-time, short, top, max-columns, max-name, max-granted, max-line, max-printed}
+use Rattle.syntax.specs.Limits.{is-value, short, top, max-columns, max-name, max-granted, max-line, max-printed}
 use Rattle.syntax.proofs.Lengths.{name-filled}
 use Rattle.syntax.proofs.Exact.{int-length, ref-length, operand-length, test-length, cond-length, conds-length, items-length, equality-length, form-length, part-length, when-length, grant-length, body-length, line-length, put-cond-length, query-text-length, line-text-length, value-length, time-length, op-short}
 use Rattle.model.specs.Conditions.{tests, tests-of, conds-of, map-cond, map-conds}
@@ -24,12 +24,11 @@ use Rattle.model.specs.Checks.{grant-placed}
 use Rattle.model.specs.Routes.{Route, routes}
 use Rattle.model.specs.Rewriting.{rewritten}
 use Rattle.model.proofs.Weights.{Costs, cols-cost, cols-append, cols-select, under-cost, weight, weighed}
-use Rattle.calls.specs.Names.{columns-named, stream-number, col-of, is-self, term-of, operand-of, compare-of, resolve, map-option, resolve-grant, ref-of, left-ref, right-operand, test-of, form-of, operand-refs, cond-refs, show-refs}
-use Rattle.calls.specs.Bounds.{is-limit, grant-bounded}
-use Rattle.calls.specs.Validity.{valid-name, free-name, valid-stream, valid-schema, valid-caller}
+use Rattle.calls.specs.Names.{columns-named, stream-number, col-of, is-self, term-of, operand-of, compare-of, resolve, resolve-grant, ref-of, left-ref, right-operand, test-of, form-of, operand-refs, cond-refs, show-refs}
+use Rattle.calls.specs.Validity.{valid-name, free-name, valid-stream, valid-schema, valid-limit, valid-grant, valid-caller}
 use Rattle.calls.specs.Tables.{declared, ref-declared, grant-checks, query-checks}
 use Rattle.calls.specs.Asking.{route-line}
-use Rattle.calls.proofs.Stored.{cond-tests}
+use Rattle.calls.proofs.Stored.{cond-tests, grant-stored}
 use Rattle.calls.proofs.Accepted.{query-accepted, grant-accepted}
 use Rattle.claims.proofs.Known.{Known, known-col, known-figure, columns-known, filled-stream, placed-allowed}
 use Rattle.claims.proofs.Named.{name-free, column-free, stream-valid}
@@ -54,7 +53,7 @@ module _ {A B C : Type 0} where
   mutual
     unfolding map-cond
 
-    map-map : (f : B → C) (g : A → B) (c : Cond A) → map-cond f (map-cond g c) ≡ map-cond (λ t. f (g t)) c
+    pub map-map : (f : B → C) (g : A → B) (c : Cond A) → map-cond f (map-cond g c) ≡ map-cond (λ t. f (g t)) c
     map-map f g (test t) = refl
     map-map f g (all cs) = ap all (map-maps f g cs)
     map-map f g (any cs) = ap any (map-maps f g cs)
@@ -74,7 +73,8 @@ entry-is-value (e ∷ es) n h = go (same-list (e .name) n) (entry-is-value es n 
     go false r = r
 
 module _ (d : Schema) (who : Caller) (valid : T (valid-caller who)) where
-  self-short : (n : Bytes) → int-length (entry-value (who .profile) n) ≤ 11
+  -- a profile value is at most as long as a number
+  pub self-short : (n : Bytes) → int-length (entry-value (who .profile) n) ≤ 11
   unfolding valid-caller
   self-short n = value-length (entry-value (who .profile) n) (entry-is-value (who .profile) n (search parts))
 
@@ -165,7 +165,7 @@ module _ (d : Schema) where
     unfolding free-name valid-name short
     free-short n h = leb→le (length n) max-name (search parts)
 
-    known-short : {c : Col} → Known d c → ref-length (ref-of d c) ≤ 17
+    pub known-short : {c : Col} → Known d c → ref-length (ref-of d c) ≤ 17
     unfolding ref-length ref-of
     known-short (known-col {s} {c} l m) = let h = free-short _ (name-free d valid s l) in let k = free-short _ (column-free d valid s c l m) in omega arith
     known-short known-figure = omega arith
@@ -192,8 +192,13 @@ module _ (d : Schema) where
 
   -- ---- the conditions of a view
 
-  abbrev texts : List (Cond Compare) → ℕ
+  -- their bytes, each after one space
+  abbrev pub texts : List (Cond Compare) → ℕ
   texts cs = items-length (λ c. cond-length (map-cond (test-of d) c)) cs
+
+  -- those of a grant with the caller's values put in
+  abbrev pub filled-texts : Caller → Grant → ℕ
+  filled-texts who g = texts (map (fill (who .profile)) (g .when))
 
   conds-text : (c : Cond Compare) (cs : List (Cond Compare)) → conds-length (map-conds (test-of d) (conds-of c cs)) ≡ texts (c ∷ cs)
   unfolding conds-of map-cond cond-length items-length
@@ -210,11 +215,10 @@ module _ (d : Schema) where
   texts-append [] es = omega arith
   texts-append (c ∷ cs) es = let h = texts-append cs es in omega arith
 
-  limit-text : (o : Op) (n : Option ℤ) → T (is-limit n) → texts (limit o (map-option natural n)) ≤ 21
-  unfolding limit map-option natural is-limit is-time items-length map-cond cond-length test-length test-of left-ref right-operand ref-length operand-length
+  limit-text : (o : Op) (n : Option ℕ) → T (valid-limit n) → texts (limit o n) ≤ 21
+  unfolding limit valid-limit items-length map-cond cond-length test-length test-of left-ref right-operand ref-length operand-length
   limit-text o none h = omega arith
-  limit-text o (some (pos n)) h = let k = op-short o in let l = time-length n (leb→le n top h) in omega arith
-  limit-text o (some (negsuc n)) h = absurd h
+  limit-text o (some n) h = let k = op-short o in let l = time-length n (leb→le n top h) in omega arith
 
   module _ (who : Caller) (caller : T (valid-caller who)) where
     when-text : (cs : List (Cond Test)) → All (λ c. T (cond? c)) cs → All (λ r. T (ref-declared d r)) (gather cond-refs cs)
@@ -226,6 +230,45 @@ module _ (d : Schema) where
         let k = when-text cs (all-tail f) (all-right (cond-refs c) _ h) in
         omega arith
 
+-- ---- what a view adds to a line
+
+module _ (d : Schema) (valid : T (valid-schema d)) (who : Caller) where
+  limits-text : (g : Grant) → T (valid-limit (g .from)) → T (valid-limit (g .to)) → texts d (limits who g) ≤ 42 + filled-texts d who g
+  unfolding limits
+  limits-text g h k =
+      let from = limit-text d G.ge (g .from) h in
+      let to = limit-text d G.le (g .to) k in
+      let e₁ = texts-append d (map (fill (who .profile)) (g .when)) (limit G.ge (g .from) ++ limit G.le (g .to)) in
+      let e₂ = texts-append d (limit G.ge (g .from)) (limit G.le (g .to)) in
+      omega arith
+
+  of-few : (g : Grant) → T (grant-placed d g) → length (g .of) ≤ max-granted
+  unfolding grant-placed
+  of-few g h = leb→le (length (g .of)) max-granted (search parts)
+
+  -- beside its conditions a view takes at most 278 bytes
+  view-text : (g : Grant) → T (valid-grant d g) → text-costs d .keep-cost + cols-cost (text-costs d) (shown-of d g) + under-cost (text-costs d) (limits who g) ≤ 278 + filled-texts d who g
+  unfolding text-costs valid-grant
+  view-text g v =
+      let s = shown-cost d valid g (of-few g (search parts)) in
+      let l = limits-text g (search parts) (search parts) in
+      let u = under-text d (limits who g) in
+      omega arith
+
+  -- over valid grants whose conditions take at most n bytes, a route's line is longer than its query by two views at most
+  pub line-within : (n : ℕ) (gs : List Grant) → All (λ g. T (valid-grant d g) × (filled-texts d who g ≤ n)) gs → (f : Form) → length (query-text f) ≤ max-line → T (passes (query-checks d f))
+      → All (λ (r : Route). length (route-line d who r) ≤ max-line + 2 * (278 + n)) (routes d who gs (resolve d f))
+  unfolding route-line
+  line-within n gs hs f l h =
+      let ok = query-accepted d f h in
+      let e = resolved-named d f (ok .names) (ok .places) (ok .sizes) in
+      let t = query-text-length f in
+      let m = weight-text d (resolve d f) ∙ ap form-length e in
+      all-weaken (λ r w. let u = weight-text d (rewritten d who r) in let v = query-text-length (form-of d (rewritten d who r)) in omega arith)
+      (weighed d who gs (text-costs d) 108 (278 + n) (stream-cost d valid) (all-weaken (λ g (v, k) b. let w = view-text g v in omega arith) hs) (unfold text-costs in omega arith) (resolve d f) (placed-allowed d (resolve d f) (ok .places)))
+
+-- ---- grants that were written
+
 -- a grant that an accepted line made
 pub record Written (d : Schema) (g : Grant) : Type 0 where
   pub text : GrantLine
@@ -234,53 +277,33 @@ pub record Written (d : Schema) (g : Grant) : Type 0 where
   pub passed : T (passes (grant-checks d [] text))
   pub made : g ≡ resolve-grant d text
 
+when-in : (cs : List (Cond Test)) → items-length cond-length cs ≤ when-length cs
+unfolding when-length items-length part-length
+when-in [] = omega arith
+when-in (c ∷ cs) = omega arith
+
+when-fits : (g : GrantLine) → length (line-text G.grant g) ≤ max-line → items-length cond-length (g .when) ≤ max-line
+unfolding line-length body-length grant-length
+when-fits g l = let h = line-text-length G.grant g in let k = when-in (g .when) in omega arith
+
 module _ (d : Schema) (valid : T (valid-schema d)) (who : Caller) (caller : T (valid-caller who)) where
-  when-in : (cs : List (Cond Test)) → items-length cond-length cs ≤ when-length cs
-  unfolding when-length items-length part-length
-  when-in [] = omega arith
-  when-in (c ∷ cs) = omega arith
-
-  when-fits : (g : GrantLine) → length (line-text G.grant g) ≤ max-line → items-length cond-length (g .when) ≤ max-line
-  unfolding line-length body-length grant-length
-  when-fits g l = let h = line-text-length G.grant g in let k = when-in (g .when) in omega arith
-
-  limits-text : (g : GrantLine) → T (grant? g) → T (grant-bounded g) → T (every (ref-declared d) (show-refs (g .show) ++ gather cond-refs (g .when))) → length (line-text G.grant g) ≤ max-line
-      → texts d (limits who (resolve-grant d g)) ≤ 1066
-  unfolding limits resolve-grant grant? grant-bounded
-  limits-text g f b n l =
+  line-filled : (g : GrantLine) → T (grant? g) → T (every (ref-declared d) (show-refs (g .show) ++ gather cond-refs (g .when))) → length (line-text G.grant g) ≤ max-line
+      → filled-texts d who (resolve-grant d g) ≤ 2 * max-line
+  unfolding resolve-grant grant?
+  line-filled g f n l =
       let refs = all-right (show-refs (g .show)) _ (every-all (ref-declared d) _ n) in
       let w = when-text d who caller (g .when) (every-all cond? (g .when) (search parts)) refs in
       let i = when-fits g l in
-      let h = limit-text d G.ge (g .from) (search parts) in
-      let k = limit-text d G.le (g .to) (search parts) in
-      let e₁ = texts-append d (map (fill (who .profile)) (map (map-cond (compare-of d)) (g .when))) (limit G.ge (map-option natural (g .from)) ++ limit G.le (map-option natural (g .to))) in
-      let e₂ = texts-append d (limit G.ge (map-option natural (g .from))) (limit G.le (map-option natural (g .to))) in
       omega arith
 
-  of-few : (g : Grant) → T (grant-placed d g) → length (g .of) ≤ max-granted
-  unfolding grant-placed
-  of-few g h = leb→le (length (g .of)) max-granted (search parts)
-
-  -- what a view adds to a line
-  view-text : (g : Grant) → Written d g → text-costs d .keep-cost + cols-cost (text-costs d) (shown-of d g) + under-cost (text-costs d) (limits who g) ≤ 1302
-  unfolding text-costs
-  view-text g w =
+  written-filled : (g : Grant) → Written d g → T (valid-grant d g) × (filled-texts d who g ≤ 2 * max-line)
+  written-filled g w =
       let t = w .text in
-      let ok = grant-accepted d [] t (w .passed) in
-      let s = shown-cost d valid (resolve-grant d t) (of-few (resolve-grant d t) (ok .places)) in
-      let l = limits-text t (w .formed) (ok .bounded) (ok .refs) (w .fits) in
-      let u = under-text d (limits who (resolve-grant d t)) in
-      rw (w .made) (omega arith)
+      rw (w .made) (grant-stored d [] t valid (w .formed) (w .passed), line-filled t (w .formed) (grant-accepted d [] t (w .passed) .refs) (w .fits))
 
 -- a route's line fits the bytes lent for it
 pub line-fits : (d : Schema) → T (valid-schema d) → (who : Caller) → T (valid-caller who) → (gs : List Grant) → All (Written d) gs
     → (f : Form) → length (query-text f) ≤ max-line → T (passes (query-checks d f))
     → All (λ (r : Route). length (route-line d who r) ≤ max-printed) (routes d who gs (resolve d f))
-unfolding route-line
 line-fits d valid who caller gs ws f l h =
-    let ok = query-accepted d f h in
-    let e = resolved-named d f (ok .names) (ok .places) (ok .sizes) in
-    let t = query-text-length f in
-    let m = weight-text d (resolve d f) ∙ ap form-length e in
-    all-weaken (λ r w. let u = weight-text d (rewritten d who r) in let v = query-text-length (form-of d (rewritten d who r)) in omega arith)
-    (weighed d who gs (text-costs d) 108 1302 (stream-cost d valid) (all-weaken (λ g w b. view-text d valid who caller g w) ws) (unfold text-costs in omega arith) (resolve d f) (placed-allowed d (resolve d f) (ok .places)))
+    all-weaken (λ r k. omega arith) (line-within d valid who (2 * max-line) gs (all-weaken (written-filled d valid who caller) ws) f l h)

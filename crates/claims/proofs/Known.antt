@@ -8,7 +8,7 @@ use lib.IntN.{ℤ}
 use lib.ListN.{length}
 use lib.Dec.{T}
 use Rattle.lists.specs.Lists.{every, some?, nth, gather, count-from}
-use Rattle.lists.proofs.Laws.{or-cases, parts, All, all-nil, all-cons, all-head, all-append, all-weaken, all-map, all-left, all-right}
+use Rattle.lists.proofs.Laws.{or-cases, parts, All, all-nil, all-cons, all-head, all-append, all-weaken, all-map, all-gather, all-any, all-left, all-right}
 use Rattle.syntax.specs.Grammar as G
 use Rattle.syntax.specs.Grammar.{Cond}
 use Rattle.model.specs.Conditions.{tests}
@@ -62,6 +62,9 @@ module _ (d : Schema) where
   pub columns-known : (s : ℕ) → All Known (columns-of d s)
   unfolding columns-of columns-named
   columns-known s = all-map (col s) (λ c h. known-col (filled-stream d s (omega arith)) (omega arith)) (counted 0 (length (nth no-stream d s .columns)))
+
+  pub streams-known : (ss : List ℕ) → All Known (gather (columns-of d) ss)
+  streams-known ss = all-gather {P = λ s. Unit {0}} (λ s u. columns-known s) (all-any ss)
 
   header-known : (q : Query ℕ) → T (allowed (columns-of d) q) → All Known (header (columns-of d) q)
   unfolding allowed header

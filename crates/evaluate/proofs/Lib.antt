@@ -5,3 +5,4 @@ pub mod Meant
 pub mod Suited
 pub mod Spans
 pub mod Evaluated
+pub mod Short

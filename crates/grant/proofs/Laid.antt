@@ -17,6 +17,7 @@ use Rattle.nodes.specs.declared.Node.{Node}
 use Rattle.nodes.specs.Nodes.{value-at, node-of, no-node, node-at, node-words, node-compare, link, some-conds, first-cond, headed, cond-in, list-in, conditions-of, comparing, reaches, linked, terms-sound, node-sound, all-sound, shallow-conds, nodes-sound}
 use Rattle.nodes.proofs.Puts.{words-some}
 use Rattle.nodes.proofs.Reaching.{link-falls, list-step, list-stop, reaches-step, reaches-stop, reaches-fuel, cond-of, list-before, list-off, list-last, cond-on}
+use Rattle.nodes.proofs.Conditions.{headed-test}
 use Rattle.grant.specs.Grants.{linked-from, laid-out}
 use Rattle.grant.proofs.Compared.{compare-fit, terms-are, every-both-lists, cond-fit, conditions-are}
 
@@ -52,10 +53,8 @@ some-tests c [] = sym (append-nil (tests c))
 some-tests c (d ∷ ds) = ap (λ l. tests c ++ l) (some-tests d ds)
 
 pub headed-compare : (n : Node) (cs : List (Cond Compare)) → T (comparing n) → tests (headed n cs) ≡ node-compare n ∷ []
-unfolding comparing headed tests
-headed-compare n cs c =
-    let l = leb→le (n .head) 6 (search parts) in
-    rw (ne-eqb (n .head) 7 (λ e. omega arith), ne-eqb (n .head) 8 (λ e. omega arith), ne-eqb (n .head) 9 (λ e. omega arith))
+unfolding tests
+headed-compare n cs c = ap tests (headed-test n cs c)
 
 pub headed-list : (n : Node) (cs : List (Cond Compare)) → 0 < length cs → 7 ≤ n .head → n .head < 9 → tests (headed n cs) ≡ gather tests cs
 unfolding headed tests some-conds

@@ -11,7 +11,7 @@ use lib.ListN.{length}
 use borrow.Author.Tests.{eq-eqb, ne-eqb, lt-ltb, le-leb, lt-leb}
 use Rattle.lists.specs.Lists.{every, gather}
 use Rattle.lists.proofs.Laws.{and-l, and-r, and-both, or-cases, parts, every-append, every-weaken, T-true, every-gathered}
-use Rattle.syntax.specs.Grammar.{Cond}
+use Rattle.syntax.specs.Grammar.{Cond, test}
 use Rattle.model.specs.Conditions.{tests, tests-of, conds-of}
 use Rattle.model.specs.Queries.{col, Term, column, Compare}
 use Rattle.model.specs.Checks.{term-cols, cond-cols, when-left, when-right, grantable}
@@ -24,7 +24,7 @@ use Rattle.nodes.proofs.Words.{words-plain}
 use Rattle.nodes.proofs.Puts.{words-some}
 use Rattle.nodes.proofs.Reaching.{link-falls, list-step, list-stop, reaches-step, reaches-stop}
 use Rattle.nodes.proofs.Tests.{all-step, all-before}
-use Rattle.nodes.proofs.Stored.{Passes}
+use Rattle.nodes.proofs.Stored.{Passes, low-head}
 
 -- ---- terms
 
@@ -143,11 +143,13 @@ unfolding every cond-sound first-cond
 first-sound mask [] l t = absurd (omega arith)
 first-sound mask (c ∷ cs) l t = and-l (every (test-sound mask) (tests c)) (every (cond-sound mask) cs) t
 
+pub headed-test : (n : Node) (cs : List (Cond Compare)) → T (comparing n) → headed n cs ≡ test (node-compare n)
+unfolding comparing
+headed-test n cs c = low-head n cs (leb→le (n .head) 6 (search parts))
+
 head-test : (mask : ℕ) (n : Node) (cs : List (Cond Compare)) → T (comparing n) → T (terms-sound mask n) → T (cond-sound mask (headed n cs))
-unfolding comparing headed cond-sound tests every
-head-test mask n cs c t =
-    let l = leb→le (n .head) 6 (search parts) in
-    rw (ne-eqb (n .head) 7 (λ e. omega arith), ne-eqb (n .head) 8 (λ e. omega arith), ne-eqb (n .head) 9 (λ e. omega arith)) (and-both (test-sound mask (node-compare n)) true (compare-sound mask n t) tt)
+unfolding cond-sound tests every
+head-test mask n cs c t = rw (headed-test n cs c) (and-both (test-sound mask (node-compare n)) true (compare-sound mask n t) tt)
 
 head-inner : (mask : ℕ) (n : Node) (cs : List (Cond Compare)) → 7 ≤ n .head → n .head ≤ 9 → 0 < length cs → T (every (cond-sound mask) cs) → T (cond-sound mask (headed n cs))
 unfolding headed cond-sound tests

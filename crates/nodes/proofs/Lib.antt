@@ -7,4 +7,5 @@ pub mod Sizes
 pub mod Depths
 pub mod Stored
 pub mod Conditions
+pub mod Counts
 pub mod Nesting

@@ -21,7 +21,7 @@ use Rattle.nodes.proofs.Puts.{words-some}
 use Rattle.nodes.proofs.Reaching.{link-falls, reaches-step, reaches-stop, reaches-fuel, cond-of, list-before, list-off, list-last, cond-on}
 use Rattle.nodes.proofs.Stored.{Passes}
 use Rattle.nodes.proofs.Depths.{every-snoc, depth-some, list-depth}
-use Rattle.nodes.proofs.Conditions.{Inner, by-node, before-falls, link-inner}
+use Rattle.nodes.proofs.Conditions.{Inner, headed-test, by-node, before-falls, link-inner}
 
 -- ---- how deep a head makes its condition
 
@@ -29,11 +29,9 @@ use Rattle.nodes.proofs.Conditions.{Inner, by-node, before-falls, link-
 abbrev fits : ℕ → Cond Compare → Bool
 fits d c = leb (d + cond-depth c) max-nesting
 
-headed-test : (n : Node) (cs : List (Cond Compare)) → T (comparing n) → cond-depth (headed n cs) ≡ 1
-unfolding comparing headed cond-depth
-headed-test n cs c =
-    let l = leb→le (n .head) 6 (search parts) in
-    rw (ne-eqb (n .head) 7 (λ e. omega arith), ne-eqb (n .head) 8 (λ e. omega arith), ne-eqb (n .head) 9 (λ e. omega arith))
+test-depth : (n : Node) (cs : List (Cond Compare)) → T (comparing n) → cond-depth (headed n cs) ≡ 1
+unfolding cond-depth
+test-depth n cs c = ap cond-depth (headed-test n cs c)
 
 no-test : (n : Node) → 7 ≤ n .head → T (comparing n) → ⊥
 unfolding comparing
@@ -145,7 +143,7 @@ module _ (ws : List ℕ) where
       left-test lt few =
           by-node ok ws k (omega arith) (l .passes)
           (λ c t q.
-          let e : cond-depth (cond-of ws k) ≡ 1 = ap cond-depth (cond-on ws k (omega arith)) ∙ headed-test (node-at ws k) _ c in
+          let e : cond-depth (cond-of ws k) ≡ 1 = ap cond-depth (cond-on ws k (omega arith)) ∙ test-depth (node-at ws k) _ c in
           let f : fits (length bs) (cond-of ws k) ≡ true = le-leb (length bs + cond-depth (cond-of ws k)) 6 (omega arith) in
           record {
             same = l .same ∙ split ∙ ap (λ x. (earlier && x) && outer bs) f ∙ ap (λ x. x && outer bs) (and-true earlier);

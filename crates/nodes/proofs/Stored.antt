@@ -65,9 +65,14 @@ narrow-test : (n : Node) (b : ℕ) → Fit n → b < 256 → Narrow (compared n 
 unfolding compared value-fits
 narrow-test n b f l = let h = f .high in record { head = omega arith; left = f .left; right = f .right; before = l; value = f .value }
 
-head-test : (n : Node) (b : ℕ) (cs : List (Cond Compare)) → 1 ≤ n .head → n .head ≤ 6 → headed (compared n b) cs ≡ test (node-compare n)
-unfolding headed compared node-compare
-head-test n b cs h l = rw (ne-eqb (n .head) 7 (λ e. omega arith), ne-eqb (n .head) 8 (λ e. omega arith), ne-eqb (n .head) 9 (λ e. omega arith))
+-- a low head is a comparison, whatever stands before it
+pub low-head : (n : Node) (cs : List (Cond Compare)) → n .head ≤ 6 → headed n cs ≡ test (node-compare n)
+unfolding headed
+low-head n cs l = rw (ne-eqb (n .head) 7 (λ e. omega arith), ne-eqb (n .head) 8 (λ e. omega arith), ne-eqb (n .head) 9 (λ e. omega arith))
+
+head-test : (n : Node) (b : ℕ) (cs : List (Cond Compare)) → n .head ≤ 6 → headed (compared n b) cs ≡ test (node-compare n)
+unfolding compared node-compare
+head-test n b cs l = low-head (compared n b) cs l
 
 module _ (n : Node) (b : ℕ) (ws : List ℕ) (h : T (fits n)) (lb : b + node-words n ≤ 255) (room : b + node-words n ≤ length ws) where
   abbrev there : List ℕ
@@ -85,7 +90,7 @@ module _ (n : Node) (b : ℕ) (ws : List ℕ) (h : T (fits n)) (lb : b + node-wo
   test-stands zero l = absurd (omega (arith, words-some n))
   test-stands (suc f) l =
       let g = fit-node n h in
-      rw test-node (head-test n b (list-in f there (link there end) (end - 1) []) (g .low) (g .high))
+      rw test-node (head-test n b (list-in f there (link there end) (end - 1) []) (g .high))
 
   test-links : link there end ≡ b
   unfolding link compared
