@@ -9,6 +9,12 @@ pub mod Running
 pub mod Sizes
 pub mod Evaluable
 pub mod Accepted
-pub mod Answers
+pub mod Cells
 pub mod Replied
 pub mod Called
+pub mod Outer
+pub mod Filling
+pub mod Times
+pub mod Planned
+pub mod Alone
+pub mod Joined

@@ -57,7 +57,7 @@ use Rattle.ask.specs.Cells.{Setting, run-reply, run-checks, run-cells, R
 use Rattle.ask.specs.Asking.{Lending, lent-sound, asked-table, asked}
 use Rattle.ask.proofs.Accepted.{checked, asks-is, resolved-is}
 use Rattle.ask.proofs.Evaluable.{routes-ready}
-use Rattle.ask.proofs.Answers.{answer-is, checks-are}
+use Rattle.ask.proofs.Cells.{answer-is, checks-are}
 
 -- ---- tables of checks, one after the other
 

@@ -1,5 +1,6 @@
 pub mod Replies
 pub mod Texts
 pub mod Rows
+pub mod Steps
 pub mod Cells
 pub mod Asking
