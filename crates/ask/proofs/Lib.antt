@@ -18,3 +18,4 @@ pub mod Times
 pub mod Planned
 pub mod Alone
 pub mod Joined
+pub mod Lines

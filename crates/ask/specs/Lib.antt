@@ -3,4 +3,5 @@ pub mod Texts
 pub mod Rows
 pub mod Steps
 pub mod Cells
+pub mod Lines
 pub mod Asking
