@@ -21,7 +21,8 @@ use Rattle.ask.specs.declared.Told.{Told}
 use Rattle.ask.specs.Replies.{refused-with, Replies}
 use Rattle.ask.specs.Cells.{run-reply, Ready}
 use Rattle.ask.specs.Asking.{Prepared, Answers}
-use Rattle.ask.proofs.Replied.{with-lent, text-refused, text-ready, text-answered}
+use Rattle.ask.proofs.Passed.{with-lent}
+use Rattle.ask.proofs.Replied.{text-refused, text-ready, text-answered}
 
 -- ---- what may be lent
 

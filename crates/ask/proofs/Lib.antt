@@ -10,6 +10,7 @@ pub mod Sizes
 pub mod Evaluable
 pub mod Accepted
 pub mod Cells
+pub mod Passed
 pub mod Replied
 pub mod Called
 pub mod Outer
