@@ -4,12 +4,16 @@ use mathlib.Core.List.{List}
 use mathlib.Core.Bool.{Bool, true, false, _&&_, not}
 use Prim.Native.Nat.{ℕ}
 use lib.IntN.{ℤ}
+use mir.Syntax.{w64}
+use mir.Val.{SFits, toZ, ofZ}
+use mir.ValLaws.{toZ-ofZ}
 use borrow.Author.Tests.{not-true, not-false}
 use Rattle.refusal.specs.Numbers.{verdict-of}
 use Rattle.refusal.specs.Checks.{first, table}
 use Rattle.refusal.specs.declared.Refusal.{Refusal}
 use Rattle.refusal.specs.declared.Verdict.{Verdict}
 use Rattle.refusal.specs.declared.Verdict.the-variants.{Accepted, Refused}
+use Rattle.syntax.specs.Grammar.{Bytes}
 use Rattle.ledger.specs.Records.{Memory, memory-sound}
 use Rattle.caller.specs.declared.Caller.{Caller}
 use Rattle.caller.specs.Callers.{caller-sound}
@@ -20,9 +24,10 @@ use Rattle.ask.specs.declared.Reply.{Reply}
 use Rattle.ask.specs.declared.Told.{Told}
 use Rattle.ask.specs.Replies.{refused-with, Replies}
 use Rattle.ask.specs.Cells.{run-reply, Ready}
-use Rattle.ask.specs.Asking.{Prepared, Answers}
+use Rattle.ask.specs.Lines.{print-reply, Printable}
+use Rattle.ask.specs.Asking.{Prepared, Answers, Lines}
 use Rattle.ask.proofs.Passed.{with-lent}
-use Rattle.ask.proofs.Replied.{text-refused, text-ready, text-answered}
+use Rattle.ask.proofs.Replied.{text-refused, text-ready, text-answered, line-refused, line-ready, line-answered}
 
 -- ---- what may be lent
 
@@ -51,21 +56,43 @@ module _ (a b c : Bool) where
 
 -- ---- a query of which the text and the catalogue were read
 
-module _ (m : Memory) (ws : List ℕ) (who : Caller) (t : Told) (x : Opened) {b : Bool} (may : b ≡ (memory-sound m && x .sound && caller-sound who)) {v : Verdict} (told : v ≡ verdict-of (first (table (with-lent (not b) (t .checks))))) (cells : List ℤ) where
-  pub answers-refused : {f : Refusal} → v ≡ Refused f → {r : Reply} → r ≡ refused-with f → Answers m ws who t x cells cells r
-  answers-refused e g = record { shown = λ spare bs form gs text opened. text-refused m ws who t spare bs form gs text opened may told cells e g }
+module _ (m : Memory) (ws : List ℕ) (who : Caller) (t : Told) (x : Opened) {b : Bool} (may : b ≡ (memory-sound m && x .sound && caller-sound who)) {v : Verdict} (told : v ≡ verdict-of (first (table (with-lent (not b) (t .checks))))) where
+  pub answers-refused : (cells : List ℤ) {f : Refusal} → v ≡ Refused f → {r : Reply} → r ≡ refused-with f → Answers m ws who t x cells cells r
+  answers-refused cells e g = record { shown = λ spare bs form gs text opened. text-refused m ws who t spare bs form gs text opened may told cells e g }
 
-  pub answers-ready : Prepared (m .names) ws who t x → v ≡ Accepted → {ps : List ℕ} → ps ≡ profile-of who
+  pub answers-ready : (cells : List ℤ) → Prepared (m .names) ws who t x → v ≡ Accepted → {ps : List ℕ} → ps ≡ profile-of who
       → Ready (record { memory = m; own = t .words; granted = ws; profile = ps; forms = query-forms (t .query) }) (x .opens) (t .needs)
-  answers-ready p e {ps} g =
+  answers-ready cells p e {ps} g =
       subst (λ l. Ready (record { memory = m; own = t .words; granted = ws; profile = l; forms = query-forms (t .query) }) (x .opens) (t .needs)) (sym g)
       (text-ready m ws who t (p .spare) (p .bytes) (p .form) (p .grants) (p .text) (p .opened) may told cells e)
 
-  pub answers-given : v ≡ Accepted → {ps : List ℕ} → ps ≡ profile-of who → {cells′ : List ℤ} {r : Reply}
+  pub answers-given : (cells : List ℤ) → v ≡ Accepted → {ps : List ℕ} → ps ≡ profile-of who → {cells′ : List ℤ} {r : Reply}
       → Replies (run-reply (record { memory = m; own = t .words; granted = ws; profile = ps; forms = query-forms (t .query) }) (x .opens) (t .needs) cells) cells cells′ r
       → Answers m ws who t x cells cells′ r
-  answers-given e g {cells′} {r} h =
+  answers-given cells e g {cells′} {r} h =
       record {
         shown = λ spare bs form gs text opened. text-answered m ws who t spare bs form gs text opened may told cells e
             (subst (λ l. Replies (run-reply (record { memory = m; own = t .words; granted = ws; profile = l; forms = query-forms (t .query) }) (x .opens) (t .needs) cells) cells cells′ r) g h);
       }
+
+  -- ---- and the number of a route
+
+  module _ (number : ℤ) (out : Bytes) where
+    pub lines-refused : {f : Refusal} → v ≡ Refused f → {r : Reply} → r ≡ refused-with f → Lines m ws who t x number out out r
+    lines-refused e g = record { shown = λ spare bs form gs text opened. line-refused m ws who t spare bs form gs text opened may told number out e g }
+
+    pub lines-ready : Prepared (m .names) ws who t x → v ≡ Accepted → {ps : List ℕ} → ps ≡ profile-of who
+        → Printable (record { names = m .names; own = t .words; granted = ws; profile = ps; forms = query-forms (t .query) }) (x .opens) (t .needs)
+    lines-ready p e {ps} g =
+        subst (λ l. Printable (record { names = m .names; own = t .words; granted = ws; profile = l; forms = query-forms (t .query) }) (x .opens) (t .needs)) (sym g)
+        (line-ready m ws who t (p .spare) (p .bytes) (p .form) (p .grants) (p .text) (p .opened) may told number out e)
+
+    -- the number was handed on
+    pub lines-given : v ≡ Accepted → SFits w64 number → {ps : List ℕ} → ps ≡ profile-of who → {out′ : Bytes} {r : Reply}
+        → Replies (print-reply (record { names = m .names; own = t .words; granted = ws; profile = ps; forms = query-forms (t .query) }) (x .opens) (t .needs) (toZ w64 (ofZ w64 number)) out) out out′ r
+        → Lines m ws who t x number out out′ r
+    lines-given e f g {out′} {r} h =
+        record {
+          shown = λ spare bs form gs text opened. line-answered m ws who t spare bs form gs text opened may told number out e
+              (subst (λ l. Replies (print-reply (record { names = m .names; own = t .words; granted = ws; profile = l; forms = query-forms (t .query) }) (x .opens) (t .needs) number out) out out′ r) g (rw (toZ-ofZ w64 number f) at h));
+        }

@@ -91,11 +91,11 @@ module _ (m : Memory) (safe : T (memory-sound m)) (ws own roles profile : List �
     abbrev cat : List M.Grant
     cat = catalogue-of (m .names) gs ws
 
-    routes-are : query-routes (record-of m) cat who f ≡ map route-of (routes-in o n)
+    pub routes-are : query-routes (record-of m) (catalogue-of (m .names) gs ws) (caller-in roles profile) f ≡ map (route-in (record-of m) (m .names) ws own roles profile fs c gs lawful z e) (routes-in o n)
     unfolding query-routes record-of
     routes-are = ap (routes (schema-of (m .names)) who cat) is ∙ listed (record-of m) (m .names) ws own roles profile fs c gs lawful z e
 
-    many : length (query-routes (record-of m) cat who f) ≡ length (routes-in o n)
+    pub many : length (query-routes (record-of m) (catalogue-of (m .names) gs ws) (caller-in roles profile) f) ≡ length (routes-in o n)
     many = ap length routes-are ∙ length-map (routes-in o n) route-of
 
     none : empty? (query-routes (record-of m) cat who f) ≡ empty? (routes-in o n)

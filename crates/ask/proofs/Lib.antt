@@ -20,3 +20,4 @@ pub mod Planned
 pub mod Alone
 pub mod Joined
 pub mod Lines
+pub mod Printed

@@ -77,3 +77,7 @@ pub record Prepared (ns granted : List ℕ) (who : Caller) (t : Told) (x : Opene
 pub record Answers (m : Memory) (granted : List ℕ) (who : Caller) (t : Told) (x : Opened) (cells cells′ : List ℤ) (r : Reply) : Type 0 where
   pub shown : (spare : ℕ) (bs : Bytes) (form : Option Form) (gs : List Grant) → TextRead spare form (m .names) bs t → x ≡ opened-in (t .needs) (m .names) gs granted (roles-of who) (profile-of who)
       → Replies (asked spare form (record { memory = m; grants = gs; granted = granted; caller = who }) bs cells) cells cells′ r
+
+pub record Lines (m : Memory) (granted : List ℕ) (who : Caller) (t : Told) (x : Opened) (number : ℤ) (out out′ : Bytes) (r : Reply) : Type 0 where
+  pub shown : (spare : ℕ) (bs : Bytes) (form : Option Form) (gs : List Grant) → TextRead spare form (m .names) bs t → x ≡ opened-in (t .needs) (m .names) gs granted (roles-of who) (profile-of who)
+      → Replies (lined spare (with-route number form) (record { memory = m; grants = gs; granted = granted; caller = who }) bs out) out out′ r
