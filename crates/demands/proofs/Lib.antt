@@ -1,0 +1,3 @@
+pub mod Defined
+pub mod Answered
+pub mod Interference

@@ -1,0 +1,1 @@
+// No code: what the contracts of the code promise together. See proofs/Demands.antt.
