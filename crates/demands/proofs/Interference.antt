@@ -29,7 +29,7 @@ use Rattle.demands.proofs.Defined.{ask-is, asked-lent, line-is, lined-l
 abbrev pub lends : Store → Caller → Lending
 lends s w = record { memory = s .memory; grants = s .grants; granted = s .words; caller = w }
 
-store-lent : (s : Store) (w : Caller) → Sound s → caller-sound w ≡ true → T (lent-sound (lends s w))
+pub store-lent : (s : Store) (w : Caller) → Sound s → caller-sound w ≡ true → T (lent-sound (lends s w))
 unfolding lent-sound
 store-lent s w k e =
     let m = memory-sound (s .memory) in

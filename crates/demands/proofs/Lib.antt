@@ -1,3 +1,4 @@
 pub mod Defined
 pub mod Answered
 pub mod Interference
+pub mod Lent

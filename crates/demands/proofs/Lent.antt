@@ -1,0 +1,48 @@
+-- What calls and lines made is never refused as lent memory, and 12 is what else is.
+use mathlib.Core.Path.{_≡_, refl, sym, ap, _∙_}
+use mathlib.Core.List.{List, _∷_, _++_}
+use mathlib.Core.Option.{Option, none, some}
+use mathlib.Core.Bool.{not}
+use native.Mathlib.Omega.{arith}
+use Prim.Native.Nat.{ℕ}
+use lib.IntN.{ℤ}
+use lib.Dec.{T}
+use Rattle.refusal.specs.Numbers.{number-of}
+use Rattle.refusal.specs.Checks.{Check, refuse, first}
+use Rattle.refusal.specs.declared.Refusal.{Refusal}
+use Rattle.refusal.specs.declared.Refusal.the-variants.{Lent}
+use Rattle.refusal.proofs.Passing.{first-skip}
+use Rattle.refusal.proofs.Verdicts.{never, never-first}
+use Rattle.lists.specs.Lists.{every}
+use Rattle.syntax.specs.Grammar.{Bytes}
+use Rattle.syntax.specs.Readers.{parse-query}
+use Rattle.calls.specs.Replies.{reply}
+use Rattle.calls.specs.Tables.{query-checks}
+use Rattle.calls.specs.Asking.{answer-checks, line-checks, with-route}
+use Rattle.calls.specs.Events.{Event}
+use Rattle.calls.proofs.Order.{never-written}
+use Rattle.history.specs.Fixtures.{Store, Trace, Fresh}
+use Rattle.history.proofs.Events.{left-after}
+use Rattle.ask.specs.declared.Reply.{Reply}
+use Rattle.ask.specs.Replies.{reply-of, Replies}
+use Rattle.ask.specs.Asking.{lent-sound, asked-table, asked, lined-table, lined}
+use Rattle.demands.proofs.Interference.{lends, store-lent}
+
+-- a table that does not give 12
+not-twelve : {A : Type 0} (o : Option Refusal) (out lent : List A) {p : List A} {y : Reply} → ((f : Refusal) → o ≡ some f → number-of f ≡ 12 → ⊥) → Replies (reply o out lent) lent p y → y .refusal ≡ 12 → ⊥
+unfolding reply reply-of
+not-twelve none out lent k h e = let z = ap (λ (r : Reply). r .refusal) (h .said) in omega arith
+not-twelve (some f) out lent k h e = k f refl (sym (ap (λ (r : Reply). r .refusal) (h .said)) ∙ e)
+
+module _ {s u : Store} {es : List Event} (f : Fresh s) (r : Trace s es u) where
+  skipped : (cs : List Check) → T (never 12 cs) → (g : Refusal) → first (refuse Lent (not (lent-sound (lends u (u .caller)))) ∷ cs) ≡ some g → number-of g ≡ 12 → ⊥
+  skipped cs n g e = never-first 12 cs g n (sym (first-skip Lent (lent-sound (lends u (u .caller))) cs (store-lent u (u .caller) (left-after f r .1) (left-after f r .1 .caller))) ∙ e)
+
+  -- of what any list of calls and lines leaves, its caller's queries and lines are never refused by 12
+  pub never-lent-query : (bs : Bytes) (cells : List ℤ) {p : List ℤ} {y : Reply} → Replies (asked 0 (parse-query bs) (lends u (u .caller)) bs cells) cells p y → y .refusal ≡ 12 → ⊥
+  unfolding asked asked-table query-checks answer-checks every refuse
+  never-lent-query bs cells h = not-twelve _ _ cells (skipped _ (never-written 12 0 bs (parse-query bs) _ tt tt (λ q. tt))) h
+
+  pub never-lent-line : (n : ℤ) (bs out : Bytes) {p : Bytes} {y : Reply} → Replies (lined 0 (with-route n (parse-query bs)) (lends u (u .caller)) bs out) out p y → y .refusal ≡ 12 → ⊥
+  unfolding lined lined-table query-checks line-checks every refuse
+  never-lent-line n bs out h = not-twelve _ _ out (skipped _ (never-written 12 0 bs (with-route n (parse-query bs)) _ tt tt (λ q. tt))) h
