@@ -1,33 +1,13 @@
-/* The calls at typical and at their worst inputs. On x86: cases N runs case N, whose call alone is inside measured(). On the chip: all cases, one after another. */
-#include "chip.h"
-#ifdef CHIP
-void put(const char *s); void put_u(uint32_t x); void paint(void); uint32_t used(void);
-__attribute__((noinline)) void mark_on(void) { __asm__ volatile("nop"); }
-__attribute__((noinline)) void mark_off(void) { __asm__ volatile("nop"); }
-#else
-#include <stdio.h>
-#include <stdlib.h>
-#endif
+/* The calls that write the record and the catalogue, at typical and at their worst inputs. */
+#include "driver.h"
 
-enum { LINE = 512, NAMES = 28, PLACES = 512, VALUES = 3072, WORDS = 24 * 95 };
-static uint64_t names[NAMES];
-static uint32_t times[PLACES], words[WORDS];
-static int32_t values[VALUES];
-static struct ledger ledger;
 static struct granted granted;
-static char line[LINE + 1];
-static unsigned size;
-
-static void add(const char *s) { while (*s && size < LINE) line[size++] = *s++; line[size] = 0; }
-static void set(const char *s) { size = 0; add(s); }
-static unsigned count(const char *s) { unsigned n = 0; while (s[n]) n++; return n; }
 /* a head, as many items as fit, and a tail */
 static void fill(const char *head, const char *item, const char *tail) {
     set(head);
     while (size + count(item) + count(tail) <= LINE) add(item);
     add(tail);
 }
-static const uint8_t *text(void) { return (const uint8_t *)line; }
 static void full_record(void) {
     for (int s = 0; s < 4; s++) ledger.rows[s] = s ? 128 : 127;
     ledger.clock = 9;
@@ -118,7 +98,6 @@ static const struct sample samples[] = {
 };
 enum { SAMPLES = sizeof samples / sizeof *samples };
 
-static void declare(const char *s) { set(s); x_declare(names, NAMES, text(), size); }
 static void prepare(int k) {
     static const struct ledger fresh;
     for (int i = 0; i < NAMES; i++) names[i] = 0;
@@ -130,9 +109,9 @@ static void prepare(int k) {
     samples[k].make();
     if (samples[k].call == SOUND) granted = x_grant(names, NAMES, 0, text(), size, words, WORDS);
 }
-__attribute__((noinline)) uint32_t measured(int call) {
+__attribute__((noinline)) uint32_t measured(int k) {
     static const int32_t three[3] = { 7, 1, 30 };
-    switch (call) {
+    switch (samples[k].call) {
     case GRANT: return x_grant(names, NAMES, 23, text(), size, words, WORDS).number;
     case CONDITION: return x_cond(text(), size, 0, names, NAMES, words, WORDS, 7);
     case SOUND: return x_sound(granted.grant, names, NAMES, words, 95);
@@ -144,31 +123,10 @@ __attribute__((noinline)) uint32_t measured(int call) {
     case CLOCK: return x_clock(ledger, 5).number;
     case CLOCK_LINE: return x_clock_line(ledger, text(), size).number;
     case CLEAR_LINE: return x_clear_line(ledger, text(), size).number;
-    case CALLER: return x_caller(text(), size);
+    case CALLER: return x_caller(text(), size).number;
     default: return 0;
     }
 }
 
-#ifdef CHIP
-int main(void) {
-    for (int k = 0; k < SAMPLES; k++) {
-        prepare(k);
-        paint();
-        mark_on();
-        uint32_t r = measured(samples[k].call);
-        mark_off();
-        uint32_t u = used();
-        put("#"); put_u(k); put("|"); put(samples[k].label); put("|"); put_u(r); put("|"); put_u(u); put("\n");
-    }
-    return 0;
-}
-#else
-int main(int n, char **a) {
-    if (n < 2) { printf("%d\n", SAMPLES); return 0; }
-    int k = atoi(a[1]);
-    prepare(k);
-    uint32_t r = measured(samples[k].call);
-    printf("%s|%u|%u\n", samples[k].label, size, r);
-    return 0;
-}
-#endif
+static const char *label(int k) { return samples[k].label; }
+#include "main.h"

@@ -21,3 +21,4 @@ pub mod Alone
 pub mod Joined
 pub mod Lines
 pub mod Printed
+pub mod Reading

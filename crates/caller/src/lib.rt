@@ -15,6 +15,7 @@ use text::Line;
 use text::Word;
 
 // Names are numbers, as `text` reads them.
+#[repr(C)]
 pub struct Caller {
     pub roles: u32,
     pub role: [u64; Caller::ROLES],

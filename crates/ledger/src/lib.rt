@@ -14,6 +14,7 @@ use schema::Stream;
 use text::Number;
 use text::Time;
 
+#[repr(C)]
 pub struct Ledger {
     pub clock: u32,
     pub rows: [u32; Stream::MOST],

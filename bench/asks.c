@@ -1,0 +1,149 @@
+/* Queries and their lines: typical ones, refused ones, and the worst that were found. */
+#include "driver.h"
+enum { CELLS = 4096, BYTES = 4096 };
+static struct grant grants[GRANTS];
+static struct caller who;
+static unsigned granted;
+static int64_t cells[CELLS];
+static uint8_t bytes[BYTES];
+
+static void grant(const char *s) {
+    set(s);
+    grants[granted] = x_grant(names, NAMES, granted, text(), size, words, WORDS).grant;
+    granted++;
+}
+static void caller(const char *s) { set(s); who = x_caller(text(), size).caller; }
+/* n rows of a stream, at times first + i * num / den, columns by a rule */
+static void rows(int s, int n, uint32_t first, uint32_t num, uint32_t den, int32_t (*value)(int i, int c)) {
+    ledger.rows[s] = n;
+    for (int i = 0; i < n; i++) {
+        times[s * 128 + i] = first + i * num / den;
+        for (int c = 0; c < 6; c++) values[(s * 128 + i) * 6 + c] = value(i, c);
+    }
+}
+static int32_t measure(int i, int c) { return c == 0 ? 7 + i % 4 : c == 1 ? i : i * 37 % 101 - 20; }
+static int32_t later_unit(int i, int c) { return c == 2 ? i + 28 : i % 3 + c; }
+static int32_t same(int i, int c) { (void)i; (void)c; return 1; }
+static int32_t ranked(int i, int c) { return c == 1 ? i : i * 31 % 128; }
+
+static void fixture(void) {
+    declare("(stream test lot unit volts)");
+    declare("(stream pack lot label unit crate shift line)");
+    declare("(stream ready lot unit ms)");
+    ledger.clock = 2000000;
+    rows(0, 128, 1000, 1, 1, measure);
+    rows(1, 128, 1000, 1, 1, later_unit);
+    caller("(caller (roles fitter) (self lot 7))");
+}
+static void one_grant(void) { fixture(); grant("(grant fitter read (of test) (show *))"); }
+static void scan(void) { one_grant(); rows(0, 128, 1000, 1, 1, ranked); ledger.rows[1] = 0; set("(pick (and (< test.volts 64) (>= test.unit 0) (/= test.lot 200)) (in test))"); }
+static void joined(void) { one_grant(); grant("(grant fitter read (of pack) (show *))"); set("(join (= test.unit pack.unit) (in test) (in pack))"); }
+static void overlapping(void) { one_grant(); ledger.rows[1] = 0; set("(avg test.volts 64 1 (in test))"); }
+static void gaps(void) { overlapping(); rows(0, 128, 48, 15, 1, measure); }
+static void far_gaps(void) { overlapping(); ledger.clock = 2000000000; rows(0, 128, 1000, 15000000, 1, measure); set("(avg test.volts 15 1 (in test))"); }
+static void tumbling(void) { one_grant(); ledger.rows[1] = 0; rows(0, 128, 960, 27, 2, measure); set("(sum test.volts 64 64 (in test))"); }
+static void refused(void) { scan(); caller("(caller (roles seller) (self lot 7))"); set("(pick (and (< test.volts 64) (>= test.unit 0) (/= test.lot 200)) (in test))"); }
+static void sixteen(void) {
+    fixture();
+    ledger.rows[1] = 0;
+    for (int i = 0; i < 8; i++) grant("(grant seller avg (of test) (show test.volts) (window 60 60))");
+    for (int i = 0; i < 16; i++) grant("(grant fitter read (of test) (show test.unit test.volts) (when (= test.lot self.lot)))");
+    set("(pick (< test.volts 200) (in test))");
+}
+/* picks that fill the line, each of one comparison, nested as deep as forms go */
+static void nested_read(void) {
+    one_grant();
+    set("");
+    for (int i = 0; i < 11; i++) add("(pick (or (not (and (= test.lot 7)))) ");
+    add("(in test)");
+    for (int i = 0; i < 11; i++) add(")");
+}
+static void deep_condition(void) {
+    one_grant();
+    set("(pick ");
+    for (int i = 0; i < 5; i++) add("(not ");
+    add("(= test.lot 7)");
+    for (int i = 0; i < 5; i++) add(")");
+    add(" (in test))");
+}
+static void deep_join(void) {
+    fixture();
+    grant("(grant fitter read (of test pack) (show *) (when (= test.unit pack.unit) (not (not (not (= test.lot 200))))))");
+    set("(pick (not (not (not (not (= test.lot pack.lot))))) (join (= test.unit pack.unit) (in test) (in pack)))");
+}
+static void figure_join(void) {
+    fixture();
+    grant("(grant fitter avg (of test pack) (show *) (when (= test.unit pack.unit)))");
+    set("(avg test.volts 64 1 (join (= test.unit pack.unit) (in test) (in pack)))");
+}
+/* two full streams whose rows are all pairs, by sixteen grants and a pick with as many comparisons as fit */
+static void worst_by(const char *when, const char *pick) {
+    declare("(stream a a)");
+    declare("(stream b a)");
+    ledger.clock = 2000000;
+    rows(0, 128, 1000, 1, 1, same);
+    rows(1, 128, 1000, 1, 1, same);
+    caller("(caller (roles a))");
+    for (int i = 0; i < 16; i++) {
+        set("(grant a read (of a b) (show *) (when (= a.a b.a)");
+        while (size + 1 + count(when) + 2 <= LINE) { add(" "); add(when); }
+        add("))");
+        grants[granted] = x_grant(names, NAMES, granted, text(), size, words, WORDS).grant;
+        granted++;
+    }
+    set("(max a.a 64 64 (pick (and");
+    while (size + 1 + count(pick) + 40 <= LINE) { add(" "); add(pick); }
+    add(") (join (= a.a b.a) (in a) (in b))))");
+}
+static void worst_pair(void) { worst_by("(= a.a b.a)", "(= a.a b.a)"); }
+static void worst_number(void) { worst_by("(= b.a 1)", "(= b.a 1)"); }
+static void worst_right(void) { worst_by("(= b.a b.a)", "(= b.a b.a)"); }
+static void worst_time(void) { worst_by("(= b.a b.a)", "(> time 1)"); }
+static void worst_time_column(void) { worst_by("(= b.a b.a)", "(> time b.a)"); }
+
+struct sample { const char *label; void (*make)(void); int route; };
+static const struct sample samples[] = {
+    { "nothing", one_grant, -1 },
+    { "scan of 128 rows, three comparisons, 64 rows", scan, 0 },
+    { "join of two full streams, 100 pairs", joined, 0 },
+    { "averages in 64 overlapping windows, 191 answers", overlapping, 0 },
+    { "averages in 64 overlapping windows with gaps, 1,954 answers", gaps, 0 },
+    { "averages in windows far apart, 1,920 answers", far_gaps, 0 },
+    { "sums in tumbling windows, 27 answers", tumbling, 0 },
+    { "query refused 9", refused, 0 },
+    { "24 grants, sixteen routes", sixteen, 0 },
+    { "eleven nested picks", nested_read, 0 },
+    { "a condition as deep as may be", deep_condition, 0 },
+    { "deep conditions over a joined pair", deep_join, 0 },
+    { "averages over a joined pair", figure_join, 0 },
+    { "line of the scan", scan, 1 },
+    { "line of the join", joined, 1 },
+    { "line of sixteen routes, the last", sixteen, 16 },
+    { "line of averages over a joined pair", figure_join, 1 },
+    { "line of eleven nested picks", nested_read, 1 },
+#ifndef CHIP
+    { "worst: comparisons of left with right", worst_pair, 0 },
+    { "worst: comparisons of right with a number", worst_number, 0 },
+    { "worst: comparisons of right with right", worst_right, 0 },
+    { "worst: comparisons of time with a number", worst_time, 0 },
+    { "worst: comparisons of time with right", worst_time_column, 0 },
+#endif
+};
+enum { SAMPLES = sizeof samples / sizeof *samples };
+
+static void prepare(int k) {
+    static const struct ledger fresh;
+    for (int i = 0; i < NAMES; i++) names[i] = 0;
+    ledger = fresh;
+    granted = 0;
+    samples[k].make();
+}
+static struct reply reply;
+__attribute__((noinline)) uint32_t measured(int k) {
+    if (samples[k].route < 0) return 0;
+    if (samples[k].route > 0) reply = line_of(grants, granted, words, WORDS, ledger, names, NAMES, times, PLACES, values, VALUES, who, samples[k].route, text(), size, bytes, BYTES);
+    else reply = ask(grants, granted, words, WORDS, ledger, names, NAMES, times, PLACES, values, VALUES, who, text(), size, cells, CELLS);
+    return reply.refusal ? reply.refusal : reply.count;
+}
+static const char *label(int k) { return samples[k].label; }
+#include "main.h"
