@@ -22,30 +22,33 @@ static void rows(int s, int n, uint32_t first, uint32_t num, uint32_t den, int32
     }
 }
 static int32_t measure(int i, int c) { return c == 0 ? 7 + i % 4 : c == 1 ? i : i * 37 % 101 - 20; }
-static int32_t later_unit(int i, int c) { return c == 2 ? i + 28 : i % 3 + c; }
+static int32_t later_unit(int i, int c) { return c == 1 ? i + 28 : i % 3 + c; }
 static int32_t same(int i, int c) { (void)i; (void)c; return 1; }
 static int32_t ranked(int i, int c) { return c == 1 ? i : i * 31 % 128; }
 
+/* the streams of the example, the first full; the clock stands some time after its last row */
 static void fixture(void) {
     declare("(stream test lot unit volts)");
-    declare("(stream pack lot label unit crate shift line)");
-    declare("(stream ready lot unit ms)");
-    ledger.clock = 2000000;
+    ledger.clock = 1200;
     rows(0, 128, 1000, 1, 1, measure);
-    rows(1, 128, 1000, 1, 1, later_unit);
     caller("(caller (roles fitter) (self lot 7))");
 }
+static void pairs(void) {
+    fixture();
+    declare("(stream pack lot unit label)");
+    rows(1, 128, 1000, 1, 1, later_unit);
+}
 static void one_grant(void) { fixture(); grant("(grant fitter read (of test) (show *))"); }
-static void scan(void) { one_grant(); rows(0, 128, 1000, 1, 1, ranked); ledger.rows[1] = 0; set("(pick (and (< test.volts 64) (>= test.unit 0) (/= test.lot 200)) (in test))"); }
-static void joined(void) { one_grant(); grant("(grant fitter read (of pack) (show *))"); set("(join (= test.unit pack.unit) (in test) (in pack))"); }
-static void overlapping(void) { one_grant(); ledger.rows[1] = 0; set("(avg test.volts 64 1 (in test))"); }
-static void gaps(void) { overlapping(); rows(0, 128, 48, 15, 1, measure); }
+static void scan(void) { one_grant(); rows(0, 128, 1000, 1, 1, ranked); set("(pick (and (< test.volts 64) (>= test.unit 0) (/= test.lot 200)) (in test))"); }
+static void joined(void) { pairs(); grant("(grant fitter read (of test) (show *))"); grant("(grant fitter read (of pack) (show *))"); set("(join (= test.unit pack.unit) (in test) (in pack))"); }
+static void overlapping(void) { one_grant(); set("(avg test.volts 64 1 (in test))"); }
+static void gaps(void) { overlapping(); ledger.clock = 2017; rows(0, 128, 48, 15, 1, measure); }
 static void far_gaps(void) { overlapping(); ledger.clock = 2000000000; rows(0, 128, 1000, 15000000, 1, measure); set("(avg test.volts 15 1 (in test))"); }
-static void tumbling(void) { one_grant(); ledger.rows[1] = 0; rows(0, 128, 960, 27, 2, measure); set("(sum test.volts 64 64 (in test))"); }
-static void refused(void) { scan(); caller("(caller (roles seller) (self lot 7))"); set("(pick (and (< test.volts 64) (>= test.unit 0) (/= test.lot 200)) (in test))"); }
+static void tumbling(void) { one_grant(); ledger.clock = 2700; rows(0, 128, 960, 27, 2, measure); set("(sum test.volts 64 64 (in test))"); }
+static void refused(void) { one_grant(); caller("(caller (roles))"); set("(in test)"); }
+static void refused_pick(void) { one_grant(); caller("(caller (roles))"); set("(pick (and (< test.volts 64) (>= test.unit 0) (/= test.lot 200)) (in test))"); }
 static void sixteen(void) {
     fixture();
-    ledger.rows[1] = 0;
     for (int i = 0; i < 8; i++) grant("(grant seller avg (of test) (show test.volts) (window 60 60))");
     for (int i = 0; i < 16; i++) grant("(grant fitter read (of test) (show test.unit test.volts) (when (= test.lot self.lot)))");
     set("(pick (< test.volts 200) (in test))");
@@ -54,9 +57,9 @@ static void sixteen(void) {
 static void nested_read(void) {
     one_grant();
     set("");
-    for (int i = 0; i < 11; i++) add("(pick (or (not (and (= test.lot 7)))) ");
+    for (int i = 0; i < 7; i++) add("(pick (or (not (= test.lot 200))) ");
     add("(in test)");
-    for (int i = 0; i < 11; i++) add(")");
+    for (int i = 0; i < 7; i++) add(")");
 }
 static void deep_condition(void) {
     one_grant();
@@ -67,12 +70,12 @@ static void deep_condition(void) {
     add(" (in test))");
 }
 static void deep_join(void) {
-    fixture();
+    pairs();
     grant("(grant fitter read (of test pack) (show *) (when (= test.unit pack.unit) (not (not (not (= test.lot 200))))))");
     set("(pick (not (not (not (not (= test.lot pack.lot))))) (join (= test.unit pack.unit) (in test) (in pack)))");
 }
 static void figure_join(void) {
-    fixture();
+    pairs();
     grant("(grant fitter avg (of test pack) (show *) (when (= test.unit pack.unit)))");
     set("(avg test.volts 64 1 (join (= test.unit pack.unit) (in test) (in pack)))");
 }
@@ -111,8 +114,9 @@ static const struct sample samples[] = {
     { "averages in windows far apart, 1,920 answers", far_gaps, 0 },
     { "sums in tumbling windows, 27 answers", tumbling, 0 },
     { "query refused 9", refused, 0 },
+    { "the scan refused 9", refused_pick, 0 },
     { "24 grants, sixteen routes", sixteen, 0 },
-    { "eleven nested picks", nested_read, 0 },
+    { "seven nested picks", nested_read, 0 },
     { "a condition as deep as may be", deep_condition, 0 },
     { "deep conditions over a joined pair", deep_join, 0 },
     { "averages over a joined pair", figure_join, 0 },
@@ -120,7 +124,7 @@ static const struct sample samples[] = {
     { "line of the join", joined, 1 },
     { "line of sixteen routes, the last", sixteen, 16 },
     { "line of averages over a joined pair", figure_join, 1 },
-    { "line of eleven nested picks", nested_read, 1 },
+    { "line of seven nested picks", nested_read, 1 },
 #ifndef CHIP
     { "worst: comparisons of left with right", worst_pair, 0 },
     { "worst: comparisons of right with a number", worst_number, 0 },
@@ -138,12 +142,12 @@ static void prepare(int k) {
     granted = 0;
     samples[k].make();
 }
-static struct reply reply;
 __attribute__((noinline)) uint32_t measured(int k) {
     if (samples[k].route < 0) return 0;
-    if (samples[k].route > 0) reply = line_of(grants, granted, words, WORDS, ledger, names, NAMES, times, PLACES, values, VALUES, who, samples[k].route, text(), size, bytes, BYTES);
-    else reply = ask(grants, granted, words, WORDS, ledger, names, NAMES, times, PLACES, values, VALUES, who, text(), size, cells, CELLS);
-    return reply.refusal ? reply.refusal : reply.count;
+    reply_t r;
+    if (samples[k].route > 0) r = line_of(grants, granted, words, WORDS, ledger, names, NAMES, times, PLACES, values, VALUES, who, samples[k].route, text(), size, bytes, BYTES);
+    else r = ask(grants, granted, words, WORDS, ledger, names, NAMES, times, PLACES, values, VALUES, who, text(), size, cells, CELLS);
+    return (uint32_t)r ? (uint32_t)r : (uint32_t)(r >> 32);
 }
 static const char *label(int k) { return samples[k].label; }
 #include "main.h"

@@ -19,7 +19,8 @@ bool x_sound(struct grant g, const uint64_t *names, len_t n, const uint32_t *wor
 bool x_cond(const uint8_t *line, len_t l, len_t at, const uint64_t *names, len_t n, uint32_t *words, len_t w, uint32_t level);
 struct caller { uint32_t roles; uint64_t role[4]; uint32_t entries; uint64_t name[4]; int32_t value[4]; };
 struct identified { uint32_t number; struct caller caller; };
-struct reply { uint32_t refusal, count; };
+/* A reply is a struct of two words, which the module hands back as one number: the refusal in its lower half, the count in its upper. */
+typedef uint64_t reply_t;
 struct identified x_caller(const uint8_t *line, len_t n);
-struct reply ask(const struct grant *grants, len_t g, const uint32_t *words, len_t w, struct ledger l, const uint64_t *names, len_t n, const uint32_t *times, len_t t, const int32_t *values, len_t v, struct caller who, const uint8_t *line, len_t k, int64_t *cells, len_t c);
-struct reply line_of(const struct grant *grants, len_t g, const uint32_t *words, len_t w, struct ledger l, const uint64_t *names, len_t n, const uint32_t *times, len_t t, const int32_t *values, len_t v, struct caller who, int64_t number, const uint8_t *line, len_t k, uint8_t *out, len_t o) __asm__("line");
+reply_t ask(const struct grant *grants, len_t g, const uint32_t *words, len_t w, struct ledger l, const uint64_t *names, len_t n, const uint32_t *times, len_t t, const int32_t *values, len_t v, struct caller who, const uint8_t *line, len_t k, int64_t *cells, len_t c);
+reply_t line_of(const struct grant *grants, len_t g, const uint32_t *words, len_t w, struct ledger l, const uint64_t *names, len_t n, const uint32_t *times, len_t t, const int32_t *values, len_t v, struct caller who, int64_t number, const uint8_t *line, len_t k, uint8_t *out, len_t o) __asm__("line");

@@ -93,3 +93,11 @@ u64 __aeabi_llsl(u64 a, int n) {
     if (n >= 32) return (u64)(l << (n - 32)) << 32;
     return n ? (u64)(h << n | l >> (32 - n)) << 32 | l << n : a;
 }
+int64_t divide_signed(int64_t n, int64_t d, int64_t *rest) {
+    u64 r, q = divide64(n < 0 ? -(u64)n : (u64)n, d < 0 ? -(u64)d : (u64)d, &r);
+    *rest = n < 0 ? -r : r;
+    return (n < 0) != (d < 0) ? -q : q;
+}
+__attribute__((naked)) void __aeabi_ldivmod(void) {
+    __asm__ volatile("push {r4, lr}\nsub sp, #16\nadd r4, sp, #8\nstr r4, [sp]\nbl divide_signed\nldr r2, [sp, #8]\nldr r3, [sp, #12]\nadd sp, #16\npop {r4, pc}\n");
+}

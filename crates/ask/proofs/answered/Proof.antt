@@ -41,7 +41,7 @@ part-run-end : tie.Need-part-run-end
 part-run-end c = search needs
 
 run-requires : tie.Need-run-requires
-run-requires c κs = answers-ready _ _ _ _ _ (c .before .before .before .before .before .before .before .before .before .may-be-lent .ensures) (c .before .before .before .before .before .before .before .before .verdict .ensures) (c .before .before .before .before .before .before .before .before .before .before .before .before .before .before .args .cells .now) (c .before .before .before .before .before .before .before .before .before .before .before .before .before .before .pre) (search needs) (profile-first _ (c .before .before .before .before .before .profile-of .ensures) (c .before .before .before .least .ensures))
+run-requires c κs = answers-ready _ _ _ _ _ (c .before .before .before .before .before .before .before .before .before .before .before .before .before .before .may-be-lent .ensures) (c .before .before .before .before .before .before .before .before .before .before .before .before .before .verdict .ensures) (c .before .before .before .before .before .before .before .before .before .before .before .before .before .before .before .before .before .before .before .args .cells .now) (c .before .before .before .before .before .before .before .before .before .before .before .before .before .before .before .before .before .before .before .pre) (search needs) (profile-first _ (c .before .before .before .before .before .before .before .before .before .before .profile-of .ensures) (c .before .before .before .before .before .before .before .before .least .ensures))
 
 returns : tie.Need-returns
 returns c = let a = c .before .before .before .before .before .may-be-lent .ensures in let b = c .before .before .before .before .verdict .ensures in let d = c .refused .ensures in search (answers-refused, needs)
@@ -50,7 +50,7 @@ same-length : tie.Need-same-length
 same-length c = search needs
 
 returns-2 : tie.Need-returns-2
-returns-2 c = answers-given _ _ _ _ _ (c .before .before .before .before .before .before .before .before .before .before .before .may-be-lent .ensures) (c .before .before .before .before .before .before .before .before .before .before .verdict .ensures) _ (search needs) (profile-first _ (c .before .before .before .before .before .before .before .profile-of .ensures) (c .before .before .before .before .before .least .ensures)) (c .before .run .ensures)
+returns-2 c = answers-given _ _ _ _ _ (c .before .before .before .before .before .before .before .before .before .before .before .before .before .before .before .before .may-be-lent .ensures) (c .before .before .before .before .before .before .before .before .before .before .before .before .before .before .before .verdict .ensures) _ (search needs) (profile-first _ (c .before .before .before .before .before .before .before .before .before .before .before .before .profile-of .ensures) (c .before .before .before .before .before .before .before .before .before .before .least .ensures)) (c .before .run .ensures)
 
 pub answered-spec : {M : Type 1} → statement M
 answered-spec =

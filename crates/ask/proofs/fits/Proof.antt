@@ -10,11 +10,11 @@ use Rattle.ask.proofs.fits.Statement.{statement}
 use Rattle.ask.proofs.fits.Tie as tie
 
 abbrev Inv-loop : tie.InvT-loop
-Inv-loop o r l names times values granted profile most room cells₀ t n at₀ i₀ cells at i =
-    (i ≤ r .count) × (cells ≡ cells₀) × Counted (suc (length (first-cells (record { memory = record { ledger = l; names = names; times = times; values = values }; own = t .words; granted = granted; profile = profile; forms = query-forms (t .query) }) o (t .needs) i))) room at
+Inv-loop q n o r l names times values words granted profile most room cells₀ at₀ i₀ cells at i =
+    (i ≤ r .count) × (cells ≡ cells₀) × Counted (suc (length (first-cells (record { memory = record { ledger = l; names = names; times = times; values = values }; own = words; granted = granted; profile = profile; forms = query-forms q }) o n i))) room at
 
 abbrev μ-loop : tie.MeasureT-loop
-μ-loop o r l names times values granted profile most room cells₀ t n at₀ i₀ cells at i = r .count - i
+μ-loop q n o r l names times values words granted profile most room cells₀ at₀ i₀ cells at i = r .count - i
 
 loop-holds : tie.Need-loop-holds Inv-loop μ-loop
 loop-holds c = (omega arith, refl, count-start _ _ _ (c .before .before .before .before .before .pre))
@@ -50,7 +50,7 @@ of-requires : tie.Need-of-requires Inv-loop μ-loop
 of-requires c κs = search needs
 
 enter-requires : tie.Need-enter-requires Inv-loop μ-loop
-enter-requires c κs = count-ready _ _ _ (c .before .before .before .before .before .before .before .before .before .before .before .before .before .before .before .before .before .before .pre) (c .before .before .before .before .before .before .before .before .before .before .if1 .taken) (c .before .before .before .before .before .before .route .ensures) (c .before .before .before .before .before .of .ensures) (c .before .before .before .before .before .before .before .before .before .before .before .before .loop .inv .2) (c .before .before .before .before .before .before .before .before .before .if2 .left) (c .before .before .before .before .before .before .before .before .before .before .before .before .loop .cells) (ap length (c .before .before .before .before .before .before .before .before .before .before .before .before .loop .inv .1))
+enter-requires c κs = count-ready _ _ _ (c .before .before .before .before .before .before .before .before .before .before .before .before .before .before .pre) (c .before .before .before .before .before .before .if1 .taken) (c .before .before .route .ensures) (c .before .of .ensures) (c .before .before .before .before .before .before .before .before .loop .inv .2) (c .before .before .before .before .before .if2 .left) (c .before .before .before .before .before .before .before .before .loop .cells) (ap length (c .before .before .before .before .before .before .before .before .loop .inv .1))
 
 add-i : tie.Need-add-i Inv-loop μ-loop
 add-i c = search needs
@@ -60,8 +60,8 @@ loop-less c = omega arith
 
 loop-again : tie.Need-loop-again Inv-loop μ-loop
 loop-again c =
-    let x = count-more _ _ _ (c .before .before .before .before .before .before .before .before .before .before .before .before .before .before .before .before .before .before .before .before .pre) (c .before .before .before .before .before .before .before .before .before .before .before .before .if1 .taken) (c .before .before .before .before .before .before .before .before .route .ensures) (c .before .before .before .before .before .before .before .of .ensures) (c .before .before .before .before .before .before .before .before .before .before .before .before .before .before .loop .inv .2) (c .before .before .before .before .before .before .before .before .before .before .before .if2 .left) (c .before .enter .ensures) in
-    (omega arith, x .0 ∙ c .before .before .before .before .before .before .before .before .before .before .before .before .before .before .loop .inv .1, x .1)
+    let x = count-more _ _ _ (c .before .before .before .before .before .before .before .before .before .before .before .before .before .before .before .before .pre) (c .before .before .before .before .before .before .before .before .if1 .taken) (c .before .before .before .before .route .ensures) (c .before .before .before .of .ensures) (c .before .before .before .before .before .before .before .before .before .before .loop .inv .2) (c .before .before .before .before .before .before .before .if2 .left) (c .before .enter .ensures) in
+    (omega arith, x .0 ∙ c .before .before .before .before .before .before .before .before .before .before .loop .inv .1, x .1)
 
 same-length-3 : tie.Need-same-length-3 Inv-loop μ-loop
 same-length-3 c = ap length (c .before .before .loop .inv .1)

@@ -19,7 +19,7 @@ same-length : tie.Need-same-length
 same-length c = search needs
 
 returns : tie.Need-returns
-returns c = line-written _ _ _ _ _ _ (c .before .before .before .before .before .before .before .before .before .put-table .ensures) (c .before .before .line .ensures)
+returns c = line-written _ _ _ _ _ _ (c .before .before .before .before .before .before .put-table .ensures) (c .before .before .line .ensures)
 
 pub write-line-spec : {M : Type 1} → statement M
 write-line-spec =
