@@ -53,27 +53,25 @@ static void sixteen(void) {
     for (int i = 0; i < 16; i++) grant("(grant fitter read (of test) (show test.unit test.volts) (when (= test.lot self.lot)))");
     set("(pick (< test.volts 200) (in test))");
 }
-/* picks that fill the line, each of one comparison, nested as deep as forms go */
-static void nested_read(void) {
-    one_grant();
-    set("");
-    for (int i = 0; i < 7; i++) add("(pick (or (not (= test.lot 200))) ");
-    add("(in test)");
-    for (int i = 0; i < 7; i++) add(")");
+static void nested(const char *open, int n, const char *inside) {
+    for (int i = 0; i < n; i++) add(open);
+    add(inside);
+    for (int i = 0; i < n; i++) add(")");
 }
-static void deep_condition(void) {
-    one_grant();
-    set("(pick ");
-    for (int i = 0; i < 5; i++) add("(not ");
-    add("(= test.lot 7)");
-    for (int i = 0; i < 5; i++) add(")");
-    add(" (in test))");
-}
-static void deep_join(void) {
+static void nested_picks(void) { one_grant(); set(""); nested("(pick (/= test.lot 200) ", 7, "(in test)"); }
+static void many_forms(void) { one_grant(); set(""); nested("(keep test.lot test.unit test.volts ", 7, "(in test)"); }
+/* eight brackets, those of the form around it included */
+static void deep_condition(void) { one_grant(); set("(pick "); nested("(not ", 6, "(= test.lot 7)"); add(" (in test))"); }
+static void deep_pair(void) {
     pairs();
-    grant("(grant fitter read (of test pack) (show *) (when (= test.unit pack.unit) (not (not (not (= test.lot 200))))))");
-    set("(pick (not (not (not (not (= test.lot pack.lot))))) (join (= test.unit pack.unit) (in test) (in pack)))");
+    set("(grant fitter read (of test pack) (show *) (when (= test.unit pack.unit) ");
+    nested("(or ", 5, "(= test.lot pack.lot)");
+    add("))");
+    grants[granted] = x_grant(names, NAMES, granted, text(), size, words, WORDS).grant;
+    granted++;
 }
+static void deep_join(void) { deep_pair(); set("(pick "); nested("(or ", 6, "(/= test.lot pack.lot)"); add(" (join (= test.unit pack.unit) (in test) (in pack)))"); }
+static void deep_figures(void) { deep_pair(); set("(avg test.volts 64 1 (pick "); nested("(or ", 5, "(<= time 1100)"); add(" (join (= test.unit pack.unit) (in test) (in pack))))"); }
 static void figure_join(void) {
     pairs();
     grant("(grant fitter avg (of test pack) (show *) (when (= test.unit pack.unit)))");
@@ -116,15 +114,18 @@ static const struct sample samples[] = {
     { "query refused 9", refused, 0 },
     { "the scan refused 9", refused_pick, 0 },
     { "24 grants, sixteen routes", sixteen, 0 },
-    { "seven nested picks", nested_read, 0 },
+    { "seven nested picks", nested_picks, 0 },
+    { "seven nested keeps", many_forms, 0 },
     { "a condition as deep as may be", deep_condition, 0 },
-    { "deep conditions over a joined pair", deep_join, 0 },
+    { "such conditions over a joined pair", deep_join, 0 },
     { "averages over a joined pair", figure_join, 0 },
+    { "averages over a joined pair with such conditions", deep_figures, 0 },
     { "line of the scan", scan, 1 },
     { "line of the join", joined, 1 },
     { "line of sixteen routes, the last", sixteen, 16 },
     { "line of averages over a joined pair", figure_join, 1 },
-    { "line of seven nested picks", nested_read, 1 },
+    { "line of seven nested picks", nested_picks, 1 },
+    { "line of such averages", deep_figures, 1 },
 #ifndef CHIP
     { "worst: comparisons of left with right", worst_pair, 0 },
     { "worst: comparisons of right with a number", worst_number, 0 },

@@ -1,9 +1,9 @@
-"""retarget.py IN.ll OUT.ll [NOINLINE ..]: the compiler's module for a Cortex-M0, with what it leaves unsaid said.
+"""retarget.py IN.ll OUT.ll [NAME ..] [+NAME ..]: the compiler's module for a Cortex-M0, with what it leaves unsaid said.
 
 The module hands structs and slices over by pointer to a local of the caller, says nothing of that pointer, and copies what it points to at the start of each function. Said here, so that most of these copies go:
-- the target; code for size; the named functions are not inlined, for the sake of the stack;
+- the target; code for size; the named functions are not inlined, those with a + are, for the sake of the stack;
 - of a pointer that a function only copies from: how much it points to, that it is read only and is no other argument's (which holds at each call, or it is not said); of the pointer to the result: that it is no other argument's;
-- its alignment, where every call gives it;
+- its alignment, where every call gives it; where a function does not write its copy, it has none;
 - where the life of a local begins and ends, so that locals share room;
 - a copy between two locals, or a local and an argument, does not overlap.
 A measurement of the module and no supported target: outside every proof.
@@ -12,7 +12,8 @@ import re
 import sys
 
 lines = open(sys.argv[1]).read().split('\n')
-apart = set(sys.argv[3:])
+apart = {n for n in sys.argv[3:] if n[0] != '+'}
+within = {n[1:] for n in sys.argv[3:] if n[0] == '+'}
 head = re.compile(r'define (internal )?(.*?)@("[^"]+"|[\w.]+)\((.*)\) (#\d+) \{')
 copy = re.compile(r'  call void @llvm\.memmove\.p0\.p0\.i64\(ptr (%\w+), ptr (%\w+), i64 (\d+), i1 false\)')
 functions, name = {}, None
@@ -103,6 +104,59 @@ while changed:
                 if (b in others or b not in f['align']) and (callee, i) in lone:
                     lone.discard((callee, i))
 called = {c for f in functions.values() for c, _ in f['calls']}
+
+
+
+def elided(name, f, j):
+    """Whether the copy at line j makes a local that stands for an argument: the local is written by it alone, before any use, and the argument by nothing."""
+    m = copy.match(lines[j])
+    own, source = m.group(1), m.group(2)
+    i = int(source[2:])
+    if (name, i) not in lone or (name, i) in results or own not in f['align'] or f['align'][own] > aligns.get((name, i), 1):
+        return False
+    parts = {v for v, (b, _) in f['base'].items() if b == own}
+    for k in range(f['at'] + 1, f['end']):
+        line = lines[k]
+        if k <= j and k > f['at'] + 1 and re.match(r'\S.*:', line):
+            return False
+        if k == j or not parts & set(re.findall(r'%\w+', line)):
+            continue
+        if re.match(r'  %\w+ = (alloca|getelementptr|load|icmp)', line):
+            if k < j and 'alloca' not in line and 'getelementptr' not in line:
+                return False
+            continue
+        if k < j:
+            return False
+        m = copy.match(line)
+        if m:
+            if m.group(1) in parts:
+                return False
+        elif re.match(r'  store ', line):
+            if line.split(', ptr ')[1].split(',')[0] in parts:
+                return False
+        elif 'call ' in line:
+            m = re.search(r'call [^@]*@("[^"]+"|[\w.]+)\((.*)\)', line)
+            for n, a in enumerate(m.group(2).split(', ')):
+                if a.split(' ')[-1] in parts and ((m.group(1), n) not in sizes or (m.group(1), n) in results):
+                    return False
+        else:
+            return False
+    for k in range(f['at'] + 1, f['end']):
+        if k == j or re.match(r'  %s = alloca ' % re.escape(own), lines[k]):
+            lines[k] = ''
+        else:
+            lines[k] = re.sub(r'%s\b' % re.escape(own), source, lines[k])
+    for v in parts:
+        f['base'][v] = (source, f['base'][v][1])
+    f['copies'].remove(j)
+    return True
+
+
+# A function's own copy of an argument that it only reads is the argument itself: no parameter is mutable in the sources.
+for name, f in functions.items():
+    f['end'] = next(i for i in range(f['at'], len(lines)) if lines[i] == '}')
+    while any(elided(name, f, j) for j in list(f['copies']) if re.match(r'%a\d+$', copy.match(lines[j]).group(2))):
+        pass
 for name, f in functions.items():
     for i in f['copies']:
         m = copy.match(lines[i])
@@ -125,7 +179,7 @@ for name, f in functions.items():
             p = 'ptr%s %%a%d' % (said, i)
         params.append(p)
     m = head.match(lines[f['at']])
-    mark = '#9' if name.strip('"') in apart else m.group(5)
+    mark = '#9' if name.strip('"') in apart else '#8' if name.strip('"') in within else m.group(5)
     lines[f['at']] = 'define internal %s@%s(%s) %s {' % (m.group(2), name, ', '.join(params), mark)
 
 
@@ -188,7 +242,7 @@ for kind in 'start', 'end':
         text += '\ndeclare void @llvm.lifetime.%s.p0(ptr captures(none)) #1\n' % kind
 text = re.sub(r'^target datalayout.*', 'target datalayout = "e-m:e-p:32:32-Fi8-i64:64-v128:64:128-a:0:32-n32-S64"', text, flags=re.M)
 text = re.sub(r'^target triple.*', 'target triple = "thumbv6m-unknown-none-eabi"', text, flags=re.M)
-text = re.sub(r'^attributes #0 = .*', 'attributes #0 = { nounwind optsize minsize }\nattributes #9 = { nounwind optsize minsize noinline }', text, flags=re.M)
+text = re.sub(r'^attributes #0 = .*', 'attributes #0 = { nounwind optsize minsize }\nattributes #9 = { nounwind optsize minsize noinline }\nattributes #8 = { nounwind optsize minsize alwaysinline }', text, flags=re.M)
 if '@llvm.memcpy.p0.p0.i64(ptr' in text and 'declare void @llvm.memcpy' not in text:
     text += '\ndeclare void @llvm.memcpy.p0.p0.i64(ptr noalias writeonly captures(none), ptr noalias readonly captures(none), i64, i1 immarg) #1\n'
 open(sys.argv[2], 'w').write(text)

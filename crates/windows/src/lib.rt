@@ -204,15 +204,16 @@ fn store(cells: &mut [i64], at: usize, a: Answer)
     requires { ⌜ at < 2 ^ 63 ⌝ }
     ensures { λ _. ⌜ now (cells .exit) ≡ sets (now (cells .entry)) at (row-cells (row-of a)) ⌝ }
 {
+    if at + 1 < cells.len() {
+        let figure = a.figure;
+        cells[at] = a.end as i64;
+        cells[at + 1] = figure;
+        return;
+    }
     if cells.len() <= at {
         return;
     }
     cells[at] = a.end as i64;
-    if cells.len() <= at + 1 {
-        return;
-    }
-    let figure = a.figure;
-    cells[at + 1] = figure;
 }
 
 // An answer row behind those before it, where the conditions hold; how many there are then.
