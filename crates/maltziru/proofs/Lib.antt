@@ -1,1 +1,4 @@
 pub mod Said
+pub mod Lists
+pub mod Catalogues
+pub mod Demands

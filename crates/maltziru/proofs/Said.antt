@@ -43,7 +43,7 @@ caller-later h k = h ∙ ap caller-said k
 pub stream-called : {names names′ : List ℕ} {line : Bytes} {v : Verdict} {n : ℕ} → Declares names line names′ v → n ≡ said v → StreamCall names line names′ n
 stream-called d e = record { verdict = _; call = d; says = e }
 
-same-ledger : (e : Entered) {r : LedgerReply} → r ≡ ledger-said e → e .ledger ≡ r .ledger
+pub same-ledger : (e : Entered) {r : LedgerReply} → r ≡ ledger-said e → e .ledger ≡ r .ledger
 unfolding ledger-said
 same-ledger e h = sym (ap (λ (x : LedgerReply). x .ledger) h)
 
