@@ -41,7 +41,7 @@ some-number ManyRoutes = refl
 some-number NoRoom = refl
 
 -- a grant is kept where the verdict says so
-kept-after : (v : Verdict) (gs : List Grant) (g : Grant) → grants-kept (said v) gs g ≡ grants-after v gs g
+pub kept-after : (v : Verdict) (gs : List Grant) (g : Grant) → grants-kept (said v) gs g ≡ grants-after v gs g
 unfolding grants-kept grants-after
 kept-after Accepted gs g = refl
 kept-after (Refused f) gs g = rw (some-number f) refl

@@ -47,7 +47,7 @@ pub same-ledger : (e : Entered) {r : LedgerReply} → r ≡ ledger-said e → e 
 unfolding ledger-said
 same-ledger e h = sym (ap (λ (x : LedgerReply). x .ledger) h)
 
-same-number : (e : Entered) {r : LedgerReply} → r ≡ ledger-said e → r .refusal ≡ said (e .verdict)
+pub same-number : (e : Entered) {r : LedgerReply} → r ≡ ledger-said e → r .refusal ≡ said (e .verdict)
 unfolding ledger-said
 same-number e h = ap (λ (x : LedgerReply). x .refusal) h
 

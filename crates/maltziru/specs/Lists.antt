@@ -6,17 +6,22 @@ use Prim.Native.Nat.{ℕ}
 use lib.IntN.{ℤ}
 use lib.Dec.{eqb}
 use lib.ListN.{length}
+use Rattle.refusal.specs.Numbers.{verdict-of}
+use Rattle.refusal.specs.Checks.{Check, first}
 use Rattle.syntax.specs.Grammar.{Bytes}
 use Rattle.syntax.specs.Readers.{parse-query}
 use Rattle.calls.specs.Asking.{with-route}
-use Rattle.calls.specs.Calls.{stream, clock, row, clear, clock-line, row-line, clear-line}
+use Rattle.calls.specs.Calls.{stream, clock, row, clear, clock-line, row-line, clear-line, caller-table}
 use Rattle.calls.specs.Events.{Event, call, grant, caller, query}
 use Rattle.ledger.specs.Records.{Memory, with-ledger, with-names}
-use Rattle.ledger.specs.Calls.{clock-call, clear-call}
-use Rattle.record_lines.specs.Calls.{clock-line-call, clear-line-call}
+use Rattle.stream_line.specs.Declaring.{declare-table}
+use Rattle.ledger.specs.Calls.{clock-table, clock-call, row-table, clear-table, clear-call}
+use Rattle.record_lines.specs.Calls.{clock-line-table, clock-line-call, row-line-table, clear-line-table, clear-line-call}
 use Rattle.caller.specs.declared.Caller.{Caller}
 use Rattle.caller.specs.Lines.{identified}
 use Rattle.grant.specs.declared.Grant.{Grant}
+use Rattle.grant.specs.Catalogues.{catalogue-of}
+use Rattle.grant_line.specs.Granting.{grant-table}
 use Rattle.history.specs.Fixtures.{Store, with-memory, with-grants, with-caller}
 use Rattle.ask.specs.declared.Reply.{Reply}
 use Rattle.ask.specs.Replies.{Replies}
@@ -24,7 +29,7 @@ use Rattle.ask.specs.Asking.{Lending, asked, lined}
 use Rattle.maltziru.specs.declared.LedgerReply.{LedgerReply}
 use Rattle.maltziru.specs.declared.GrantReply.{GrantReply}
 use Rattle.maltziru.specs.declared.CallerReply.{CallerReply}
-use Rattle.maltziru.specs.Calls.{ledger-said, caller-said, StreamCall, RowCalled, RowLineCalled, GrantCall}
+use Rattle.maltziru.specs.Calls.{said, ledger-said, caller-said, StreamCall, RowCalled, RowLineCalled, GrantCall}
 
 -- the program keeps a grant behind the others where 0 was returned
 unfoldable pub grants-kept : ℕ → List Grant → Grant → List Grant
@@ -54,3 +59,20 @@ pub data Called : Event → Store → Store → ℕ → Type 0 where
 pub data Calls : Store → List Event → Store → Type 0 where
   done : {s : Store} → Calls s [] s
   then : {e : Event} {es : List Event} {s t u : Store} {n : ℕ} → Called e s t n → Calls t es u → Calls s (e ∷ es) u
+
+-- the whole table of a call, over whatever the program had; that of a query is `asked-table` or `lined-table`
+unfoldable pub table-of : Event → Store → List Check
+table-of (call (stream bs)) s = declare-table (s .memory .names) bs
+table-of (call (clock t)) s = clock-table (s .memory .ledger) t
+table-of (call (row i vs)) s = row-table (s .memory) i vs
+table-of (call clear) s = clear-table (s .memory .ledger)
+table-of (call (clock-line bs)) s = clock-line-table (s .memory .ledger) bs
+table-of (call (row-line bs)) s = row-line-table (s .memory) bs
+table-of (call (clear-line bs)) s = clear-line-table (s .memory .ledger) bs
+table-of (grant bs) s = grant-table (s .memory .names) (catalogue-of (s .memory .names) (s .grants) (s .words)) (s .words) bs
+table-of (caller bs) s = caller-table bs
+table-of query s = []
+
+-- 0 where no check fails, or the number of the first that does
+unfoldable pub first-number : List Check → ℕ
+first-number cs = said (verdict-of (first cs))

@@ -1,0 +1,131 @@
+-- Demand 1, of the calls for C: what Demands states, call by call.
+use mathlib.Core.Path.{_≡_, refl, sym, ap, _∙_, subst}
+use mathlib.Core.List.{List}
+use Prim.Native.Nat.{ℕ}
+use lib.IntN.{ℤ}
+use Rattle.refusal.specs.declared.Verdict.{Verdict}
+use Rattle.refusal.specs.declared.Verdict.the-variants.{Accepted, Refused}
+use Rattle.refusal.specs.Numbers.{verdict-of}
+use Rattle.refusal.specs.Checks.{Check, first}
+use Rattle.syntax.specs.Grammar as G
+use Rattle.syntax.specs.Grammar.{Bytes}
+use Rattle.syntax.specs.Readers.{parse-as}
+use Rattle.calls.specs.Events.{Event, query}
+use Rattle.calls.specs.Calls as D
+use Rattle.stream_line.specs.Declaring.{names-after}
+use Rattle.ledger.specs.declared.Ledger.{Ledger}
+use Rattle.ledger.specs.declared.Entered.{Entered}
+use Rattle.ledger.specs.Records.{Memory, with-ledger, with-names}
+use Rattle.ledger.specs.Calls.{entered, clock-call, clear-call, memory-after}
+use Rattle.record_lines.specs.Calls.{clock-line-call, clear-line-call}
+use Rattle.caller.specs.declared.Caller.{Caller}
+use Rattle.caller.specs.declared.Identified.{Identified}
+use Rattle.caller.specs.Lines.{outcome, identified}
+use Rattle.grant.specs.declared.Grant.{Grant}
+use Rattle.grant.proofs.Catalogues.{catalogue-length}
+use Rattle.grant_line.specs.Granting.{words-after, grants-after}
+use Rattle.history.specs.Fixtures.{Store, with-memory, with-grants, with-caller}
+use Rattle.maltziru.specs.declared.LedgerReply.{LedgerReply}
+use Rattle.maltziru.specs.declared.GrantReply.{GrantReply}
+use Rattle.maltziru.specs.declared.CallerReply.{CallerReply}
+use Rattle.maltziru.specs.Calls.{said, ledger-said, caller-said}
+use Rattle.maltziru.specs.Lists as C
+use Rattle.maltziru.specs.Lists.{grants-kept, Called, table-of, first-number}
+use Rattle.maltziru.proofs.Said.{same-ledger, same-number}
+use Rattle.maltziru.proofs.Lists.{kept-after}
+
+-- ---- the number that is returned
+
+entered-says : (v : Verdict) (new old : Ledger) → entered v new old .verdict ≡ v
+unfolding entered
+entered-says Accepted new old = refl
+entered-says (Refused f) new old = refl
+
+outcome-says : (v : Verdict) (new old : Caller) → outcome v new old .verdict ≡ v
+unfolding outcome
+outcome-says Accepted new old = refl
+outcome-says (Refused f) new old = refl
+
+pub says-first : {e : Event} {s t : Store} {n : ℕ} → Called e s t n → (e ≡ query → ⊥) → n ≡ first-number (table-of e s)
+unfolding first-number table-of clock-call clear-call clock-line-call clear-line-call identified caller-said
+says-first (C.stream-called c) o = c .says ∙ ap said (c .call .said)
+says-first (C.clock-called {s} {t} {r} h) o = same-number (clock-call (s .memory .ledger) t) h ∙ ap said (entered-says _ _ _)
+says-first (C.row-called c) o = c .says ∙ ap said (c .call .said)
+says-first (C.clear-called {s} {r} h) o = same-number (clear-call (s .memory .ledger)) h ∙ ap said (entered-says _ _ _)
+says-first (C.clock-line-called {s} {bs} {r} h) o = same-number (clock-line-call (s .memory .ledger) bs) h ∙ ap said (entered-says _ _ _)
+says-first (C.row-line-called c) o = c .says ∙ ap said (c .call .said)
+says-first (C.clear-line-called {s} {bs} {r} h) o = same-number (clear-line-call (s .memory .ledger) bs) h ∙ ap said (entered-says _ _ _)
+says-first (C.grant-called {s} {bs} {ws} {r} c) o =
+    ap (λ (x : GrantReply). x .refusal) (c .says) ∙ ap said (c .call .said _ (catalogue-length (s .memory .names) (s .grants) (s .words)))
+says-first (C.caller-called {s} {bs} {r} h) o = ap (λ (x : CallerReply). x .refusal) h ∙ ap said (outcome-says _ _ _)
+says-first (C.ask-called gs ws w bs cells h) o = absurd (o refl)
+says-first (C.line-called gs ws w n bs out h) o = absurd (o refl)
+
+-- ---- what a refusal leaves
+
+same-entered : (v : Verdict) (new old : Ledger) → (said v ≡ 0 → ⊥) → entered v new old .ledger ≡ old
+unfolding entered
+same-entered Accepted new old ne = absurd (ne refl)
+same-entered (Refused f) new old ne = refl
+
+same-outcome : (v : Verdict) (new old : Caller) → (said v ≡ 0 → ⊥) → outcome v new old .caller ≡ old
+unfolding outcome
+same-outcome Accepted new old ne = absurd (ne refl)
+same-outcome (Refused f) new old ne = refl
+
+same-memory : (v : Verdict) (old new : Memory) → (said v ≡ 0 → ⊥) → memory-after v old new ≡ old
+unfolding memory-after
+same-memory Accepted old new ne = absurd (ne refl)
+same-memory (Refused f) old new ne = refl
+
+same-names : (v : Verdict) (ns : List ℕ) (o : _) → (said v ≡ 0 → ⊥) → names-after v ns o ≡ ns
+unfolding names-after
+same-names Accepted ns o ne = absurd (ne refl)
+same-names (Refused f) ns o ne = refl
+
+same-words : (v : Verdict) (old new : List ℕ) → (said v ≡ 0 → ⊥) → words-after v old new ≡ old
+unfolding words-after
+same-words Accepted old new ne = absurd (ne refl)
+same-words (Refused f) old new ne = refl
+
+same-grants : (v : Verdict) (gs : List Grant) (g : Grant) → (said v ≡ 0 → ⊥) → grants-after v gs g ≡ gs
+unfolding grants-after
+same-grants Accepted gs g ne = absurd (ne refl)
+same-grants (Refused f) gs g ne = refl
+
+-- of a number that is not 0
+other : {n m : ℕ} → n ≡ m → (n ≡ 0 → ⊥) → m ≡ 0 → ⊥
+other e ne h = ne (e ∙ h)
+
+-- a ledger that stays leaves the store
+ledger-stays : (s : Store) {l : Ledger} → l ≡ s .memory .ledger → with-memory s (with-ledger (s .memory) l) ≡ s
+unfolding with-memory
+ledger-stays s e = ap (λ l. with-memory s (with-ledger (s .memory) l)) e
+
+pub refused-stays : {e : Event} {s t : Store} {n : ℕ} → Called e s t n → (n ≡ 0 → ⊥) → t ≡ s
+unfolding with-memory with-grants with-caller clock-call clear-call clock-line-call clear-line-call identified caller-said
+refused-stays (C.stream-called {s} c) ne = ap (λ ns. with-memory s (with-names (s .memory) ns)) (c .call .left ∙ same-names (c .verdict) _ _ (other (c .says) ne))
+refused-stays (C.clock-called {s} {t} {r} h) ne =
+    let e = clock-call (s .memory .ledger) t in
+    ledger-stays s (sym (same-ledger e h) ∙ same-entered _ _ _ (other (same-number e h ∙ ap said (entered-says _ _ _)) ne))
+refused-stays (C.row-called {s} c) ne = ap (λ m. with-memory s m) (c .call .left ∙ same-memory (c .verdict) _ _ (other (c .says) ne))
+refused-stays (C.clear-called {s} {r} h) ne =
+    let e = clear-call (s .memory .ledger) in
+    ledger-stays s (sym (same-ledger e h) ∙ same-entered _ _ _ (other (same-number e h ∙ ap said (entered-says _ _ _)) ne))
+refused-stays (C.clock-line-called {s} {bs} {r} h) ne =
+    let e = clock-line-call (s .memory .ledger) bs in
+    ledger-stays s (sym (same-ledger e h) ∙ same-entered _ _ _ (other (same-number e h ∙ ap said (entered-says _ _ _)) ne))
+refused-stays (C.row-line-called {s} c) ne = ap (λ m. with-memory s m) (c .call .left ∙ same-memory (c .verdict) _ _ (other (c .says) ne))
+refused-stays (C.clear-line-called {s} {bs} {r} h) ne =
+    let e = clear-line-call (s .memory .ledger) bs in
+    ledger-stays s (sym (same-ledger e h) ∙ same-entered _ _ _ (other (same-number e h ∙ ap said (entered-says _ _ _)) ne))
+refused-stays (C.grant-called {s} {bs} {ws} {r} c) ne =
+    let v = c .granted .verdict in
+    let ne′ : said v ≡ 0 → ⊥ = other (ap (λ (x : GrantReply). x .refusal) (c .says)) ne in
+    let k : grants-kept (r .refusal) (s .grants) (r .grant) ≡ s .grants =
+    ap (λ (x : GrantReply). grants-kept (x .refusal) (s .grants) (x .grant)) (c .says) ∙ kept-after v (s .grants) (c .granted .grant) ∙ same-grants v (s .grants) _ ne′ in
+    ap (λ gs. with-grants s gs ws) k ∙ ap (λ l. with-grants s (s .grants) l) (c .call .left ∙ same-words v _ _ ne′)
+refused-stays (C.caller-called {s} {bs} {r} h) ne =
+    ap (λ w. with-caller s w) (ap (λ (x : CallerReply). x .caller) h ∙ same-outcome _ _ _ (other (ap (λ (x : CallerReply). x .refusal) h ∙ ap said (outcome-says _ _ _)) ne))
+refused-stays (C.ask-called gs ws w bs cells h) ne = refl
+refused-stays (C.line-called gs ws w n bs out h) ne = refl
