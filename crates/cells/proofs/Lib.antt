@@ -1,4 +1,5 @@
 pub mod Columns
+pub mod Fours
 pub mod Keyed
 pub mod Tests
 pub mod Stored
