@@ -1,3 +1,4 @@
+pub mod Weights
 pub mod Comparing
 pub mod Sides
 pub mod Relating

@@ -34,7 +34,7 @@ use Rattle.cells.proofs.Columns.{lent-true}
 use Rattle.selection.specs.declared.Side.{Side}
 use Rattle.selection.specs.declared.Scope.{Scope}
 use Rattle.selection.specs.Scopes.{scope-columns, scope-row, paired, entry-at, profile-in}
-use Rattle.selection.specs.Evaluating.{relate, clock-size, side-at, column-end, moved-side, next-words, Room, left-time, time-at, Clock, side-value, Stands, Lent, wide, narrow, test-at, passing}
+use Rattle.selection.specs.Evaluating.{relate, clock-size, side-at, column-end, moved-side, next-words, Room, left-time, time-at, clock-at, Clock, side-value, Stands, Lent, wide, narrow, test-at, passing}
 use Rattle.selection.proofs.Comparing.{le-not, Turned}
 
 -- ---- a side as numbers at steps
@@ -145,6 +145,13 @@ module _ (sc : Scope) (ts : List ℕ) (vs : List ℤ) where
   unfolding side-at side-value
   valued-plain x m = record { each = λ i. rw (ne-eqb (x .kind) 2 m) }
 
+  pub valued-time : (x : Side) → x .kind ≡ 2 → Valued (clock-at sc ts) x sc ts vs
+  unfolding side-value clock-at
+  valued-time x e = record { each = λ i. rw e }
+
+  pub valued-self : (x : Side) → Valued (side-value x sc ts vs) x sc ts vs
+  valued-self x = record { each = λ i. refl }
+
   module _ (l r : Side) where
     -- the rows that are asked for
     abbrev answer : ℕ → Rows
@@ -189,6 +196,19 @@ module _ (sc : Scope) (ts : List ℕ) (vs : List ℤ) where
           ∙ bits-shift (relate head (side-at y ck vs) (side-at z ck vs)) (relate head (side-value l sc ts vs) (side-value r sc ts vs)) 0 from m
           (λ i k. let j : 0 + i ≡ i = omega arith in rw (j, ey, ez) (ap₂ (compares (numbered-op head)) (moved-value l from f c i k) (moved-value r from f c i k)))
           ∙ ap (bits (relate head (side-value l sc ts vs) (side-value r sc ts vs)) from) g
+
+-- the time's side, and what is asked of it
+module _ (sc : Scope) (ts : List ℕ) (vs : List ℤ) (head : ℕ) (r : Side) {x : Rows} where
+  pub times-timed : (l : Side) → l .kind ≡ 2 → x ≡ answer sc ts vs l r head → x ≡ rows-of (relate head (clock-at sc ts) (side-value r sc ts vs)) 0 (sc .rows)
+  unfolding compared-at
+  times-timed l k e =
+      e ∙ rows-alike (relate head (side-value l sc ts vs) (side-value r sc ts vs)) (relate head (clock-at sc ts) (side-value r sc ts vs)) 0 (sc .rows)
+      (λ i m n. ap (λ z. compares (numbered-op head) z (side-value r sc ts vs i)) (sym (valued-time sc ts vs l k .each i)))
+
+  pub times-valued : {g : ℕ → ℤ} → Valued g r sc ts vs → x ≡ rows-of (relate head (clock-at sc ts) g) 0 (sc .rows) → x ≡ rows-of (relate head (clock-at sc ts) (side-value r sc ts vs)) 0 (sc .rows)
+  unfolding compared-at
+  times-valued {g} a e =
+      e ∙ rows-alike (relate head (clock-at sc ts) g) (relate head (clock-at sc ts) (side-value r sc ts vs)) 0 (sc .rows) (λ i m n. ap (compares (numbered-op head) (clock-at sc ts i)) (a .each i))
 
 pub left-some : (sc : Scope) (ts : List ℕ) → sc .fixed < 512 → getD ts (sc .fixed) 0 ≡ left-time sc ts
 unfolding left-time paired
@@ -238,7 +258,7 @@ less-back : (a : ℕ) (z : ℤ) → ltZ z (pos a) ≡ true → ltZ (pos a) z ≡
 less-back a (pos m) e = let h : m < a = omega (arith, ltb-true m a e) in le-ltb a m (omega arith)
 less-back a (negsuc m) e = refl
 
-above : (o : Op) (a : ℕ) (z : ℤ) → ltZ z (pos a) ≡ true → compares o (pos a) z ≡ compares o (pos 1) (pos 0)
+pub above : (o : Op) (a : ℕ) (z : ℤ) → ltZ z (pos a) ≡ true → compares o (pos a) z ≡ compares o (pos 1) (pos 0)
 unfolding compares
 above eq a z e = rw (le-not (pos a) z, e)
 above ne a z e = rw (less-back a z e, e)

@@ -1,7 +1,7 @@
 -- What a comparison reads of each row, and conditions over the rows of a scope while they are evaluated.
 use mathlib.Core.Path.{_≡_}
 use mathlib.Core.List.{List, []}
-use mathlib.Core.Bool.{Bool, _&&_, _||_, cond}
+use mathlib.Core.Bool.{Bool, true, _&&_, _||_, cond}
 use Prim.Native.Nat.{ℕ, _+_, _*_, _-_, _≤_, _<_, min, max}
 use lib.IntN.{ℤ, pos}
 use lib.Dec.{T, leb, ltb, eqb}
@@ -60,6 +60,10 @@ left-time sc ts = cond (paired sc) (getD ts (sc .fixed) 0) 0
 -- the time of a row beside it
 unfoldable pub time-at : Scope → List ℕ → ℕ → ℕ
 time-at sc ts i = min (max (left-time sc ts) (getD ts (sc .stream * max-rows + i) 0)) top
+
+-- and as a value
+unfoldable pub clock-at : Scope → List ℕ → ℕ → ℤ
+clock-at sc ts i = pos (time-at sc ts i)
 
 -- times are copied as many at once as a word has bits
 abbrev pub clock-size : ℕ
@@ -147,6 +151,10 @@ in-span low high t = leb low t && (eqb high no-time || leb t high)
 
 unfoldable pub timed : List ℕ → ℕ → ℕ → ℕ → Bool
 timed ts low high i = in-span low high (getD ts i 0)
+
+-- what a first and a last time ask of one; above the highest there is no limit
+unfoldable pub in-limits : ℕ → ℕ → ℕ → Bool
+in-limits from to t = cond (leb from top) (leb from t) true && cond (leb to top) (leb t to) true
 
 -- a time is past the last one that is asked
 unfoldable pub past : ℕ → ℕ → Bool

@@ -17,7 +17,7 @@ ghost use Rattle.nodes.specs.Nodes.{unbiased, coded-term, numbered-op, node-of,
 ghost use Rattle.rows.specs.Masks.{one, bits, part, rows-of};
 ghost use Rattle.cells.specs.Columns.{strip, strip-lent};
 ghost use Rattle.selection.specs.Scopes.{times-fit, scope-fits, profile-in, cond-at, selected, selected-all, timely};
-ghost use Rattle.selection.specs.Evaluating.{relate, clock-size, side-at, column-end, moved-side, next-words, Room, left-time, Clock, side-value, Stands, Lent, left-named, wide, narrow, Taken, Leads, passing, list-passing, list-at, start-of, joined-of, in-span, timed, past, low-of, high-of};
+ghost use Rattle.selection.specs.Evaluating.{relate, clock-size, side-at, column-end, moved-side, next-words, Room, left-time, Clock, side-value, Stands, Lent, left-named, wide, narrow, Taken, Leads, passing, list-passing, list-at, start-of, joined-of, in-span, timed, past, low-of, high-of, in-limits, time-at, clock-at};
 use cells::Cell;
 use grant::Grant;
 use ledger::Ledger;
@@ -307,6 +307,17 @@ fn with_word(m: Rows, w: u32) -> Rows
     }
 }
 
+// The time as a side.
+fn clock_side() -> Side
+    ensures { λ r. ⌜ (r .kind ≡ 2) × (r .at ≡ 0) ⌝ }
+{
+    Side {
+        kind: Side::TIME,
+        at: 0,
+        value: 0,
+    }
+}
+
 // The rows where two sides compare so, of which one may be the time: a word at a time, so that few times are copied.
 fn compared_timed(head: u32, l: Side, r: Side, sc: Scope, times: &[u32], values: &[i32]) -> Rows
     requires { ⌜ Lent sc (now times) (now values) × (l .at < column-end) × (r .at < column-end) ⌝ }
@@ -343,16 +354,57 @@ fn by_column(head: u32, values: &[i32], p: u32, r: Side, n: u32) -> Rows
     by_value(head, values, p, Cell { v: r.value }, n)
 }
 
+// The rows whose time compares so with a value.
+fn by_time(head: u32, v: Cell, sc: Scope, times: &[u32]) -> Rows
+    requires { ⌜ (sc .stream < max-streams) × (sc .rows ≤ max-rows) × (places-size ≤ length (now times)) ⌝ }
+    ensures { λ x. ⌜ x ≡ rows-of (relate head (clock-at sc (now (times .entry))) (λ i. v .v)) 0 (sc .rows) ⌝ }
+{
+    if v.v < 0 {
+        return settled(head, Cell { v: 1 }, Cell { v: 0 }, sc.rows);
+    }
+    let t = v.v as u32;
+    if head == 1 {
+        return limited(t, t, sc, times);
+    }
+    if head == 2 {
+        return Rows::first(sc.rows).flip(limited(t, t, sc, times));
+    }
+    if head == 3 {
+        return Rows::first(sc.rows).flip(limited(t, Grant::NONE, sc, times));
+    }
+    if head == 4 {
+        return limited(Grant::NONE, t, sc, times);
+    }
+    if head == 5 {
+        return Rows::first(sc.rows).flip(limited(Grant::NONE, t, sc, times));
+    }
+    limited(t, Grant::NONE, sc, times)
+}
+
+// The rows whose time compares so with a side.
+fn by_times(head: u32, r: Side, sc: Scope, times: &[u32], values: &[i32]) -> Rows
+    requires { ⌜ Lent sc (now times) (now values) × (r .at < column-end) ⌝ }
+    ensures { λ x. ⌜ x ≡ rows-of (relate head (clock-at sc (now (times .entry))) (side-value r sc (now (times .entry)) (now (values .entry)))) 0 (sc .rows) ⌝ }
+{
+    if r.kind == Side::COLUMN {
+        return compared_timed(head, clock_side(), r, sc, times, values);
+    }
+    if r.kind == Side::TIME {
+        return compared_timed(head, clock_side(), r, sc, times, values);
+    }
+    by_time(head, Cell { v: r.value }, sc, times)
+}
+
 // The rows where two sides compare so.
 fn compared(head: u32, l: Side, r: Side, sc: Scope, times: &[u32], values: &[i32]) -> Rows
     requires { ⌜ Lent sc (now times) (now values) × (l .at < column-end) × (r .at < column-end) ⌝ }
     ensures { λ x. ⌜ x ≡ rows-of (relate head (side-value l sc (now (times .entry)) (now (values .entry))) (side-value r sc (now (times .entry)) (now (values .entry)))) 0 (sc .rows) ⌝ }
 {
     if l.kind == Side::TIME {
-        return compared_timed(head, l, r, sc, times, values);
+        return by_times(head, r, sc, times, values);
     }
     if r.kind == Side::TIME {
-        return compared_timed(head, l, r, sc, times, values);
+        return by_times(turned(head), l, sc, times, values);
     }
     if l.kind == Side::COLUMN {
         return by_column(head, values, l.at, r, sc.rows);
@@ -756,9 +808,9 @@ pub fn conditions(
 
 // ---- times
 
-// Whether a time is within two, as a bit.
-fn time_bit(t: u32, low: u32, high: u32) -> u32
-    ensures { λ r. ⌜ r ≡ one (in-span low high t) ⌝ }
+// A weight where a time is within two, or 0.
+fn time_weight(t: u32, low: u32, high: u32, w: u32) -> u32
+    ensures { λ r. ⌜ r ≡ one (in-span low high t) * w ⌝ }
 {
     if t < low {
         return 0;
@@ -766,34 +818,35 @@ fn time_bit(t: u32, low: u32, high: u32) -> u32
     if high < t {
         return 0;
     }
-    1
+    w
 }
 
-// Of at most 32 places from one on, those with such a time.
-fn time_word(times: &[u32], low: u32, high: u32, from: u32, n: u32) -> u32
-    requires { ⌜ (n ≤ 32) × (from ≤ 480) × (n ≤ length (now times) - from) ⌝ }
-    ensures { λ r. ⌜ r ≡ bits (timed (now (times .entry)) low high) from n ⌝ }
-{
-    let mut m: u32 = 0;
-    let mut i = n;
-    while 0 < i {
-        i -= 1;
-        m = m * 2 + time_bit(times[(from + i) as usize], low, high);
-    }
-    m
-}
-
-// Of at most 128 places from one on, those with such a time.
+// Of at most 128 places from one on, those with such a time. Places 32 apart are taken together, each with its own word.
 fn time_rows(times: &[u32], low: u32, high: u32, from: u32, n: u32) -> Rows
-    requires { ⌜ (from ≤ 384) × (n ≤ length (now times) - from) ⌝ }
+    requires { ⌜ (from ≤ 384) × (places-size ≤ length (now times)) ⌝ }
     ensures { λ r. ⌜ r ≡ rows-of (timed (now (times .entry)) low high) from n ⌝ }
 {
-    Rows {
-        a: time_word(times, low, high, from, rows::part(n, 0)),
-        b: time_word(times, low, high, from + 32, rows::part(n, 32)),
-        c: time_word(times, low, high, from + 64, rows::part(n, 64)),
-        d: time_word(times, low, high, from + 96, rows::part(n, 96)),
+    let k = rows::part(n, 0);
+    let mut a: u32 = 0;
+    let mut b: u32 = 0;
+    let mut c: u32 = 0;
+    let mut d: u32 = 0;
+    let mut i: u32 = 0;
+    while i < k {
+        let w = 1 << i;
+        a += time_weight(times[(from + i) as usize], low, high, w);
+        b += time_weight(times[(from + 32 + i) as usize], low, high, w);
+        c += time_weight(times[(from + 64 + i) as usize], low, high, w);
+        d += time_weight(times[(from + 96 + i) as usize], low, high, w);
+        i += 1;
     }
+    let m = Rows {
+        a: a,
+        b: b,
+        c: c,
+        d: d,
+    };
+    m.both(Rows::first(n))
 }
 
 // The first time that is asked of a row beside one of another time.
@@ -829,6 +882,20 @@ fn too_late(to: u32, left: u32) -> bool
     to < left
 }
 
+// The rows whose time is within two, of which each may be no limit.
+fn limited(from: u32, to: u32, sc: Scope, times: &[u32]) -> Rows
+    requires { ⌜ (sc .stream < max-streams) × (sc .rows ≤ max-rows) × (places-size ≤ length (now times)) ⌝ }
+    ensures { λ r. ⌜ r ≡ rows-of (λ i. in-limits from to (time-at sc (now (times .entry)) i)) 0 (sc .rows) ⌝ }
+{
+    let left = left_time(sc, times);
+    if too_late(to, left) {
+        return Rows::none();
+    }
+    let low = low_time(from, left);
+    let high = high_time(to);
+    time_rows(times, low, high, sc.stream * Scope::ROWS, sc.rows)
+}
+
 // Returns the rows of a scope whose time is within two, of which each may be no limit; none where memory is short.
 pub fn within(from: u32, to: u32, scope: Scope, times: &[u32]) -> Rows
     ensures { λ r. ⌜ r ≡ timely scope (now (times .entry)) from to ⌝ }
@@ -836,11 +903,5 @@ pub fn within(from: u32, to: u32, scope: Scope, times: &[u32]) -> Rows
     if !times_fit(scope, times) {
         return Rows::none();
     }
-    let left = left_time(scope, times);
-    if too_late(to, left) {
-        return Rows::none();
-    }
-    let low = low_time(from, left);
-    let high = high_time(to);
-    time_rows(times, low, high, scope.stream * Scope::ROWS, scope.rows)
+    limited(from, to, scope, times)
 }
