@@ -123,8 +123,6 @@ time-read ts low high at w e f = f ∙ ap (λ (x : ℕ). one (in-span low high x
 
 pub ruleset time-ends = (weight-early, weight-late, weight-within)
 
-pub ruleset time-reads = (time-read)
-
 module _ (from left : ℕ) where
   pub low-open : top < from → 0 ≡ low-of from left
   unfolding low-of
@@ -275,8 +273,6 @@ module _ (sc : Scope) (ts : List ℕ) (from to : ℕ) where
     pub within-whole : {x : Rows} → not b ≡ false → x ≡ rows-of asked 0 (sc .rows) → x ≡ timely sc ts from to
     unfolding timely
     within-whole h f = rw (sym e ∙ not-false b h) (f ∙ rows-alike asked (meets sc ts [] (time-limits from to)) 0 (sc .rows) (λ i c d. sym (row-ask [] i)))
-
-pub ruleset limited-ends = (limited-none, limited-some)
 
 pub ruleset within-ends = (within-short, within-whole)
 

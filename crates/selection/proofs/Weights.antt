@@ -32,8 +32,6 @@ module _ (p : ℕ → Bool) (from i : ℕ) {m b : ℕ} (h : i < 32) (e : m ≡ b
       go (yes k) z l = let u = pow-lt k in record { fits = omega arith }
       go (no k) z l = let s : i + 1 ≡ 32 = omega arith in let u : 2 ^ (i + 1) ≡ 2 ^ 32 = ap (λ (x : ℕ). 2 ^ x) s in record { fits = omega arith }
 
-pub ruleset weight-ends = (weight-none, weight-more, weight-fits)
-
 -- ---- fewer bits
 
 half : (b : Bool) (x : ℕ) → (one b + 2 * x) / 2 ≡ x

@@ -1,6 +1,11 @@
 use borrow.Author.Needs.{needs}
+use mathlib.Core.Path.{_≡_, ap, _∙_}
 use native.Mathlib.Omega.{arith}
-use Rattle.selection.proofs.Relating.{valued-fixed, times-timed, times-valued}
+use lib.IntN.{pos}
+use Rattle.cells.specs.Columns.{strip}
+use Rattle.selection.specs.Evaluating.{later-of}
+use Rattle.selection.proofs.Clocks.{clocked-rows}
+use Rattle.selection.proofs.Relating.{valued-column, valued-fixed, times-valued, times-self}
 use Rattle.selection.proofs.by_times.Statement.{statement}
 use Rattle.selection.proofs.by_times.Tie as tie
 
@@ -8,18 +13,20 @@ pub by-times-spec : {M : Type 1} → statement M
 by-times-spec =
     tie.close
     (tie.spec
-    {- clock-side-requires -}
+    {- left-time-requires -}
     (λ c κs. search needs)
-    {- compared-timed-requires -}
-    (λ c κs. let s = c .before .before .before .before in (s .pre .0, let e = c .clock-side .ensures .1 in omega arith, s .pre .1))
+    {- clock-requires -}
+    (λ c κs. search needs)
+    {- mul-by-clock -}
+    (λ c. search needs)
+    {- by-clock-requires -}
+    (λ c κs. let p = c .before .before .before .before .before .before .pre in (let k = p .0 .stream in omega arith, p .0 .times, p .1, p .0 .values))
     {- returns -}
-    (λ c. let a = c .before .before .before .before .before .args in times-timed (a .sc) (a .times .now) (a .values .now) (a .head) (a .r) _ (c .before .clock-side .ensures .0) (c .compared-timed .ensures))
-    {- clock-side-requires-2 -}
+    (λ c. let a = c .before .before .before .before .before .before .before .args in times-valued (a .sc) (a .times .now) (a .values .now) (a .head) (a .r) (valued-column (a .sc) (a .times .now) (a .values .now) (a .r) (c .before .before .before .before .if1 .taken)) (clocked-rows (a .sc) (a .times .now) (c .before .before .clock .ensures ∙ ap (later-of (pos 0)) (c .before .before .before .left-time .ensures)) (a .head) (strip (a .values .now) (a .r .at) 6) (a .sc .rows) (c .by-clock .ensures)))
+    {- settled-requires -}
     (λ c κs. search needs)
-    {- compared-timed-requires-2 -}
-    (λ c κs. let s = c .before .before .before .before .before .before in (s .pre .0, let e = c .clock-side2 .ensures .1 in omega arith, s .pre .1))
     {- returns-2 -}
-    (λ c. let a = c .before .before .before .before .before .before .before .args in times-timed (a .sc) (a .times .now) (a .values .now) (a .head) (a .r) _ (c .before .clock-side2 .ensures .0) (c .compared-timed2 .ensures))
+    (λ c. let a = c .before .before .before .before .before .before .args in times-self (a .sc) (a .times .now) (a .values .now) (a .head) (a .r) (c .before .if2 .taken) (c .settled .ensures))
     {- by-time-requires -}
     (λ c κs. let p = c .before .before .before .before .before .before .pre .0 in (p .stream, p .rows, p .times))
     {- returns-3 -}
