@@ -11,7 +11,7 @@ use mir.Syntax.{w32}
 use mir.Val.{ofZ, toZ, SFits}
 use mir.ValLaws.{toZ-ofZ}
 use borrow.Author.Tests.{ne-eqb, lt-ltb, le-ltb, le-leb, lt-leb}
-use Rattle.syntax.specs.Grammar.{eq, lt}
+use Rattle.syntax.specs.Grammar.{eq, lt, le, ge}
 use Rattle.model.specs.Meaning.{compares}
 use Rattle.nodes.specs.Nodes.{numbered-op}
 use Rattle.rows.specs.declared.Rows.{Rows}
@@ -39,6 +39,10 @@ not-and true true = refl
 not-and true false = refl
 not-and false true = refl
 not-and false false = refl
+
+not-not : (a : Bool) → not (not a) ≡ a
+not-not true = refl
+not-not false = refl
 
 ne-not : (x y : ℤ) → (ltZ x y || ltZ y x) ≡ not (leZ x y && leZ y x)
 ne-not x y = not-and (ltZ y x) (ltZ x y) ∙ sym (ap not (ap₂ _&&_ (le-not x y) (le-not y x)))
@@ -72,6 +76,24 @@ module _ (head : ℕ) (f g : ℕ → ℤ) (from n : ℕ) where
     unfolding numbered-op compared-at compares
     compared-ge a b c d e =
         denied (compared-at lt f g) (λ i. rw (ne-eqb head 1 a, ne-eqb head 2 b, ne-eqb head 3 c, ne-eqb head 4 d, ne-eqb head 5 e) (sym (le-not (g i) (f i)))) ex
+
+  -- by another two: not below, and not above
+  pub direct-le : {x : Rows} → head ≡ 4 → x ≡ rows-of (compared-at le f g) from n → x ≡ rows-of (relate head f g) from n
+  unfolding numbered-op
+  direct-le e h = rw e h
+
+  pub direct-ge : {x : Rows} → (head ≡ 1 → ⊥) → (head ≡ 2 → ⊥) → (head ≡ 3 → ⊥) → (head ≡ 4 → ⊥) → (head ≡ 5 → ⊥) → x ≡ rows-of (compared-at ge f g) from n → x ≡ rows-of (relate head f g) from n
+  unfolding numbered-op
+  direct-ge a b c d e h = rw (ne-eqb head 1 a, ne-eqb head 2 b, ne-eqb head 3 c, ne-eqb head 4 d, ne-eqb head 5 e) h
+
+  module _ {x y z : Rows} (ex : x ≡ first-rows n) where
+    pub denied-lt : head ≡ 3 → y ≡ rows-of (compared-at ge f g) from n → z ≡ flip-of x y → z ≡ rows-of (relate head f g) from n
+    unfolding numbered-op compared-at compares
+    denied-lt e = denied (compared-at ge f g) (λ i. rw e (ap not (le-not (g i) (f i)) ∙ not-not (ltZ (f i) (g i)))) ex
+
+    pub denied-gt : head ≡ 5 → y ≡ rows-of (compared-at le f g) from n → z ≡ flip-of x y → z ≡ rows-of (relate head f g) from n
+    unfolding numbered-op compared-at compares
+    denied-gt e = denied (compared-at le f g) (λ i. rw e (ap not (le-not (f i) (g i)) ∙ not-not (ltZ (g i) (f i)))) ex
 
 pub ruleset compared-ends = (compared-eq, compared-lt, compared-gt, compared-ne, compared-le, compared-ge)
 

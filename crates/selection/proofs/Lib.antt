@@ -1,4 +1,6 @@
+pub mod Weights
 pub mod Comparing
+pub mod Clocks
 pub mod Sides
 pub mod Relating
 pub mod Evaluating

@@ -1,20 +1,22 @@
 -- Rows within a first and a last time, and whether memory is lent for a scope.
-use mathlib.Core.Path.{_≡_, refl, sym, ap, ap₂, _∙_}
+use mathlib.Core.Path.{_≡_, refl, sym, ap, ap₂, _∙_, subst}
 use mathlib.Core.List.{List, [], _∷_, _++_, map}
 use mathlib.Core.Bool.{Bool, true, false, _&&_, _||_, not, cond}
 use mathlib.Core.Option.{Option, none, some}
 use Prim.Native.Nat.{ℕ, zero, suc, _+_, _*_, _-_, _<_, _≤_, min, max}
 use native.Mathlib.Decide.{decLt}
 use native.Mathlib.Omega.{arith}
-use lib.IntN.{ℤ, pos}
+use lib.IntN.{ℤ, pos, negsuc, natAbs}
+use lib.Signed.{ltZ, nonNeg, pos-natAbs}
 use lib.Dec.{T, leb, ltb, eqb, leb→le, ltb→lt}
 use lib.ListN.{length, getD}
 use mir.Syntax.{w32}
-use mir.Val.{Fits}
-use borrow.Author.Tests.{ne-eqb, le-leb, lt-leb, lt-ltb, le-ltb, ltb-false, not-true, not-false}
+use mir.Val.{Fits, SFits, ofZ, toZ}
+use mir.ValLaws.{toZ-ofZ}
+use borrow.Author.Tests.{ne-eqb, le-leb, lt-leb, lt-ltb, le-ltb, ltb-true, ltb-false, not-true, not-false}
 use Rattle.lists.specs.Lists.{every}
 use Rattle.lists.proofs.Laws.{true-T, and-l, and-r, parts}
-use Rattle.syntax.specs.Grammar.{Cond, ge, le}
+use Rattle.syntax.specs.Grammar.{Cond, Op, eq, ge, le}
 use Rattle.syntax.specs.Limits.{max-streams, max-rows, top}
 use Rattle.model.specs.Queries.{Col, Row, Compare}
 use Rattle.model.specs.Conditions.{true-of}
@@ -25,10 +27,13 @@ use Rattle.grant.specs.Grants.{no-time, limit-of}
 use Rattle.rows.specs.declared.Rows.{Rows}
 use Rattle.rows.specs.Masks.{one, rows-of, no-rows}
 use Rattle.rows.proofs.Masks.{rows-alike, rows-none, rows-shift}
+use Rattle.cells.specs.Columns.{compared-at}
 use Rattle.selection.specs.declared.Scope.{Scope}
 use Rattle.selection.specs.Scopes.{times-fit, scope-fits, scope-columns, scope-row, meets, time-limits, timely}
-use Rattle.selection.specs.Evaluating.{left-time, time-at, Lent, in-span, timed, past, low-of, high-of}
+use Rattle.selection.specs.Evaluating.{relate, left-time, time-at, Lent, in-span, timed, past, low-of, high-of, in-limits, clock-at}
+use Rattle.nodes.specs.Nodes.{numbered-op}
 use Rattle.selection.proofs.Sides.{row-time}
+use Rattle.selection.proofs.Relating.{above}
 
 -- ---- memory
 
@@ -71,20 +76,8 @@ module _ (sc : Scope) (ts : List ℕ) where
       and-first true b e = refl
       and-first false b e = e
 
-module _ (sc : Scope) (ts : List ℕ) {b : Bool} (e : b ≡ times-fit sc ts) (h : not b ≡ false) where
-  pub fit-places : places-size ≤ length ts
-  fit-places = times-parts sc ts (sym e ∙ not-false b h) .2
-
-  pub fit-start : Fits w32 (sc .stream * 128)
-  fit-start = let p = times-parts sc ts (sym e ∙ not-false b h) .0 in record { fits = omega arith }
-
-  pub fit-low : sc .stream * 128 ≤ 384
-  fit-low = let p = times-parts sc ts (sym e ∙ not-false b h) .0 in omega arith
-
-  pub fit-room : sc .rows ≤ length ts - sc .stream * 128
-  fit-room = let p = times-parts sc ts (sym e ∙ not-false b h) in let q = p .0 in let r = p .1 in let s = p .2 in omega arith
-
-pub ruleset fit-rooms = (fit-places, fit-start, fit-low, fit-room)
+pub fit-parts : (sc : Scope) (ts : List ℕ) {b : Bool} → b ≡ times-fit sc ts → not b ≡ false → (sc .stream < max-streams) × (sc .rows ≤ max-rows) × (places-size ≤ length ts)
+fit-parts sc ts {b} e h = times-parts sc ts (sym e ∙ not-false b h)
 
 pub ruleset fit-ends = (fit-stream, fit-rows, fit-times, fit-none, fit-values)
 
@@ -107,13 +100,28 @@ module _ (t low high : ℕ) where
       or-true true = refl
       or-true false = refl
 
-pub time-read : (ts : List ℕ) (low high at : ℕ) {b t : ℕ} → t ≡ getD ts at 0 → b ≡ one (in-span low high t) → b ≡ one (timed ts low high at)
+-- and a weight by it
+module _ (t low high w : ℕ) where
+  no-weight : 0 ≡ 0 * w
+  no-weight = omega arith
+
+  all-weight : w ≡ 1 * w
+  all-weight = omega arith
+
+  pub weight-early : t < low → 0 ≡ one (in-span low high t) * w
+  weight-early h = no-weight ∙ ap (λ (n : ℕ). n * w) (time-early t low high h)
+
+  pub weight-late : low ≤ t → high < t → t < 4294967296 → 0 ≡ one (in-span low high t) * w
+  weight-late h k l = no-weight ∙ ap (λ (n : ℕ). n * w) (time-late t low high h k l)
+
+  pub weight-within : low ≤ t → t ≤ high → w ≡ one (in-span low high t) * w
+  weight-within h k = all-weight ∙ ap (λ (n : ℕ). n * w) (time-within t low high h k)
+
+pub time-read : (ts : List ℕ) (low high at w : ℕ) {b t : ℕ} → t ≡ getD ts at 0 → b ≡ one (in-span low high t) * w → b ≡ one (timed ts low high at) * w
 unfolding timed
-time-read ts low high at e f = f ∙ ap (λ (x : ℕ). one (in-span low high x)) e
+time-read ts low high at w e f = f ∙ ap (λ (x : ℕ). one (in-span low high x) * w) e
 
-pub ruleset time-ends = (time-early, time-late, time-within)
-
-pub ruleset time-reads = (time-read)
+pub ruleset time-ends = (weight-early, weight-late, weight-within)
 
 module _ (from left : ℕ) where
   pub low-open : top < from → 0 ≡ low-of from left
@@ -171,9 +179,6 @@ every-join p (x ∷ xs) ys = ap (λ b. p x && b) (every-join p xs ys) ∙ and-as
     and-assoc false b c = refl
 
 -- what they ask of a time
-unfoldable pub in-limits : ℕ → ℕ → ℕ → Bool
-in-limits from to t = cond (leb from top) (leb from t) true && cond (leb to top) (leb t to) true
-
 pub limits-ask : (ds : List Col) (r : Row) (from to : ℕ) → every (holds ds r) (time-limits from to) ≡ in-limits from to (r .at)
 unfolding time-limits in-limits
 limits-ask ds r from to = every-join (holds ds r) (limit ge (limit-of from)) (limit le (limit-of to)) ∙ ap₂ _&&_ (first-limit ds r from) (last-limit ds r to)
@@ -234,35 +239,97 @@ module _ (sc : Scope) (ts : List ℕ) (from to : ℕ) where
   pub limits-any : (us vs : List ℤ) (i : ℕ) → meets sc ts us (time-limits from to) i ≡ meets sc ts vs (time-limits from to) i
   limits-any us vs i = row-ask us i ∙ sym (row-ask vs i)
 
+  -- whether the time of a row is within them
+  abbrev asked : ℕ → Bool
+  asked i = in-limits from to (time-at sc ts i)
+
+  module _ {left : ℕ} {d : Bool} (el : left ≡ left-time sc ts) (ed : d ≡ past to left) where
+    late-is : (v : Bool) → d ≡ v → past to (left-time sc ts) ≡ v
+    late-is v f = ap (past to) (sym el) ∙ sym ed ∙ f
+
+    pub limited-none : {x : Rows} → d ≡ true → x ≡ no-rows → x ≡ rows-of asked 0 (sc .rows)
+    unfolding in-limits time-at
+    limited-none {x} l f = f ∙ rows-none 0 (sc .rows) ∙ rows-alike (λ i. false) asked 0 (sc .rows) (λ i c d. sym (late i))
+      where
+        late : (i : ℕ) → in-limits from to (min (max (left-time sc ts) (getD ts (sc .stream * max-rows + i) 0)) top) ≡ false
+        late i =
+            ap (λ c. cond (leb from top) (leb from (min (max (left-time sc ts) (getD ts (sc .stream * max-rows + i) 0)) top)) true && c) (never-met from to (left-time sc ts) (getD ts (sc .stream * max-rows + i) 0) (late-is true l))
+            ∙ and-none (cond (leb from top) (leb from (min (max (left-time sc ts) (getD ts (sc .stream * max-rows + i) 0)) top)) true)
+
+    pub limited-some : {low high : ℕ} {x : Rows} → d ≡ false → low ≡ low-of from left → high ≡ high-of to → x ≡ rows-of (timed ts low high) (sc .stream * 128) (sc .rows) → x ≡ rows-of asked 0 (sc .rows)
+    unfolding timed in-span in-limits time-at
+    limited-some {low} {high} {x} l g eh f = f ∙ sym (rows-shift asked (timed ts low high) (sc .stream * 128) (sc .rows) near)
+      where
+        near : (i : ℕ) → in-limits from to (min (max (left-time sc ts) (getD ts (sc .stream * max-rows + i) 0)) top) ≡ timed ts low high (sc .stream * 128 + i)
+        near i =
+            let t = getD ts (sc .stream * max-rows + i) 0 in
+            ap₂ _&&_ (first-met from to (left-time sc ts) t ∙ ap (λ (k : ℕ). leb k t) (ap (low-of from) (sym el) ∙ sym g)) (last-met from to (left-time sc ts) t (late-is false l) ∙ ap (λ (k : ℕ). eqb k no-time || leb t k) (sym eh))
+
   module _ {b : Bool} (e : b ≡ times-fit sc ts) where
     pub within-short : {x : Rows} → not b ≡ true → x ≡ no-rows → x ≡ timely sc ts from to
     unfolding timely
     within-short h f = rw (sym e ∙ not-true b h) f
 
-    module _ {left : ℕ} {d : Bool} (el : left ≡ left-time sc ts) (ed : d ≡ past to left) (h : not b ≡ false) where
-      late-is : (v : Bool) → d ≡ v → past to (left-time sc ts) ≡ v
-      late-is v f = ap (past to) (sym el) ∙ sym ed ∙ f
+    pub within-whole : {x : Rows} → not b ≡ false → x ≡ rows-of asked 0 (sc .rows) → x ≡ timely sc ts from to
+    unfolding timely
+    within-whole h f = rw (sym e ∙ not-false b h) (f ∙ rows-alike asked (meets sc ts [] (time-limits from to)) 0 (sc .rows) (λ i c d. sym (row-ask [] i)))
 
-      pub within-none : {x : Rows} → d ≡ true → x ≡ no-rows → x ≡ timely sc ts from to
-      unfolding timely in-limits time-at
-      within-none {x} l f =
-          rw (sym e ∙ not-false b h)
-          (f ∙ rows-none 0 (sc .rows) ∙ rows-alike (λ i. false) (meets sc ts [] (time-limits from to)) 0 (sc .rows) (λ i c d. sym (row-ask [] i ∙ late i)))
-        where
-          late : (i : ℕ) → in-limits from to (min (max (left-time sc ts) (getD ts (sc .stream * max-rows + i) 0)) top) ≡ false
-          late i =
-              ap (λ c. cond (leb from top) (leb from (min (max (left-time sc ts) (getD ts (sc .stream * max-rows + i) 0)) top)) true && c) (never-met from to (left-time sc ts) (getD ts (sc .stream * max-rows + i) 0) (late-is true l))
-              ∙ and-none (cond (leb from top) (leb from (min (max (left-time sc ts) (getD ts (sc .stream * max-rows + i) 0)) top)) true)
+pub ruleset within-ends = (within-short, within-whole)
 
-      pub within-some : {low high : ℕ} {x : Rows} → d ≡ false → low ≡ low-of from left → high ≡ high-of to → x ≡ rows-of (timed ts low high) (sc .stream * 128) (sc .rows) → x ≡ timely sc ts from to
-      unfolding timely timed in-span in-limits time-at
-      within-some {low} {high} {x} l g eh f =
-          rw (sym e ∙ not-false b h)
-          (f ∙ sym (rows-shift (meets sc ts [] (time-limits from to)) (timed ts low high) (sc .stream * 128) (sc .rows) (λ i. row-ask [] i ∙ near i)))
-        where
-          near : (i : ℕ) → in-limits from to (min (max (left-time sc ts) (getD ts (sc .stream * max-rows + i) 0)) top) ≡ timed ts low high (sc .stream * 128 + i)
-          near i =
-              let t = getD ts (sc .stream * max-rows + i) 0 in
-              ap₂ _&&_ (first-met from to (left-time sc ts) t ∙ ap (λ (k : ℕ). leb k t) (ap (low-of from) (sym el) ∙ sym g)) (last-met from to (left-time sc ts) t (late-is false l) ∙ ap (λ (k : ℕ). eqb k no-time || leb t k) (sym eh))
+-- ---- the time and a number, by these limits
 
-pub ruleset within-ends = (within-short, within-none, within-some)
+and-swap : (a b : Bool) → (a && b) ≡ (b && a)
+and-swap true true = refl
+and-swap true false = refl
+and-swap false true = refl
+and-swap false false = refl
+
+module _ (sc : Scope) (ts : List ℕ) (n : ℕ) (v : ℤ) (y : ℕ) (e : v ≡ pos y) (h : y ≤ top) {x : Rows} where
+  pub time-same : x ≡ rows-of (asked sc ts y y) 0 n → x ≡ rows-of (compared-at eq (clock-at sc ts) (λ i. v)) 0 n
+  unfolding in-limits compared-at clock-at compares
+  time-same f = f ∙ rows-alike (asked sc ts y y) (compared-at eq (clock-at sc ts) (λ i. v)) 0 n (λ i a b. rw (e, le-leb y top h) (and-swap (leb y (time-at sc ts i)) (leb (time-at sc ts i) y)))
+
+  pub time-first : x ≡ rows-of (asked sc ts y 4294967295) 0 n → x ≡ rows-of (compared-at ge (clock-at sc ts) (λ i. v)) 0 n
+  unfolding in-limits compared-at clock-at compares
+  time-first f = f ∙ rows-alike (asked sc ts y 4294967295) (compared-at ge (clock-at sc ts) (λ i. v)) 0 n (λ i a b. rw (e, le-leb y top h) (and-true (leb y (time-at sc ts i))))
+
+  pub time-last : x ≡ rows-of (asked sc ts 4294967295 y) 0 n → x ≡ rows-of (compared-at le (clock-at sc ts) (λ i. v)) 0 n
+  unfolding in-limits compared-at clock-at compares
+  time-last f = f ∙ rows-alike (asked sc ts 4294967295 y) (compared-at le (clock-at sc ts) (λ i. v)) 0 n (λ i a b. rw (e, le-leb y top h))
+
+-- a value that is not below 0, as a number
+module _ (v : ℤ) (f : SFits w32 v) where
+  abbrev read-back : ℤ
+  read-back = toZ w32 (ofZ w32 v)
+
+  back-fits : SFits w32 read-back
+  back-fits = subst (SFits w32) (sym (toZ-ofZ w32 v f)) f
+
+  module _ (h : ltZ read-back (pos 0) ≡ false) where
+    pub natural-cast : T (nonNeg read-back) × Fits w32 (natAbs read-back)
+    natural-cast = go read-back back-fits h
+      where
+        go : (z : ℤ) → SFits w32 z → ltZ z (pos 0) ≡ false → T (nonNeg z) × Fits w32 (natAbs z)
+        go (pos k) g l = let m = g .sfits in (tt, record { fits = omega arith })
+        go (negsuc k) g l = absurd (subst (λ b. T b) l tt)
+
+    pub natural-is : v ≡ pos (natAbs read-back)
+    natural-is = sym (pos-natAbs read-back (natural-cast .0) ∙ toZ-ofZ w32 v f)
+
+    pub natural-low : natAbs read-back ≤ top
+    natural-low = go read-back back-fits h
+      where
+        go : (z : ℤ) → SFits w32 z → ltZ z (pos 0) ≡ false → natAbs z ≤ top
+        go (pos k) g l = let m = g .sfits in omega arith
+        go (negsuc k) g l = absurd (subst (λ b. T b) l tt)
+
+  -- and one that is: below every time, as 0 is below 1
+  pub time-above : (head : ℕ) (sc : Scope) (ts : List ℕ) (n : ℕ) {x : Rows} → ltZ read-back (pos 0) ≡ true → x ≡ rows-of (relate head (λ i. pos 1) (λ i. pos 0)) 0 n → x ≡ rows-of (relate head (clock-at sc ts) (λ i. v)) 0 n
+  unfolding compared-at clock-at
+  time-above head sc ts n h e =
+      e ∙ rows-alike (relate head (λ i. pos 1) (λ i. pos 0)) (relate head (clock-at sc ts) (λ i. v)) 0 n
+      (λ i a b. sym (above (numbered-op head) (time-at sc ts i) v (go v (subst (λ z. ltZ z (pos 0) ≡ true) (toZ-ofZ w32 v f) h) (time-at sc ts i))))
+    where
+      go : (z : ℤ) → ltZ z (pos 0) ≡ true → (t : ℕ) → ltZ z (pos t) ≡ true
+      go (pos k) l t = absurd (let m = ltb-true k 0 l in omega arith)
+      go (negsuc k) l t = refl

@@ -1,18 +1,13 @@
--- Two sides of a comparison as numbers at steps through lists, and the times of rows as such a list.
+-- Two sides of a comparison by what each has in a row.
 use mathlib.Core.Path.{_≡_, refl, sym, ap, ap₂, _∙_}
 use mathlib.Core.List.{List, [], _∷_, map}
 use mathlib.Core.Bool.{Bool, true, false, _&&_, not, cond}
 use Prim.Native.Nat.{ℕ, _+_, _*_, _-_, _/_, _%_, _<_, _≤_, min, max}
-use native.Mathlib.Decide.{decLt}
 use native.Mathlib.Omega.{arith}
 use lib.IntN.{ℤ, pos, negsuc}
 use lib.Dec.{T, leb, ltb, eqb, eqb→eq, ltb→lt}
-use lib.ListN.{length, getD, set, length-set}
-use lib.Seq.{getD-set-same, getD-set-other}
+use lib.ListN.{length, getD}
 use lib.Signed.{ltZ}
-use mir.Syntax.{w32}
-use mir.Val.{toZ}
-use mir.ValLaws.{toZ-pos}
 use borrow.Author.Tests.{eq-eqb, ne-eqb, lt-ltb, le-ltb, le-leb, ltb-true, ltb-false}
 use Rattle.lists.specs.Lists.{count-from, same-list}
 use Rattle.lists.proofs.Laws.{or-cases, true-T, and-l, and-r}
@@ -26,107 +21,20 @@ use Rattle.ledger.specs.Records.{values-size}
 use Rattle.nodes.specs.declared.Node.{Node}
 use Rattle.nodes.specs.Nodes.{unbiased, coded-term, numbered-op, node-compare}
 use Rattle.rows.specs.declared.Rows.{Rows}
-use Rattle.rows.specs.Masks.{bits, part, rows-of}
-use Rattle.rows.proofs.Masks.{rows-alike, bits-shift}
-use Rattle.rows.proofs.Loops.{rows-from-start}
+use Rattle.rows.specs.Masks.{rows-of}
+use Rattle.rows.proofs.Masks.{rows-alike}
 use Rattle.cells.specs.Columns.{strip, strip-lent, compared-at}
 use Rattle.cells.proofs.Columns.{lent-true}
 use Rattle.selection.specs.declared.Side.{Side}
 use Rattle.selection.specs.declared.Scope.{Scope}
 use Rattle.selection.specs.Scopes.{scope-columns, scope-row, paired, entry-at, profile-in}
-use Rattle.selection.specs.Evaluating.{relate, clock-size, side-at, column-end, moved-side, next-words, Room, left-time, time-at, Clock, side-value, Stands, Lent, wide, narrow, test-at, passing}
+use Rattle.selection.specs.Evaluating.{relate, column-end, left-time, time-at, clock-at, side-value, Stands, wide, narrow, test-at, passing}
 use Rattle.selection.proofs.Comparing.{le-not, Turned}
 
--- ---- a side as numbers at steps
-
-pub record Sided (xs : List ℤ) (p s : ℕ) (x : Side) (ck vs : List ℤ) : Type 0 where
-  pub each : (i : ℕ) → strip xs p s i ≡ side-at x ck vs i
-
-module _ (x : Side) (ck vs : List ℤ) where
-  pub sided-column : x .kind ≡ 1 → Sided vs (x .at) 6 x ck vs
-  unfolding strip side-at
-  sided-column e = record { each = λ i. rw e }
-
-  pub sided-time : x .kind ≡ 2 → Sided ck 0 1 x ck vs
-  unfolding strip side-at
-  sided-time e = record { each = λ i. let z : 0 + i * 1 ≡ i = omega arith in rw e (ap (λ (k : ℕ). getD ck k (pos 0)) z) }
-
-  fixed-at : (i : ℕ) → (x .kind ≡ 1 → ⊥) → (x .kind ≡ 2 → ⊥) → side-at x ck vs i ≡ x .value
-  unfolding side-at
-  fixed-at i n m = rw (ne-eqb (x .kind) 1 n, ne-eqb (x .kind) 2 m)
-
-  pub sided-fixed : {xs : List ℤ} → (x .kind ≡ 1 → ⊥) → (x .kind ≡ 2 → ⊥) → xs ≡ x .value ∷ [] → Sided xs 0 0 x ck vs
-  unfolding strip
-  sided-fixed n m e = record { each = λ i. let z : 0 + i * 0 ≡ 0 = omega arith in ap₂ (λ (l : List ℤ) (k : ℕ). getD l k (pos 0)) e z ∙ sym (fixed-at i n m) }
-
--- what is read of it is lent
-module _ {x : Side} {n : ℕ} {ck vs : List ℤ} (h : Room x n ck vs) where
-  pub column-lent : strip-lent (length vs) (x .at) 6 n ≡ true
-  column-lent =
-      let b = h .near in
-      let c = h .values in
-      lent-true vs (x .at) 6 n (h .few) (omega arith) (omega arith) (λ k. let a = h .column k in omega arith)
-
-  pub time-lent : x .kind ≡ 2 → strip-lent (length ck) 0 1 n ≡ true
-  time-lent e = let c = h .clock e in lent-true ck 0 1 n (h .few) (omega arith) (omega arith) (λ k. omega arith)
-
-  pub single-lent : {xs : List ℤ} {v : ℤ} → xs ≡ v ∷ [] → strip-lent (length xs) 0 0 n ≡ true
-  single-lent {xs} e = let z : length xs ≡ 1 = ap length e in lent-true xs 0 0 n (h .few) (omega arith) (omega arith) (λ k. omega arith)
+-- ---- sides
 
 pub plain-lent : (vs : List ℤ) (p n : ℕ) → n ≤ max-rows → p < column-end → values-size ≤ length vs → strip-lent (length vs) p 6 n ≡ true
 plain-lent vs p n h k l = lent-true vs p 6 n h (omega arith) (omega arith) (λ m. omega arith)
-
-module _ (head n : ℕ) (ck vs : List ℤ) where
-  pub against-end : (f : ℕ → ℤ) (r : Side) {x : Rows} {ys : List ℤ} {q t : ℕ} → x ≡ rows-of (relate head f (strip ys q t)) 0 n → Sided ys q t r ck vs → x ≡ rows-of (relate head f (side-at r ck vs)) 0 n
-  unfolding compared-at
-  against-end f r {ys = ys} {q = q} {t = t} e b = e ∙ rows-alike (relate head f (strip ys q t)) (relate head f (side-at r ck vs)) 0 n (λ i k l. ap (compares (numbered-op head) (f i)) (b .each i))
-
-  pub against-value : (f : ℕ → ℤ) (r : Side) {v : ℤ} {x : Rows} → x ≡ rows-of (relate head f (λ i. v)) 0 n → v ≡ r .value → (r .kind ≡ 1 → ⊥) → (r .kind ≡ 2 → ⊥) → x ≡ rows-of (relate head f (side-at r ck vs)) 0 n
-  unfolding compared-at
-  against-value f r {v = v} e z a b = e ∙ rows-alike (relate head f (λ i. v)) (relate head f (side-at r ck vs)) 0 n (λ i k l. ap (compares (numbered-op head) (f i)) (z ∙ sym (fixed-at r ck vs i a b)))
-
-  pub sided-end : (l r : Side) {x : Rows} {xs : List ℤ} {p s : ℕ} → x ≡ rows-of (relate head (strip xs p s) (side-at r ck vs)) 0 n → Sided xs p s l ck vs → x ≡ rows-of (relate head (side-at l ck vs) (side-at r ck vs)) 0 n
-  unfolding compared-at
-  sided-end l r {xs = xs} {p = p} {s = s} e a =
-      e ∙ rows-alike (relate head (strip xs p s) (side-at r ck vs)) (relate head (side-at l ck vs) (side-at r ck vs)) 0 n (λ i k m. ap (λ (z : ℤ). compares (numbered-op head) z (side-at r ck vs i)) (a .each i))
-
-pub ruleset side-ends = (sided-column, sided-time, sided-fixed, against-end, sided-end)
-
-pub ruleset by-column-ends = (sided-column, against-end)
-
-pub ruleset strip-rooms = (column-lent, time-lent, single-lent)
-
--- ---- times
-
-pub set-kept : {A : Type 0} {m : ℕ} (xs : List A) (i : ℕ) (x : A) → length xs ≡ m → length (set xs i x) ≡ m
-set-kept xs i x e = length-set xs i x ∙ e
-
-module _ {low from : ℕ} {ts : List ℕ} where
-  pub clock-start : {ck : List ℤ} → clock-size ≤ length ck → Clock low from 0 ts ck
-  clock-start h = record { size = h; each = λ j k. absurd (omega arith) }
-
-  pub clock-more : {i n : ℕ} {ck : List ℤ} {t u : ℕ} → Clock low from i ts ck → i < n → n ≤ clock-size → t ≡ getD ts (from + i) 0 → u ≡ min (max low t) top → u < 2147483648 → Clock low from (i + 1) ts (set ck i (toZ w32 u))
-  clock-more {i} {n} {ck} {t} {u} c h k e f g = record { size = size; each = λ j l. go j l (decLt j i) }
-    where
-      size : clock-size ≤ length (set ck i (toZ w32 u))
-      size = let z = length-set ck i (toZ w32 u) in let s = c .size in omega arith
-
-      here : toZ w32 u ≡ pos (min (max low (getD ts (from + i) 0)) top)
-      here = toZ-pos w32 u g ∙ ap pos (f ∙ ap (λ (x : ℕ). min (max low x) top) e)
-
-      go : (j : ℕ) → j < i + 1 → Dec (j < i) → getD (set ck i (toZ w32 u)) j (pos 0) ≡ pos (min (max low (getD ts (from + j) 0)) top)
-      go j l (yes m) = getD-set-other ck i j (toZ w32 u) (pos 0) (λ z. omega arith) ∙ c .each j m
-      go j l (no m) =
-          let z : j ≡ i = omega arith in
-          let s = c .size in
-          rw z (getD-set-same ck i (toZ w32 u) (pos 0) (omega arith) ∙ here)
-
-pub clock-done : {low from i n : ℕ} {ts : List ℕ} {ck : List ℤ} → Clock low from i ts ck → n ≤ i → Clock low from n ts ck
-clock-done c h = record { size = c .size; each = λ j l. c .each j (omega arith) }
-
-pub ruleset clock-ends = (set-kept, clock-start, clock-more, clock-done)
-
--- ---- sides with their times
 
 -- numbers that are a side's in each row
 pub record Valued (f : ℕ → ℤ) (x : Side) (sc : Scope) (ts : List ℕ) (vs : List ℤ) : Type 0 where
@@ -141,9 +49,12 @@ module _ (sc : Scope) (ts : List ℕ) (vs : List ℤ) where
   unfolding side-value
   valued-fixed x e n m = record { each = λ i. rw (ne-eqb (x .kind) 1 n, ne-eqb (x .kind) 2 m) e }
 
-  pub valued-plain : (x : Side) → (x .kind ≡ 2 → ⊥) → Valued (side-at x [] vs) x sc ts vs
-  unfolding side-at side-value
-  valued-plain x m = record { each = λ i. rw (ne-eqb (x .kind) 2 m) }
+  pub valued-time : (x : Side) → x .kind ≡ 2 → Valued (clock-at sc ts) x sc ts vs
+  unfolding side-value clock-at
+  valued-time x e = record { each = λ i. rw e }
+
+  pub valued-self : (x : Side) → Valued (side-value x sc ts vs) x sc ts vs
+  valued-self x = record { each = λ i. refl }
 
   module _ (l r : Side) where
     -- the rows that are asked for
@@ -160,35 +71,29 @@ module _ (sc : Scope) (ts : List ℕ) (vs : List ℤ) where
     compared-turned head k {f = f} {g = g} e t a b =
         e ∙ rows-alike (relate k f g) (relate head (side-value l sc ts vs) (side-value r sc ts vs)) 0 (sc .rows) (λ i m n. t (f i) (g i) ∙ ap₂ (compares (numbered-op head)) (b .each i) (a .each i))
 
-    module _ (h : Lent sc ts vs) where
-      pub room-moved : {ck : List ℤ} (x : Side) (from : ℕ) {y : Side} {m : ℕ} → y ≡ moved-side x from → x .at < column-end → from ≤ 96 → m ≡ part (sc .rows) from → clock-size ≤ length ck → Room y m ck vs
-      room-moved x from f b l e k = let a = h .rows in rw f (record { few = omega arith; near = omega arith; column = λ z. omega arith; values = h .values; clock = λ z. omega arith })
+-- the time and a side
+module _ (sc : Scope) (ts : List ℕ) (vs : List ℤ) (head : ℕ) (r : Side) {x : Rows} where
+  pub times-valued : {g : ℕ → ℤ} → Valued g r sc ts vs → x ≡ rows-of (relate head (clock-at sc ts) g) 0 (sc .rows) → x ≡ rows-of (relate head (clock-at sc ts) (side-value r sc ts vs)) 0 (sc .rows)
+  unfolding compared-at
+  times-valued {g} a e =
+      e ∙ rows-alike (relate head (clock-at sc ts) g) (relate head (clock-at sc ts) (side-value r sc ts vs)) 0 (sc .rows) (λ i m n. ap (compares (numbered-op head) (clock-at sc ts i)) (a .each i))
 
-      moved-value : (x : Side) (from : ℕ) {ck : List ℤ} {low m : ℕ} → low ≡ left-time sc ts → Clock low (sc .stream * max-rows + from) m ts ck → (i : ℕ) → i < m → side-at (moved-side x from) ck vs i ≡ side-value x sc ts vs (from + i)
-      unfolding side-at side-value time-at
-      moved-value x from {ck} e c i k =
-          let p : x .at + from * max-columns + i * max-columns ≡ x .at + (from + i) * max-columns = omega arith in
-          let q : sc .stream * max-rows + from + i ≡ sc .stream * max-rows + (from + i) = omega arith in
-          let z : getD ck i (pos 0) ≡ pos (min (max (left-time sc ts) (getD ts (sc .stream * max-rows + (from + i)) 0)) top) = c .each i k ∙ ap₂ (λ (x y : ℕ). pos (min (max x (getD ts y 0)) top)) e q in
-          ap₂ (λ (n : ℕ) (y : ℤ). cond (eqb (x .kind) 1) (getD vs n (pos 0)) (cond (eqb (x .kind) 2) y (x .value))) p z
+-- with itself it compares as 0 does
+self : (o : Op) (t : ℕ) → compares o (pos t) (pos t) ≡ compares o (pos 0) (pos 0)
+unfolding compares
+self eq t = rw (le-leb t t (omega arith))
+self ne t = rw (le-ltb t t (omega arith))
+self lt t = le-ltb t t (omega arith)
+self le t = le-leb t t (omega arith)
+self gt t = le-ltb t t (omega arith)
+self ge t = le-leb t t (omega arith)
 
-      -- a word of the rows that are asked for
-      abbrev asked : ℕ → ℕ → ℕ
-      asked head from = bits (relate head (side-value l sc ts vs) (side-value r sc ts vs)) from (part (sc .rows) from)
-
-      pub timed-none : (head from : ℕ) {m : ℕ} → m ≡ part (sc .rows) from → m ≡ 0 → 0 ≡ asked head from
-      unfolding bits
-      timed-none head from e f = rw (sym e ∙ f)
-
-      pub timed-some : (head from : ℕ) {ck : List ℤ} {low m : ℕ} {y z : Side} {x : Rows} → low ≡ left-time sc ts → m ≡ part (sc .rows) from → Clock low (sc .stream * max-rows + from) m ts ck
-          → y ≡ moved-side l from → z ≡ moved-side r from → x ≡ rows-of (relate head (side-at y ck vs) (side-at z ck vs)) 0 m → x .a ≡ asked head from
-      unfolding rows-of compared-at
-      timed-some head from {ck = ck} {m = m} {y = y} {z = z} f g c ey ez e =
-          let u : min (m - 0) 32 ≡ m = omega arith in
-          ap (λ (x : Rows). x .a) e ∙ ap (bits (relate head (side-at y ck vs) (side-at z ck vs)) 0) u
-          ∙ bits-shift (relate head (side-at y ck vs) (side-at z ck vs)) (relate head (side-value l sc ts vs) (side-value r sc ts vs)) 0 from m
-          (λ i k. let j : 0 + i ≡ i = omega arith in rw (j, ey, ez) (ap₂ (compares (numbered-op head)) (moved-value l from f c i k) (moved-value r from f c i k)))
-          ∙ ap (bits (relate head (side-value l sc ts vs) (side-value r sc ts vs)) from) g
+pub times-self : (sc : Scope) (ts : List ℕ) (vs : List ℤ) (head : ℕ) (r : Side) {x : Rows} → r .kind ≡ 2 → x ≡ rows-of (relate head (λ i. pos 0) (λ i. pos 0)) 0 (sc .rows)
+    → x ≡ rows-of (relate head (clock-at sc ts) (side-value r sc ts vs)) 0 (sc .rows)
+unfolding compared-at clock-at
+times-self sc ts vs head r k e =
+    times-valued sc ts vs head r (valued-time sc ts vs r k)
+    (e ∙ rows-alike (relate head (λ i. pos 0) (λ i. pos 0)) (relate head (clock-at sc ts) (clock-at sc ts)) 0 (sc .rows) (λ i a b. sym (self (numbered-op head) (time-at sc ts i))))
 
 pub left-some : (sc : Scope) (ts : List ℕ) → sc .fixed < 512 → getD ts (sc .fixed) 0 ≡ left-time sc ts
 unfolding left-time paired
@@ -200,45 +105,13 @@ left-none sc ts h = rw (le-ltb (sc .fixed) 512 h)
 
 pub ruleset left-times = (left-some, left-none)
 
--- ---- four words, one after the other, put in from above
-
-module _ (p : ℕ → Bool) (n : ℕ) where
-  abbrev word-at : ℕ → ℕ
-  word-at k = bits p (k * 32) (part n (k * 32))
-
-  pub record Filled (q : ℕ) (m : Rows) : Type 0 where
-    pub fourth : 1 ≤ q → m .d ≡ word-at (q - 1)
-    pub third : 2 ≤ q → m .c ≡ word-at (q - 2)
-    pub second : 3 ≤ q → m .b ≡ word-at (q - 3)
-    pub first : 4 ≤ q → m .a ≡ word-at (q - 4)
-
-  pub filled-none : (m : Rows) → Filled 0 m
-  filled-none m = record { fourth = λ h. absurd (omega arith); third = λ h. absurd (omega arith); second = λ h. absurd (omega arith); first = λ h. absurd (omega arith) }
-
-  pub filled-more : (q : ℕ) {m m′ : Rows} {w : ℕ} → Filled q m → w ≡ word-at q → m′ ≡ next-words m w → Filled (q + 1) m′
-  filled-more q f e g =
-      rw g record {
-        fourth = λ h. let z : q ≡ q + 1 - 1 = omega arith in e ∙ ap word-at z;
-        third = λ h. let z : q - 1 ≡ q + 1 - 2 = omega arith in f .fourth (omega arith) ∙ ap word-at z;
-        second = λ h. let z : q - 2 ≡ q + 1 - 3 = omega arith in f .third (omega arith) ∙ ap word-at z;
-        first = λ h. let z : q - 3 ≡ q + 1 - 4 = omega arith in f .second (omega arith) ∙ ap word-at z;
-      }
-
-  pub filled-all : (q : ℕ) {m : Rows} → Filled q m → q ≤ 4 → 4 ≤ q → m ≡ rows-of p 0 n
-  filled-all q {m} f h k =
-      let a : q - 4 ≡ 0 = omega arith in
-      let b : q - 3 ≡ 1 = omega arith in
-      let c : q - 2 ≡ 2 = omega arith in
-      let d : q - 1 ≡ 3 = omega arith in
-      rows-from-start p n refl refl refl refl (f .first k ∙ ap word-at a) (f .second (omega arith) ∙ ap word-at b) (f .third (omega arith) ∙ ap word-at c) (f .fourth (omega arith) ∙ ap word-at d)
-
 -- ---- a number of more than 32 bits is above every profile entry
 
 less-back : (a : ℕ) (z : ℤ) → ltZ z (pos a) ≡ true → ltZ (pos a) z ≡ false
 less-back a (pos m) e = let h : m < a = omega (arith, ltb-true m a e) in le-ltb a m (omega arith)
 less-back a (negsuc m) e = refl
 
-above : (o : Op) (a : ℕ) (z : ℤ) → ltZ z (pos a) ≡ true → compares o (pos a) z ≡ compares o (pos 1) (pos 0)
+pub above : (o : Op) (a : ℕ) (z : ℤ) → ltZ z (pos a) ≡ true → compares o (pos a) z ≡ compares o (pos 1) (pos 0)
 unfolding compares
 above eq a z e = rw (le-not (pos a) z, e)
 above ne a z e = rw (less-back a z e, e)

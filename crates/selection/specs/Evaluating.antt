@@ -1,9 +1,10 @@
 -- What a comparison reads of each row, and conditions over the rows of a scope while they are evaluated.
 use mathlib.Core.Path.{_≡_}
 use mathlib.Core.List.{List, []}
-use mathlib.Core.Bool.{Bool, _&&_, _||_, cond}
+use mathlib.Core.Bool.{Bool, true, _&&_, _||_, cond}
 use Prim.Native.Nat.{ℕ, _+_, _*_, _-_, _≤_, _<_, min, max}
 use lib.IntN.{ℤ, pos}
+use lib.Signed.{ltZ}
 use lib.Dec.{T, leb, ltb, eqb}
 use lib.ListN.{length, getD}
 use Rattle.lists.specs.Lists.{every, some?}
@@ -33,25 +34,9 @@ relate head f g = compared-at (numbered-op head) f g
 
 -- ---- one side of a comparison
 
--- 1 is a column that begins at a place of the values, 2 the time, any other the side's value; times stand in a list of their own
-unfoldable pub side-at : Side → List ℤ → List ℤ → ℕ → ℤ
-side-at x ck vs i = cond (eqb (x .kind) 1) (getD vs (x .at + i * max-columns) (pos 0)) (cond (eqb (x .kind) 2) (getD ck i (pos 0)) (x .value))
-
 -- columns begin in the first place of a stream
 abbrev pub column-end : ℕ
 column-end = (places-size - max-rows) * max-columns + max-columns
-
--- what is read of it is there for n rows
-pub record Room (x : Side) (n : ℕ) (ck vs : List ℤ) : Type 0 where
-  pub few : n ≤ max-rows
-  pub near : x .at < values-size
-  pub column : 0 < n → x .at + (n - 1) * max-columns < values-size
-  pub values : values-size ≤ length vs
-  pub clock : x .kind ≡ 2 → n ≤ length ck
-
--- the same side from a later row on
-abbrev pub moved-side : Side → ℕ → Side
-moved-side x from = record { kind = x .kind; at = x .at + from * max-columns; value = x .value }
 
 -- the time of the left row, 0 where there is none
 unfoldable pub left-time : Scope → List ℕ → ℕ
@@ -61,19 +46,19 @@ left-time sc ts = cond (paired sc) (getD ts (sc .fixed) 0) 0
 unfoldable pub time-at : Scope → List ℕ → ℕ → ℕ
 time-at sc ts i = min (max (left-time sc ts) (getD ts (sc .stream * max-rows + i) 0)) top
 
--- times are copied as many at once as a word has bits
-abbrev pub clock-size : ℕ
-clock-size = 32
+-- and as a value
+unfoldable pub clock-at : Scope → List ℕ → ℕ → ℤ
+clock-at sc ts i = pos (time-at sc ts i)
 
--- the times of n rows are in a list
-pub record Clock (low from n : ℕ) (ts : List ℕ) (ck : List ℤ) : Type 0 where
-  pub size : clock-size ≤ length ck
-  pub each : (i : ℕ) → i < n → getD ck i (pos 0) ≡ pos (min (max low (getD ts (from + i) 0)) top)
+-- the later of a time, at most the highest, and another
+unfoldable pub later-of : ℤ → ℕ → ℤ
+later-of low t = cond (ltZ (pos (min t top)) low) low (pos (min t top))
 
--- the words of a mask one place lower, and another as the last
-abbrev pub next-words : Rows → ℕ → Rows
-next-words m w = record { a = m .b; b = m .c; c = m .d; d = w }
+-- for rows whose times stand from a place on
+unfoldable pub clocked : ℤ → List ℕ → ℕ → ℕ → ℤ
+clocked low ts from i = later-of low (getD ts (from + i) 0)
 
+-- 1 is a column that begins at a place of the values, 2 the time, any other the side's value
 unfoldable pub side-value : Side → Scope → List ℕ → List ℤ → ℕ → ℤ
 side-value x sc ts vs i = cond (eqb (x .kind) 1) (getD vs (x .at + i * max-columns) (pos 0)) (cond (eqb (x .kind) 2) (pos (time-at sc ts i)) (x .value))
 
@@ -147,6 +132,10 @@ in-span low high t = leb low t && (eqb high no-time || leb t high)
 
 unfoldable pub timed : List ℕ → ℕ → ℕ → ℕ → Bool
 timed ts low high i = in-span low high (getD ts i 0)
+
+-- what a first and a last time ask of one; above the highest there is no limit
+unfoldable pub in-limits : ℕ → ℕ → ℕ → Bool
+in-limits from to t = cond (leb from top) (leb from t) true && cond (leb to top) (leb t to) true
 
 -- a time is past the last one that is asked
 unfoldable pub past : ℕ → ℕ → Bool

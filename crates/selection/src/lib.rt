@@ -4,9 +4,9 @@ ghost use mathlib.Core.List.{[], _∷_, map};
 ghost use mathlib.Core.Bool.{true};
 ghost use Prim.Native.Nat.{_≤_, _<_, _+_, _*_, _-_, _/_, _%_, min, max};
 ghost use lib.Dec.{T};
-ghost use lib.IntN.{ℤ};
+ghost use lib.IntN.{ℤ, pos};
 ghost use lib.ListN.{length, getD};
-ghost use Rattle.syntax.specs.Grammar.{test};
+ghost use Rattle.syntax.specs.Grammar.{eq, lt, gt, test};
 ghost use Rattle.syntax.specs.Limits.{max-streams, max-columns, max-rows, top};
 ghost use Rattle.model.specs.Queries.{column, col};
 ghost use Rattle.model.specs.Meaning.{compares};
@@ -15,9 +15,9 @@ ghost use Rattle.text.specs.Words.{name-of};
 ghost use Rattle.ledger.specs.Records.{places-size, values-size};
 ghost use Rattle.nodes.specs.Nodes.{unbiased, coded-term, numbered-op, node-of, node-at, node-compare, link, conditions-of};
 ghost use Rattle.rows.specs.Masks.{one, bits, part, rows-of};
-ghost use Rattle.cells.specs.Columns.{strip, strip-lent};
+ghost use Rattle.cells.specs.Columns.{strip, strip-lent, compared-at};
 ghost use Rattle.selection.specs.Scopes.{times-fit, scope-fits, profile-in, cond-at, selected, selected-all, timely};
-ghost use Rattle.selection.specs.Evaluating.{relate, clock-size, side-at, column-end, moved-side, next-words, Room, left-time, Clock, side-value, Stands, Lent, left-named, wide, narrow, Taken, Leads, passing, list-passing, list-at, start-of, joined-of, in-span, timed, past, low-of, high-of};
+ghost use Rattle.selection.specs.Evaluating.{relate, column-end, left-time, side-value, Stands, Lent, left-named, wide, narrow, Taken, Leads, passing, list-passing, list-at, start-of, joined-of, in-span, timed, past, low-of, high-of, in-limits, time-at, clock-at, later-of, clocked};
 use cells::Cell;
 use grant::Grant;
 use ledger::Ledger;
@@ -66,32 +66,33 @@ impl Side {
     const TIME: u32 = 2;
 }
 
-// How many times are copied at once.
-const CLOCK: usize = 32;
+// From the first cell of a column to its last.
+const COLUMN: usize = 763;
 
 // ---- two numbers for each row
 
-// The rows where the numbers of two lists compare so; 1 to 5 are `=` `/=` `<` `<=` `>`, any other is `>=`.
-fn related(head: u32, a: &[i32], p: u32, s: u32, b: &[i32], q: u32, t: u32, n: u32) -> Rows
-    requires { ⌜ (strip-lent (length (now a)) p s n ≡ true) × (strip-lent (length (now b)) q t n ≡ true) ⌝ }
-    ensures { λ x. ⌜ x ≡ rows-of (relate head (strip (now (a .entry)) p s) (strip (now (b .entry)) q t)) 0 n ⌝ }
+// The rows where two columns, which begin at places of the values, compare so; 1 to 5 are `=` `/=` `<` `<=` `>`, any other is `>=`.
+fn related(head: u32, values: &[i32], p: u32, q: u32, n: u32) -> Rows
+    requires { ⌜ (strip-lent (length (now values)) p max-columns n ≡ true) × (strip-lent (length (now values)) q max-columns n ≡ true) ⌝ }
+    ensures { λ x. ⌜ x ≡ rows-of (relate head (strip (now (values .entry)) p max-columns) (strip (now (values .entry)) q max-columns)) 0 n ⌝ }
 {
+    let s = Scope::COLUMNS;
     if head == 1 {
-        return cells::same_rows(a, p, s, b, q, t, n);
+        return cells::same_rows(values, p, s, values, q, s, n);
     }
     if head == 2 {
-        return Rows::first(n).flip(cells::same_rows(a, p, s, b, q, t, n));
+        return Rows::first(n).flip(cells::same_rows(values, p, s, values, q, s, n));
     }
     if head == 3 {
-        return cells::less_rows(a, p, s, b, q, t, n);
+        return cells::less_rows(values, p, s, values, q, s, n);
     }
     if head == 4 {
-        return Rows::first(n).flip(cells::less_rows(b, q, t, a, p, s, n));
+        return Rows::first(n).flip(cells::less_rows(values, q, s, values, p, s, n));
     }
     if head == 5 {
-        return cells::less_rows(b, q, t, a, p, s, n);
+        return cells::less_rows(values, q, s, values, p, s, n);
     }
-    Rows::first(n).flip(cells::less_rows(a, p, s, b, q, t, n))
+    Rows::first(n).flip(cells::less_rows(values, p, s, values, q, s, n))
 }
 
 // The rows where a column, which begins at a place of the values, compares so with a value.
@@ -173,78 +174,163 @@ fn settled(head: u32, x: Cell, y: Cell, n: u32) -> Rows
 
 // ---- two sides compared
 
-// A side's value as a list of one.
-fn single(x: Side) -> [i32; 1]
-    ensures { λ r. ⌜ r ≡ x .value ∷ [] ⌝ }
+// A time, at most the highest.
+fn capped(t: u32) -> u32
+    ensures { λ r. ⌜ r ≡ min t top ⌝ }
 {
-    [x.value]
-}
-
-// Of at most 128 rows, those where the numbers of a list compare so with a side.
-fn against(
-    head: u32,
-    a: &[i32],
-    p: u32,
-    s: u32,
-    r: Side,
-    clock: &[i32],
-    values: &[i32],
-    n: u32,
-) -> Rows
-    requires { ⌜ (strip-lent (length (now a)) p s n ≡ true) × Room r n (now clock) (now values) ⌝ }
-    ensures { λ x. ⌜ x ≡ rows-of (relate head (strip (now (a .entry)) p s) (side-at r (now (clock .entry)) (now (values .entry)))) 0 n ⌝ }
-{
-    if r.kind == Side::COLUMN {
-        return related(head, a, p, s, values, r.at, Scope::COLUMNS, n);
-    }
-    if r.kind == Side::TIME {
-        return related(head, a, p, s, clock, 0, 1, n);
-    }
-    let b = single(r);
-    related(head, a, p, s, &b, 0, 0, n)
-}
-
-// Of at most 128 rows, those where two sides compare so; the times stand in a list.
-fn sided(head: u32, l: Side, r: Side, clock: &[i32], values: &[i32], n: u32) -> Rows
-    requires { ⌜ Room l n (now clock) (now values) × Room r n (now clock) (now values) ⌝ }
-    ensures { λ x. ⌜ x ≡ rows-of (relate head (side-at l (now (clock .entry)) (now (values .entry))) (side-at r (now (clock .entry)) (now (values .entry)))) 0 n ⌝ }
-{
-    if l.kind == Side::COLUMN {
-        return against(head, values, l.at, Scope::COLUMNS, r, clock, values, n);
-    }
-    if l.kind == Side::TIME {
-        return against(head, clock, 0, 1, r, clock, values, n);
-    }
-    let a = single(l);
-    against(head, &a, 0, 0, r, clock, values, n)
-}
-
-// The later of two times, at most the highest.
-fn later(s: u32, t: u32) -> u32
-    ensures { λ r. ⌜ (r ≡ min (max s t) top) × (r < 2147483648) ⌝ }
-{
-    if Time::TOP <= s {
+    if Time::TOP < t {
         return Time::TOP;
     }
-    if Time::TOP <= t {
-        return Time::TOP;
-    }
-    if s < t {
-        return t;
-    }
-    s
+    t
 }
 
-// The times of n places from one on, each the later of it and another.
-fn put_times(clock: &mut [i32], times: &[u32], from: u32, low: u32, n: u32)
-    requires { ⌜ (n ≤ clock-size) × (clock-size ≤ length (now clock)) × (from + n ≤ length (now times)) × (from ≤ 480) ⌝ }
-    ensures { λ _. ⌜ Clock low from n (now (times .entry)) (now (clock .exit)) ⌝ }
+// The later of a row's time and another.
+fn clock(low: Cell, t: u32) -> Cell
+    ensures { λ r. ⌜ r .v ≡ later-of (low .v) t ⌝ }
 {
+    let s = capped(t);
+    let x = Cell { v: s as i32 };
+    if x.v < low.v {
+        return low;
+    }
+    x
+}
+
+// A weight where two values are the same, or 0.
+fn same_weight(x: Cell, y: Cell, w: u32) -> u32
+    ensures { λ r. ⌜ r ≡ one (compares eq (x .v) (y .v)) * w ⌝ }
+{
+    if x.v == y.v {
+        return w;
+    }
+    0
+}
+
+// A weight where one value is below another, or 0.
+fn less_weight(x: Cell, y: Cell, w: u32) -> u32
+    ensures { λ r. ⌜ r ≡ one (compares lt (x .v) (y .v)) * w ⌝ }
+{
+    if x.v < y.v {
+        return w;
+    }
+    0
+}
+
+// A weight where the later of the time at a place and another is a cell's value, or 0.
+fn same_at(low: Cell, times: &[u32], at: u32, column: &[i32], q: u32, w: u32) -> u32
+    requires { ⌜ at < length (now times) ⌝ }
+    ensures { λ r. ⌜ r ≡ one (compares eq (later-of (low .v) (getD (now (times .entry)) at 0)) (getD (now (column .entry)) q (pos 0))) * w ⌝ }
+{
+    same_weight(clock(low, times[at as usize]), cells::value(column, q), w)
+}
+
+// Of at most 128 rows those with such a time, by a column that begins at a place of the values.
+// Rows 32 apart are taken together, each with its own word.
+fn same_times(low: Cell, times: &[u32], from: u32, values: &[i32], p: u32, n: u32) -> Rows
+    requires { ⌜ (from ≤ 384) × (places-size ≤ length (now times)) × (p < column-end) × (values-size ≤ length (now values)) ⌝ }
+    ensures { λ r. ⌜ r ≡ rows-of (compared-at eq (clocked (low .v) (now (times .entry)) from) (strip (now (values .entry)) p max-columns)) 0 n ⌝ }
+{
+    let v = &values[(p as usize)..(p as usize + COLUMN)];
+    let k = rows::part(n, 0);
+    let mut a: u32 = 0;
+    let mut b: u32 = 0;
+    let mut c: u32 = 0;
+    let mut d: u32 = 0;
     let mut i: u32 = 0;
-    while i < n {
-        clock[i as usize] = later(low, times[(from + i) as usize]) as i32;
+    while i < k {
+        let w = 1 << i;
+        let q = i * Scope::COLUMNS;
+        a += same_at(low, times, from + i, v, q, w);
+        b += same_at(low, times, from + i + 32, v, q + 192, w);
+        c += same_at(low, times, from + i + 64, v, q + 384, w);
+        d += same_at(low, times, from + i + 96, v, q + 576, w);
         i += 1;
     }
+    let m = Rows {
+        a: a,
+        b: b,
+        c: c,
+        d: d,
+    };
+    m.both(Rows::first(n))
+}
+
+// A weight where it is below the value, or 0.
+fn below_at(low: Cell, times: &[u32], at: u32, column: &[i32], q: u32, w: u32) -> u32
+    requires { ⌜ at < length (now times) ⌝ }
+    ensures { λ r. ⌜ r ≡ one (compares lt (later-of (low .v) (getD (now (times .entry)) at 0)) (getD (now (column .entry)) q (pos 0))) * w ⌝ }
+{
+    less_weight(clock(low, times[at as usize]), cells::value(column, q), w)
+}
+
+// Of at most 128 rows those with such a time, by a column that begins at a place of the values.
+// Rows 32 apart are taken together, each with its own word.
+fn below_times(low: Cell, times: &[u32], from: u32, values: &[i32], p: u32, n: u32) -> Rows
+    requires { ⌜ (from ≤ 384) × (places-size ≤ length (now times)) × (p < column-end) × (values-size ≤ length (now values)) ⌝ }
+    ensures { λ r. ⌜ r ≡ rows-of (compared-at lt (clocked (low .v) (now (times .entry)) from) (strip (now (values .entry)) p max-columns)) 0 n ⌝ }
+{
+    let v = &values[(p as usize)..(p as usize + COLUMN)];
+    let k = rows::part(n, 0);
+    let mut a: u32 = 0;
+    let mut b: u32 = 0;
+    let mut c: u32 = 0;
+    let mut d: u32 = 0;
+    let mut i: u32 = 0;
+    while i < k {
+        let w = 1 << i;
+        let q = i * Scope::COLUMNS;
+        a += below_at(low, times, from + i, v, q, w);
+        b += below_at(low, times, from + i + 32, v, q + 192, w);
+        c += below_at(low, times, from + i + 64, v, q + 384, w);
+        d += below_at(low, times, from + i + 96, v, q + 576, w);
+        i += 1;
+    }
+    let m = Rows {
+        a: a,
+        b: b,
+        c: c,
+        d: d,
+    };
+    m.both(Rows::first(n))
+}
+
+// A weight where it is above the value, or 0.
+fn above_at(low: Cell, times: &[u32], at: u32, column: &[i32], q: u32, w: u32) -> u32
+    requires { ⌜ at < length (now times) ⌝ }
+    ensures { λ r. ⌜ r ≡ one (compares gt (later-of (low .v) (getD (now (times .entry)) at 0)) (getD (now (column .entry)) q (pos 0))) * w ⌝ }
+{
+    less_weight(cells::value(column, q), clock(low, times[at as usize]), w)
+}
+
+// Of at most 128 rows those with such a time, by a column that begins at a place of the values.
+// Rows 32 apart are taken together, each with its own word.
+fn above_times(low: Cell, times: &[u32], from: u32, values: &[i32], p: u32, n: u32) -> Rows
+    requires { ⌜ (from ≤ 384) × (places-size ≤ length (now times)) × (p < column-end) × (values-size ≤ length (now values)) ⌝ }
+    ensures { λ r. ⌜ r ≡ rows-of (compared-at gt (clocked (low .v) (now (times .entry)) from) (strip (now (values .entry)) p max-columns)) 0 n ⌝ }
+{
+    let v = &values[(p as usize)..(p as usize + COLUMN)];
+    let k = rows::part(n, 0);
+    let mut a: u32 = 0;
+    let mut b: u32 = 0;
+    let mut c: u32 = 0;
+    let mut d: u32 = 0;
+    let mut i: u32 = 0;
+    while i < k {
+        let w = 1 << i;
+        let q = i * Scope::COLUMNS;
+        a += above_at(low, times, from + i, v, q, w);
+        b += above_at(low, times, from + i + 32, v, q + 192, w);
+        c += above_at(low, times, from + i + 64, v, q + 384, w);
+        d += above_at(low, times, from + i + 96, v, q + 576, w);
+        i += 1;
+    }
+    let m = Rows {
+        a: a,
+        b: b,
+        c: c,
+        d: d,
+    };
+    m.both(Rows::first(n))
 }
 
 // The time of the left row, 0 where there is none.
@@ -259,88 +345,77 @@ fn left_time(sc: Scope, times: &[u32]) -> u32
     0
 }
 
-// A side from a later row on.
-fn moved(x: Side, from: u32) -> Side
-    requires { ⌜ (x .at < column-end) × (from ≤ 96) ⌝ }
-    ensures { λ r. ⌜ r ≡ moved-side x from ⌝ }
+// The rows whose time compares so with a column, which begins at a place of the values.
+fn by_clock(head: u32, low: Cell, times: &[u32], from: u32, values: &[i32], p: u32, n: u32) -> Rows
+    requires { ⌜ (from ≤ 384) × (places-size ≤ length (now times)) × (p < column-end) × (values-size ≤ length (now values)) ⌝ }
+    ensures { λ r. ⌜ r ≡ rows-of (relate head (clocked (low .v) (now (times .entry)) from) (strip (now (values .entry)) p max-columns)) 0 n ⌝ }
 {
-    Side {
-        kind: x.kind,
-        at: x.at + from * Scope::COLUMNS,
-        value: x.value,
+    if head == 1 {
+        return same_times(low, times, from, values, p, n);
     }
+    if head == 2 {
+        return Rows::first(n).flip(same_times(low, times, from, values, p, n));
+    }
+    if head == 3 {
+        return below_times(low, times, from, values, p, n);
+    }
+    if head == 4 {
+        return Rows::first(n).flip(above_times(low, times, from, values, p, n));
+    }
+    if head == 5 {
+        return above_times(low, times, from, values, p, n);
+    }
+    Rows::first(n).flip(below_times(low, times, from, values, p, n))
 }
 
-// Of at most 32 rows from one on, those where two sides compare so, of which one may be the time; `low` is that of the left row.
-fn timed_word(
-    head: u32,
-    l: Side,
-    r: Side,
-    sc: Scope,
-    low: u32,
-    from: u32,
-    times: &[u32],
-    values: &[i32],
-) -> u32
-    requires { ⌜ Lent sc (now times) (now values) × (l .at < column-end) × (r .at < column-end) × (low ≡ left-time sc (now times)) × (from ≤ 96) ⌝ }
-    ensures { λ x. ⌜ x ≡ bits (relate head (side-value l sc (now (times .entry)) (now (values .entry))) (side-value r sc (now (times .entry)) (now (values .entry)))) from (part (sc .rows) from) ⌝ }
+// The rows whose time compares so with a value.
+fn by_time(head: u32, v: Cell, sc: Scope, times: &[u32]) -> Rows
+    requires { ⌜ (sc .stream < max-streams) × (sc .rows ≤ max-rows) × (places-size ≤ length (now times)) ⌝ }
+    ensures { λ x. ⌜ x ≡ rows-of (relate head (clock-at sc (now (times .entry))) (λ i. v .v)) 0 (sc .rows) ⌝ }
 {
-    let n = rows::part(sc.rows, from);
-    if n == 0 {
-        return 0;
+    if v.v < 0 {
+        return settled(head, Cell { v: 1 }, Cell { v: 0 }, sc.rows);
     }
-    let mut clock: [i32; CLOCK] = [0; CLOCK];
-    put_times(&mut clock, times, sc.stream * Scope::ROWS + from, low, n);
-    let m = sided(head, moved(l, from), moved(r, from), &clock, values, n);
-    m.a
+    let t = v.v as u32;
+    if head == 1 {
+        return limited(t, t, sc, times);
+    }
+    if head == 2 {
+        return Rows::first(sc.rows).flip(limited(t, t, sc, times));
+    }
+    if head == 3 {
+        return Rows::first(sc.rows).flip(limited(t, Grant::NONE, sc, times));
+    }
+    if head == 4 {
+        return limited(Grant::NONE, t, sc, times);
+    }
+    if head == 5 {
+        return Rows::first(sc.rows).flip(limited(Grant::NONE, t, sc, times));
+    }
+    limited(t, Grant::NONE, sc, times)
 }
 
-// A mask with its words one place lower and another as the last.
-fn with_word(m: Rows, w: u32) -> Rows
-    ensures { λ r. ⌜ r ≡ next-words m w ⌝ }
-{
-    Rows {
-        a: m.b,
-        b: m.c,
-        c: m.d,
-        d: w,
-    }
-}
-
-// The rows where two sides compare so, of which one may be the time: a word at a time, so that few times are copied.
-fn compared_timed(head: u32, l: Side, r: Side, sc: Scope, times: &[u32], values: &[i32]) -> Rows
-    requires { ⌜ Lent sc (now times) (now values) × (l .at < column-end) × (r .at < column-end) ⌝ }
-    ensures { λ x. ⌜ x ≡ rows-of (relate head (side-value l sc (now (times .entry)) (now (values .entry))) (side-value r sc (now (times .entry)) (now (values .entry)))) 0 (sc .rows) ⌝ }
-{
-    let low = left_time(sc, times);
-    let mut m = Rows::none();
-    let mut q: u32 = 0;
-    while q < 4 {
-        let w = timed_word(head, l, r, sc, low, q * 32, times, values);
-        m = with_word(m, w);
-        q += 1;
-    }
-    m
-}
-
-// The rows where a column, which begins at a place of the values, compares so with a side that is no time.
-fn by_column(head: u32, values: &[i32], p: u32, r: Side, n: u32) -> Rows
-    requires { ⌜ (n ≤ max-rows) × (p < column-end) × (r .at < column-end) × (values-size ≤ length (now values)) × (r .kind ≡ 2 → ⊥) ⌝ }
-    ensures { λ x. ⌜ x ≡ rows-of (relate head (strip (now (values .entry)) p max-columns) (side-at r [] (now (values .entry)))) 0 n ⌝ }
+// The rows whose time compares so with a side; with itself it does as any value.
+fn by_times(head: u32, r: Side, sc: Scope, times: &[u32], values: &[i32]) -> Rows
+    requires { ⌜ Lent sc (now times) (now values) × (r .at < column-end) ⌝ }
+    ensures { λ x. ⌜ x ≡ rows-of (relate head (clock-at sc (now (times .entry))) (side-value r sc (now (times .entry)) (now (values .entry)))) 0 (sc .rows) ⌝ }
 {
     if r.kind == Side::COLUMN {
-        return related(
+        let low = clock(Cell { v: 0 }, left_time(sc, times));
+        return by_clock(
             head,
-            values,
-            p,
-            Scope::COLUMNS,
+            low,
+            times,
+            sc.stream * Scope::ROWS,
             values,
             r.at,
-            Scope::COLUMNS,
-            n,
+            sc.rows,
         );
     }
-    by_value(head, values, p, Cell { v: r.value }, n)
+    if r.kind == Side::TIME {
+        return settled(head, Cell { v: 0 }, Cell { v: 0 }, sc.rows);
+    }
+    by_time(head, Cell { v: r.value }, sc, times)
 }
 
 // The rows where two sides compare so.
@@ -349,13 +424,16 @@ fn compared(head: u32, l: Side, r: Side, sc: Scope, times: &[u32], values: &[i32
     ensures { λ x. ⌜ x ≡ rows-of (relate head (side-value l sc (now (times .entry)) (now (values .entry))) (side-value r sc (now (times .entry)) (now (values .entry)))) 0 (sc .rows) ⌝ }
 {
     if l.kind == Side::TIME {
-        return compared_timed(head, l, r, sc, times, values);
+        return by_times(head, r, sc, times, values);
     }
     if r.kind == Side::TIME {
-        return compared_timed(head, l, r, sc, times, values);
+        return by_times(turned(head), l, sc, times, values);
     }
     if l.kind == Side::COLUMN {
-        return by_column(head, values, l.at, r, sc.rows);
+        if r.kind == Side::COLUMN {
+            return related(head, values, l.at, r.at, sc.rows);
+        }
+        return by_value(head, values, l.at, Cell { v: r.value }, sc.rows);
     }
     if r.kind == Side::COLUMN {
         return by_value(turned(head), values, r.at, Cell { v: l.value }, sc.rows);
@@ -756,9 +834,9 @@ pub fn conditions(
 
 // ---- times
 
-// Whether a time is within two, as a bit.
-fn time_bit(t: u32, low: u32, high: u32) -> u32
-    ensures { λ r. ⌜ r ≡ one (in-span low high t) ⌝ }
+// A weight where a time is within two, or 0.
+fn time_weight(t: u32, low: u32, high: u32, w: u32) -> u32
+    ensures { λ r. ⌜ r ≡ one (in-span low high t) * w ⌝ }
 {
     if t < low {
         return 0;
@@ -766,34 +844,35 @@ fn time_bit(t: u32, low: u32, high: u32) -> u32
     if high < t {
         return 0;
     }
-    1
+    w
 }
 
-// Of at most 32 places from one on, those with such a time.
-fn time_word(times: &[u32], low: u32, high: u32, from: u32, n: u32) -> u32
-    requires { ⌜ (n ≤ 32) × (from ≤ 480) × (n ≤ length (now times) - from) ⌝ }
-    ensures { λ r. ⌜ r ≡ bits (timed (now (times .entry)) low high) from n ⌝ }
-{
-    let mut m: u32 = 0;
-    let mut i = n;
-    while 0 < i {
-        i -= 1;
-        m = m * 2 + time_bit(times[(from + i) as usize], low, high);
-    }
-    m
-}
-
-// Of at most 128 places from one on, those with such a time.
+// Of at most 128 places from one on, those with such a time. Places 32 apart are taken together, each with its own word.
 fn time_rows(times: &[u32], low: u32, high: u32, from: u32, n: u32) -> Rows
-    requires { ⌜ (from ≤ 384) × (n ≤ length (now times) - from) ⌝ }
+    requires { ⌜ (from ≤ 384) × (places-size ≤ length (now times)) ⌝ }
     ensures { λ r. ⌜ r ≡ rows-of (timed (now (times .entry)) low high) from n ⌝ }
 {
-    Rows {
-        a: time_word(times, low, high, from, rows::part(n, 0)),
-        b: time_word(times, low, high, from + 32, rows::part(n, 32)),
-        c: time_word(times, low, high, from + 64, rows::part(n, 64)),
-        d: time_word(times, low, high, from + 96, rows::part(n, 96)),
+    let k = rows::part(n, 0);
+    let mut a: u32 = 0;
+    let mut b: u32 = 0;
+    let mut c: u32 = 0;
+    let mut d: u32 = 0;
+    let mut i: u32 = 0;
+    while i < k {
+        let w = 1 << i;
+        a += time_weight(times[(from + i) as usize], low, high, w);
+        b += time_weight(times[(from + 32 + i) as usize], low, high, w);
+        c += time_weight(times[(from + 64 + i) as usize], low, high, w);
+        d += time_weight(times[(from + 96 + i) as usize], low, high, w);
+        i += 1;
     }
+    let m = Rows {
+        a: a,
+        b: b,
+        c: c,
+        d: d,
+    };
+    m.both(Rows::first(n))
 }
 
 // The first time that is asked of a row beside one of another time.
@@ -829,6 +908,20 @@ fn too_late(to: u32, left: u32) -> bool
     to < left
 }
 
+// The rows whose time is within two, of which each may be no limit.
+fn limited(from: u32, to: u32, sc: Scope, times: &[u32]) -> Rows
+    requires { ⌜ (sc .stream < max-streams) × (sc .rows ≤ max-rows) × (places-size ≤ length (now times)) ⌝ }
+    ensures { λ r. ⌜ r ≡ rows-of (λ i. in-limits from to (time-at sc (now (times .entry)) i)) 0 (sc .rows) ⌝ }
+{
+    let left = left_time(sc, times);
+    if too_late(to, left) {
+        return Rows::none();
+    }
+    let low = low_time(from, left);
+    let high = high_time(to);
+    time_rows(times, low, high, sc.stream * Scope::ROWS, sc.rows)
+}
+
 // Returns the rows of a scope whose time is within two, of which each may be no limit; none where memory is short.
 pub fn within(from: u32, to: u32, scope: Scope, times: &[u32]) -> Rows
     ensures { λ r. ⌜ r ≡ timely scope (now (times .entry)) from to ⌝ }
@@ -836,11 +929,5 @@ pub fn within(from: u32, to: u32, scope: Scope, times: &[u32]) -> Rows
     if !times_fit(scope, times) {
         return Rows::none();
     }
-    let left = left_time(scope, times);
-    if too_late(to, left) {
-        return Rows::none();
-    }
-    let low = low_time(from, left);
-    let high = high_time(to);
-    time_rows(times, low, high, scope.stream * Scope::ROWS, scope.rows)
+    limited(from, to, scope, times)
 }

@@ -1,5 +1,5 @@
 use borrow.Author.Needs.{needs}
-use Rattle.selection.proofs.Relating.{plain-lent, valued-column, valued-fixed, valued-plain, compared-valued, compared-turned}
+use Rattle.selection.proofs.Relating.{plain-lent, valued-column, valued-fixed, valued-time, valued-self, compared-valued, compared-turned}
 use Rattle.selection.proofs.compared.Statement.{statement}
 use Rattle.selection.proofs.compared.Tie as tie
 
@@ -7,25 +7,31 @@ pub compared-spec : {M : Type 1} → statement M
 compared-spec =
     tie.close
     (tie.spec
-    {- compared-timed-requires -}
-    (λ c κs. search needs)
+    {- by-times-requires -}
+    (λ c κs. let s = c .before .before .before in let a = s .args in (s .pre .0, s .pre .2))
     {- returns -}
-    (λ c. search needs)
-    {- compared-timed-requires-2 -}
-    (λ c κs. search needs)
-    {- returns-2 -}
-    (λ c. search needs)
-    {- by-column-requires -}
-    (λ c κs. let s = c .before .before .before .before .before .before .before in (s .pre .0 .rows, s .pre .1, s .pre .2, s .pre .0 .values, c .before .before .if2 .left))
-    {- returns-3 -}
-    (λ c. let s = c .before .before .before .before .before .before .before .before in let a = s .args in compared-valued (a .sc) (a .times .now) (a .values .now) (a .l) (a .r) (a .head) (c .by-column .ensures) (valued-column (a .sc) (a .times .now) (a .values .now) (a .l) (c .before .if3 .taken)) (valued-plain (a .sc) (a .times .now) (a .values .now) (a .r) (c .before .before .before .if2 .left)))
+    (λ c. let s = c .before .before .before .before in let a = s .args in compared-valued (a .sc) (a .times .now) (a .values .now) (a .l) (a .r) (a .head) (c .by-times .ensures) (valued-time (a .sc) (a .times .now) (a .values .now) (a .l) (c .before .if1 .taken)) (valued-self (a .sc) (a .times .now) (a .values .now) (a .r)))
     {- turned-requires -}
     (λ c κs. search needs)
+    {- by-times-requires-2 -}
+    (λ c κs. let s = c .before .before .before .before .before .before in let a = s .args in (s .pre .0, s .pre .1))
+    {- returns-2 -}
+    (λ c. let s = c .before .before .before .before .before .before .before in let a = s .args in compared-turned (a .sc) (a .times .now) (a .values .now) (a .l) (a .r) (a .head) _ (c .by-times2 .ensures) (c .before .turned .ensures) (valued-time (a .sc) (a .times .now) (a .values .now) (a .r) (c .before .before .if2 .taken)) (valued-self (a .sc) (a .times .now) (a .values .now) (a .l)))
+    {- related-requires -}
+    (λ c κs. let s = c .before .before .before .before .before .before .before .before .before in let a = s .args in (plain-lent (a .values .now) (a .l .at) (a .sc .rows) (s .pre .0 .rows) (s .pre .1) (s .pre .0 .values), plain-lent (a .values .now) (a .r .at) (a .sc .rows) (s .pre .0 .rows) (s .pre .2) (s .pre .0 .values)))
+    {- returns-3 -}
+    (λ c. let s = c .before .before .before .before .before .before .before .before .before .before in let a = s .args in compared-valued (a .sc) (a .times .now) (a .values .now) (a .l) (a .r) (a .head) (c .related .ensures) (valued-column (a .sc) (a .times .now) (a .values .now) (a .l) (c .before .before .before .if3 .taken)) (valued-column (a .sc) (a .times .now) (a .values .now) (a .r) (c .before .if4 .taken)))
     {- by-value-requires -}
-    (λ c κs. let s = c .before .before .before .before .before .before .before .before .before .before .before in let a = s .args in plain-lent (a .values .now) (a .r .at) (a .sc .rows) (s .pre .0 .rows) (s .pre .2) (s .pre .0 .values))
+    (λ c κs. let s = c .before .before .before .before .before .before .before .before .before .before in let a = s .args in plain-lent (a .values .now) (a .l .at) (a .sc .rows) (s .pre .0 .rows) (s .pre .1) (s .pre .0 .values))
     {- returns-4 -}
-    (λ c. let s = c .before .before .before .before .before .before .before .before .before .before .before .before in let a = s .args in compared-turned (a .sc) (a .times .now) (a .values .now) (a .l) (a .r) (a .head) _ (c .by-value .ensures) (c .before .before .turned .ensures) (valued-column (a .sc) (a .times .now) (a .values .now) (a .r) (c .before .before .before .if4 .taken)) (valued-fixed (a .sc) (a .times .now) (a .values .now) (a .l) (search needs) (c .before .before .before .before .before .if3 .left) (c .before .before .before .before .before .before .before .before .before .if1 .left)))
+    (λ c. let s = c .before .before .before .before .before .before .before .before .before .before .before in let a = s .args in compared-valued (a .sc) (a .times .now) (a .values .now) (a .l) (a .r) (a .head) (c .by-value .ensures) (valued-column (a .sc) (a .times .now) (a .values .now) (a .l) (c .before .before .before .before .if3 .taken)) (valued-fixed (a .sc) (a .times .now) (a .values .now) (a .r) (search needs) (c .before .before .if4 .left) (c .before .before .before .before .before .before .if2 .left)))
+    {- turned-requires-2 -}
+    (λ c κs. search needs)
+    {- by-value-requires-2 -}
+    (λ c κs. let s = c .before .before .before .before .before .before .before .before .before .before .before in let a = s .args in plain-lent (a .values .now) (a .r .at) (a .sc .rows) (s .pre .0 .rows) (s .pre .2) (s .pre .0 .values))
+    {- returns-5 -}
+    (λ c. let s = c .before .before .before .before .before .before .before .before .before .before .before .before in let a = s .args in compared-turned (a .sc) (a .times .now) (a .values .now) (a .l) (a .r) (a .head) _ (c .by-value2 .ensures) (c .before .before .turned2 .ensures) (valued-column (a .sc) (a .times .now) (a .values .now) (a .r) (c .before .before .before .if5 .taken)) (valued-fixed (a .sc) (a .times .now) (a .values .now) (a .l) (search needs) (c .before .before .before .before .before .if3 .left) (c .before .before .before .before .before .before .before .before .before .if1 .left)))
     {- settled-requires -}
     (λ c κs. search needs)
-    {- returns-5 -}
-    (λ c. let s = c .before .before .before .before .before .before .before .before .before .before .before .before in let a = s .args in compared-valued (a .sc) (a .times .now) (a .values .now) (a .l) (a .r) (a .head) (c .settled .ensures) (valued-fixed (a .sc) (a .times .now) (a .values .now) (a .l) (search needs) (c .before .before .before .before .before .if3 .left) (c .before .before .before .before .before .before .before .before .before .if1 .left)) (valued-fixed (a .sc) (a .times .now) (a .values .now) (a .r) (search needs) (c .before .before .before .if4 .left) (c .before .before .before .before .before .before .before .if2 .left))))
+    {- returns-6 -}
+    (λ c. let s = c .before .before .before .before .before .before .before .before .before .before .before .before in let a = s .args in compared-valued (a .sc) (a .times .now) (a .values .now) (a .l) (a .r) (a .head) (c .settled .ensures) (valued-fixed (a .sc) (a .times .now) (a .values .now) (a .l) (search needs) (c .before .before .before .before .before .if3 .left) (c .before .before .before .before .before .before .before .before .before .if1 .left)) (valued-fixed (a .sc) (a .times .now) (a .values .now) (a .r) (search needs) (c .before .before .before .if5 .left) (c .before .before .before .before .before .before .before .if2 .left))))

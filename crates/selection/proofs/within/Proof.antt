@@ -1,5 +1,5 @@
 use borrow.Author.Needs.{needs}
-use Rattle.selection.proofs.Limits.{fit-rooms, within-ends}
+use Rattle.selection.proofs.Limits.{fit-parts, within-ends}
 use Rattle.selection.proofs.within.Statement.{statement}
 use Rattle.selection.proofs.within.Tie as tie
 
@@ -8,26 +8,12 @@ within-spec =
     tie.close
     (tie.spec
     {- times-fit-requires -}
-    (λ c κs. search (fit-rooms, needs))
+    (λ c κs. search needs)
     {- none-requires -}
-    (λ c κs. search (fit-rooms, needs))
+    (λ c κs. search needs)
     {- returns -}
     (λ c. search (within-ends, needs))
-    {- left-time-requires -}
-    (λ c κs. search (fit-rooms, needs))
-    {- too-late-requires -}
-    (λ c κs. search (fit-rooms, needs))
-    {- none-requires-2 -}
-    (λ c κs. search (fit-rooms, needs))
+    {- limited-requires -}
+    (λ c κs. fit-parts _ _ (c .before .times-fit .ensures) (c .if1 .left))
     {- returns-2 -}
-    (λ c. search (within-ends, needs))
-    {- low-time-requires -}
-    (λ c κs. search (fit-rooms, needs))
-    {- high-time-requires -}
-    (λ c κs. search (fit-rooms, needs))
-    {- mul-time-rows -}
-    (λ c. search (fit-rooms, needs))
-    {- time-rows-requires -}
-    (λ c κs. search (fit-rooms, needs))
-    {- returns-3 -}
     (λ c. search (within-ends, needs)))

@@ -1,0 +1,44 @@
+use borrow.Author.Needs.{needs}
+use Rattle.selection.proofs.Clocks.{at-above}
+use Rattle.selection.proofs.above_at.Statement.{statement}
+use Rattle.selection.proofs.above_at.Tie as tie
+use Rattle.selection.proofs.above_at.Reads as reads
+use Rattle.selection.proofs.above_at.Lts as lts
+use Rattle.cells.proofs.value.Reads as value-reads
+use Rattle.selection.proofs.clock.Reads as clock-reads
+use Rattle.selection.proofs.less_weight.Reads as less-weight-reads
+
+-- src/lib.rt:302:17
+value-requires : tie.Need-value-requires
+value-requires c κs = search needs
+
+-- src/lib.rt:302:53
+mul-clock : tie.Need-mul-clock
+mul-clock c = search needs
+
+-- src/lib.rt:302:53
+shared-slice-read-clock : tie.Need-shared-slice-read-clock
+shared-slice-read-clock c = search needs
+
+-- src/lib.rt:302:42
+clock-requires : tie.Need-clock-requires
+clock-requires c κs = search needs
+
+-- src/lib.rt:302:5
+less-weight-requires : tie.Need-less-weight-requires
+less-weight-requires c κs = search needs
+
+-- src/lib.rt:298:1
+returns : tie.Need-returns
+returns c = search (at-above, needs)
+
+pub above-at-spec : {M : Type 1} → statement M
+above-at-spec =
+    tie.close
+    (tie.spec
+    value-requires
+    mul-clock
+    shared-slice-read-clock
+    clock-requires
+    less-weight-requires
+    returns)

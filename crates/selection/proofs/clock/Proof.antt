@@ -1,0 +1,26 @@
+use borrow.Author.Needs.{needs}
+use Rattle.selection.proofs.Clocks.{later-ends}
+use Rattle.selection.proofs.clock.Statement.{statement}
+use Rattle.selection.proofs.clock.Tie as tie
+use Rattle.selection.proofs.clock.Reads as reads
+use Rattle.selection.proofs.clock.Lts as lts
+use Rattle.selection.proofs.capped.Reads as capped-reads
+
+-- src/lib.rt:191:9
+capped-requires : tie.Need-capped-requires
+capped-requires c κs = search (later-ends, needs)
+
+-- src/lib.rt:192:23
+cast-t5 : tie.Need-cast-t5
+cast-t5 c = search (later-ends, needs)
+
+-- src/lib.rt:194:9
+returns : tie.Need-returns
+returns c = search (later-ends, needs)
+
+-- src/lib.rt:188:1
+returns-2 : tie.Need-returns-2
+returns-2 c = search (later-ends, needs)
+
+pub clock-spec : {M : Type 1} → statement M
+clock-spec = tie.close (tie.spec capped-requires cast-t5 returns returns-2)

@@ -1,0 +1,17 @@
+use borrow.Author.Needs.{needs}
+use Rattle.selection.proofs.Clocks.{pair-ends}
+use Rattle.selection.proofs.same_weight.Statement.{statement}
+use Rattle.selection.proofs.same_weight.Tie as tie
+use Rattle.selection.proofs.same_weight.Reads as reads
+use Rattle.selection.proofs.same_weight.Lts as lts
+
+-- src/lib.rt:204:9
+returns : tie.Need-returns
+returns c = search (pair-ends, needs)
+
+-- src/lib.rt:200:1
+returns-2 : tie.Need-returns-2
+returns-2 c = search (pair-ends, needs)
+
+pub same-weight-spec : {M : Type 1} → statement M
+same-weight-spec = tie.close (tie.spec returns returns-2)
