@@ -1,18 +1,18 @@
 /* Queries and their lines: typical ones, refused ones, and the worst that were found. */
 #include "driver.h"
 enum { CELLS = 4096, BYTES = 4096 };
-static struct grant grants[GRANTS];
-static struct caller who;
+static struct maltziru_grant grants[GRANTS];
+static struct maltziru_caller who;
 static unsigned granted;
 static int64_t cells[CELLS];
 static uint8_t bytes[BYTES];
 
 static void grant(const char *s) {
     set(s);
-    grants[granted] = x_grant(names, NAMES, granted, text(), size, words, WORDS).grant;
+    grants[granted] = maltziru_grant(names, NAMES, granted, text(), size, words, WORDS).grant;
     granted++;
 }
-static void caller(const char *s) { set(s); who = x_caller(text(), size).caller; }
+static void caller(const char *s) { set(s); who = maltziru_caller(maltziru_nobody(), text(), size).caller; }
 /* n rows of a stream, at times first + i * num / den, columns by a rule */
 static void rows(int s, int n, uint32_t first, uint32_t num, uint32_t den, int32_t (*value)(int i, int c)) {
     ledger.rows[s] = n;
@@ -67,7 +67,7 @@ static void deep_pair(void) {
     set("(grant fitter read (of test pack) (show *) (when (= test.unit pack.unit) ");
     nested("(or ", 5, "(= test.lot pack.lot)");
     add("))");
-    grants[granted] = x_grant(names, NAMES, granted, text(), size, words, WORDS).grant;
+    grants[granted] = maltziru_grant(names, NAMES, granted, text(), size, words, WORDS).grant;
     granted++;
 }
 static void deep_join(void) { deep_pair(); set("(pick "); nested("(or ", 6, "(/= test.lot pack.lot)"); add(" (join (= test.unit pack.unit) (in test) (in pack)))"); }
@@ -89,7 +89,7 @@ static void worst_by(const char *when, const char *pick) {
         set("(grant a read (of a b) (show *) (when (= a.a b.a)");
         while (size + 1 + count(when) + 2 <= LINE) { add(" "); add(when); }
         add("))");
-        grants[granted] = x_grant(names, NAMES, granted, text(), size, words, WORDS).grant;
+        grants[granted] = maltziru_grant(names, NAMES, granted, text(), size, words, WORDS).grant;
         granted++;
     }
     set("(max a.a 64 64 (pick (and");
@@ -137,18 +137,17 @@ static const struct sample samples[] = {
 enum { SAMPLES = sizeof samples / sizeof *samples };
 
 static void prepare(int k) {
-    static const struct ledger fresh;
     for (int i = 0; i < NAMES; i++) names[i] = 0;
-    ledger = fresh;
+    ledger = maltziru_fresh();
     granted = 0;
     samples[k].make();
 }
 __attribute__((noinline)) uint32_t measured(int k) {
     if (samples[k].route < 0) return 0;
-    reply_t r;
-    if (samples[k].route > 0) r = line_of(grants, granted, words, WORDS, ledger, names, NAMES, times, PLACES, values, VALUES, who, samples[k].route, text(), size, bytes, BYTES);
-    else r = ask(grants, granted, words, WORDS, ledger, names, NAMES, times, PLACES, values, VALUES, who, text(), size, cells, CELLS);
-    return (uint32_t)r ? (uint32_t)r : (uint32_t)(r >> 32);
+    struct maltziru_reply r;
+    if (samples[k].route > 0) r = maltziru_line(grants, granted, words, WORDS, ledger, names, NAMES, times, PLACES, values, VALUES, who, samples[k].route, text(), size, bytes, BYTES);
+    else r = maltziru_ask(grants, granted, words, WORDS, ledger, names, NAMES, times, PLACES, values, VALUES, who, text(), size, cells, CELLS);
+    return r.refusal ? r.refusal : r.count;
 }
 static const char *label(int k) { return samples[k].label; }
 #include "main.h"

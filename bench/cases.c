@@ -1,7 +1,6 @@
 /* The calls that write the record and the catalogue, at typical and at their worst inputs. */
 #include "driver.h"
 
-static struct granted granted;
 /* a head, as many items as fit, and a tail */
 static void fill(const char *head, const char *item, const char *tail) {
     set(head);
@@ -28,13 +27,6 @@ static void tail(void) {
     add(" (or (or (or (or (or (= a.a 1))))))");
     add("))");
 }
-static void deep_alone(void) {
-    int k = 0;
-    set("");
-    while (size + 4 + k + 1 + 9 <= LINE) { add("(or "); k++; }
-    add("(= a.a 1)");
-    while (k--) add(")");
-}
 static void entries(void) {
     char item[] = " self.aa";
     set("(grant a min (of a) (show");
@@ -43,7 +35,7 @@ static void entries(void) {
 }
 
 struct sample { const char *label; void (*make)(void); int call; };
-enum { NONE, GRANT, CONDITION, SOUND, SCHEMA, DECLARE, ROW, ROW_LINE, ROWS, CLOCK, CLOCK_LINE, CLEAR_LINE, CALLER };
+enum { NONE, GRANT, DECLARE, ROW, ROW_LINE, CLOCK, CLOCK_LINE, CLEAR_LINE, CALLER };
 static void typical(void) { set("(grant fitter read (of test) (show test.unit test.volts) (when (= test.lot self.lot)))"); }
 static void no_line(void) { set(""); }
 static void wide(void) { fill("(grant a min (of a) (show *) (when", " (= a.a 1)", "))"); }
@@ -78,16 +70,11 @@ static const struct sample samples[] = {
     { "grant line, many entries shown (refused)", entries, GRANT },
     { "grant line, many streams (refused)", streams, GRANT },
     { "grant line, a long number (refused)", digits, GRANT },
-    { "a condition, 102 nested `or`", deep_alone, CONDITION },
-    { "Grant::sound, typical", typical, SOUND },
-    { "Grant::sound, many comparisons", wide, SOUND },
-    { "schema::sound, four streams", no_line, SCHEMA },
     { "stream line", stream_line, DECLARE },
     { "stream line, many columns (refused)", stream_columns, DECLARE },
     { "row call, 511 rows", row_call, ROW },
     { "row line, 511 rows", row_line, ROW_LINE },
     { "row line, many values (refused)", row_values, ROW_LINE },
-    { "ledger::sound, 511 rows", row_call, ROWS },
     { "clock call", no_line, CLOCK },
     { "clock line", clock_line, CLOCK_LINE },
     { "clock line, a long number (refused)", clock_digits, CLOCK_LINE },
@@ -99,31 +86,25 @@ static const struct sample samples[] = {
 enum { SAMPLES = sizeof samples / sizeof *samples };
 
 static void prepare(int k) {
-    static const struct ledger fresh;
     for (int i = 0; i < NAMES; i++) names[i] = 0;
-    ledger = fresh;
+    ledger = maltziru_fresh();
     declare("(stream test lot unit volts)");
     declare("(stream a a)");
     declare("(stream pack lot label unit crate shift line)");
     if (samples[k].call != DECLARE) declare("(stream ready lot unit ms)");
     samples[k].make();
-    if (samples[k].call == SOUND) granted = x_grant(names, NAMES, 0, text(), size, words, WORDS);
 }
 __attribute__((noinline)) uint32_t measured(int k) {
     static const int32_t three[3] = { 7, 1, 30 };
     switch (samples[k].call) {
-    case GRANT: return x_grant(names, NAMES, 23, text(), size, words, WORDS).number;
-    case CONDITION: return x_cond(text(), size, 0, names, NAMES, words, WORDS, 7);
-    case SOUND: return x_sound(granted.grant, names, NAMES, words, 95);
-    case SCHEMA: return x_schema(names, NAMES);
-    case DECLARE: return x_declare(names, NAMES, text(), size);
-    case ROW: return x_row(ledger, names, NAMES, 0, three, 3, times, PLACES, values, VALUES).number;
-    case ROW_LINE: return x_row_line(ledger, names, NAMES, text(), size, times, PLACES, values, VALUES).number;
-    case ROWS: return x_rows(ledger, names, NAMES, times, PLACES, values, VALUES);
-    case CLOCK: return x_clock(ledger, 5).number;
-    case CLOCK_LINE: return x_clock_line(ledger, text(), size).number;
-    case CLEAR_LINE: return x_clear_line(ledger, text(), size).number;
-    case CALLER: return x_caller(text(), size).number;
+    case GRANT: return maltziru_grant(names, NAMES, 23, text(), size, words, WORDS).refusal;
+    case DECLARE: return maltziru_stream(names, NAMES, text(), size);
+    case ROW: return maltziru_row(ledger, names, NAMES, 0, three, 3, times, PLACES, values, VALUES).refusal;
+    case ROW_LINE: return maltziru_row_line(ledger, names, NAMES, text(), size, times, PLACES, values, VALUES).refusal;
+    case CLOCK: return maltziru_clock(ledger, 5).refusal;
+    case CLOCK_LINE: return maltziru_clock_line(ledger, text(), size).refusal;
+    case CLEAR_LINE: return maltziru_clear_line(ledger, text(), size).refusal;
+    case CALLER: return maltziru_caller(maltziru_nobody(), text(), size).refusal;
     default: return 0;
     }
 }

@@ -1,10 +1,10 @@
 /* What the cases share: the memory they lend, and lines made for them. */
-#include "chip.h"
-enum { LINE = 512, NAMES = 28, PLACES = 512, VALUES = 3072, GRANTS = 24, WORDS = GRANTS * 95 };
+#include "maltziru.h"
+enum { LINE = MALTZIRU_LINE, NAMES = MALTZIRU_NAMES, PLACES = MALTZIRU_TIMES, VALUES = MALTZIRU_VALUES, GRANTS = MALTZIRU_GRANTS, WORDS = MALTZIRU_WORDS };
 static uint64_t names[NAMES];
 static uint32_t times[PLACES], words[WORDS];
 static int32_t values[VALUES];
-static struct ledger ledger;
+static struct maltziru_ledger ledger;
 static char typed[LINE + 1];
 static unsigned size;
 
@@ -12,4 +12,4 @@ static void add(const char *s) { while (*s && size < LINE) typed[size++] = *s++;
 static void set(const char *s) { size = 0; add(s); }
 static unsigned count(const char *s) { unsigned n = 0; while (s[n]) n++; return n; }
 static const uint8_t *text(void) { return (const uint8_t *)typed; }
-static void declare(const char *s) { set(s); x_declare(names, NAMES, text(), size); }
+static void declare(const char *s) { set(s); maltziru_stream(names, NAMES, text(), size); }

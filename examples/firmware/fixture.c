@@ -1,7 +1,7 @@
 /* What the fixture's firmware does between two panels: declares its streams, takes rows with the clock, loads grants, asks as a fitter and as a reseller, prints a line, and meets refusals. */
 #include "maltziru.h"
 
-#ifdef FIXTURE_CHIP
+#ifdef CHIP
 void put(const char *s);
 static void put_char(char c) { char b[2] = { c, 0 }; put(b); }
 int main(void);

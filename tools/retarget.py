@@ -1,7 +1,7 @@
 """retarget.py IN.ll OUT.ll [NAME ..] [+NAME ..]: the compiler's module for a Cortex-M0, with what it leaves unsaid said.
 
 The module hands structs and slices over by pointer to a local of the caller, says nothing of that pointer, and copies what it points to at the start of each function. Said here, so that most of these copies go:
-- the target; code for size; the named functions are not inlined, those with a + are, for the sake of the stack;
+- the target; code for size; a struct of two words, which the module returns as one number, in memory as C expects it there; the named functions are not inlined, those with a + are, for the sake of the stack;
 - of a pointer that a function only copies from: how much it points to, that it is read only and is no other argument's (which holds at each call, or it is not said); of the pointer to the result: that it is no other argument's;
 - its alignment, where every call gives it; where a function does not write its copy, it has none;
 - where the life of a local begins and ends, so that locals share room;
@@ -245,4 +245,11 @@ text = re.sub(r'^target triple.*', 'target triple = "thumbv6m-unknown-none-eabi"
 text = re.sub(r'^attributes #0 = .*', 'attributes #0 = { nounwind optsize minsize }\nattributes #9 = { nounwind optsize minsize noinline }\nattributes #8 = { nounwind optsize minsize alwaysinline }', text, flags=re.M)
 if '@llvm.memcpy.p0.p0.i64(ptr' in text and 'declare void @llvm.memcpy' not in text:
     text += '\ndeclare void @llvm.memcpy.p0.p0.i64(ptr noalias writeonly captures(none), ptr noalias readonly captures(none), i64, i1 immarg) #1\n'
+
+
+def in_memory(m):
+    return 'define void @%s(ptr sret([8 x i8]) align 4 %%out, %s' % (m.group(1), re.sub(r'^  ret i64 (\S+)', r'  store i64 \1, ptr %out, align 4\n  ret void', m.group(2), flags=re.M))
+
+
+text = re.sub(r'^define (?:noundef )?i64 @(maltziru_\w+)\((.*?^\})', in_memory, text, flags=re.M | re.S)
 open(sys.argv[2], 'w').write(text)
