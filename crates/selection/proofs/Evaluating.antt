@@ -1,22 +1,25 @@
 -- Conditions of nodes, and the rows that they hold of.
-use mathlib.Core.Path.{_≡_, refl, sym, ap, ap₂, _∙_}
+use mathlib.Core.Path.{_≡_, refl, sym, ap, ap₂, _∙_, subst}
 use mathlib.Core.List.{List, [], _∷_, map}
 use mathlib.Core.Bool.{Bool, true, false, _&&_, _||_, not, cond}
 use Prim.Native.Nat.{ℕ, zero, suc, _+_, _*_, _-_, _/_, _%_, _<_, _≤_, min}
 use native.Mathlib.Decide.{decLt}
 use native.Mathlib.Omega.{arith}
-use lib.IntN.{ℤ}
+use lib.IntN.{ℤ, pos, negsuc}
+use lib.Signed.{leZ}
 use lib.ListN.{length, getD, List·getD-eq-default}
 use lib.Dec.{T, leb, ltb, eqb}
-use borrow.Author.Tests.{eq-eqb, ne-eqb, lt-ltb, le-ltb, eqb-true, eqb-false}
+use borrow.Author.Tests.{eq-eqb, ne-eqb, lt-ltb, le-ltb, lt-leb, le-leb, eqb-true, eqb-false}
 use Rattle.lists.specs.Lists.{every, some?, empty?}
 use Rattle.lists.proofs.Laws.{or-l, or-r, true-T}
 use Rattle.syntax.specs.Grammar.{Cond, test, all, any, neg, Conds, last, more}
 use Rattle.syntax.specs.Limits.{max-rows}
 use Rattle.model.specs.Queries.{Compare}
 use Rattle.model.specs.Conditions.{true-of, all-true, any-true, conds-of}
+use Rattle.model.specs.Meaning.{compares, compare-holds, term-value}
+use Rattle.model.specs.Grants.{fill-term, fill-compare}
 use Rattle.nodes.specs.declared.Node.{Node}
-use Rattle.nodes.specs.Nodes.{no-node, node-at, node-of, node-compare, link, some-conds, first-cond, headed, cond-in, list-in}
+use Rattle.nodes.specs.Nodes.{no-node, node-at, node-of, node-compare, numbered-op, coded-term, link, some-conds, first-cond, headed, cond-in, list-in}
 use Rattle.nodes.proofs.Reaching.{link-falls, list-step, list-stop, list-before, list-on, list-off, cond-on}
 use Rattle.nodes.proofs.Words.{node-none, node-number, node-entry, node-plain}
 use Rattle.nodes.proofs.Links.{Walk, First, walk-end}
@@ -24,8 +27,8 @@ use Rattle.rows.specs.declared.Rows.{Rows}
 use Rattle.rows.specs.Masks.{rows-of, no-rows, first-rows, both-of, either-of, flip-of}
 use Rattle.rows.proofs.Masks.{rows-alike, rows-all, rows-none, rows-and, rows-or, rows-flip}
 use Rattle.selection.specs.declared.Scope.{Scope}
-use Rattle.selection.specs.Scopes.{cond-at}
-use Rattle.selection.specs.Evaluating.{narrow, Taken, list-at, Leads, test-at, passing, all-passing, any-passing, list-passing, start-of, joined-of}
+use Rattle.selection.specs.Scopes.{cond-at, scope-columns, scope-row, profile-in}
+use Rattle.selection.specs.Evaluating.{narrow, Taken, list-at, lists, Listed, Carried, Leads, test-at, passing, all-passing, any-passing, list-passing, start-of, joined-of}
 
 -- ---- words and nodes
 
@@ -170,6 +173,15 @@ module _ (p : Compare → Bool) (ws : List ℕ) where
 
 -- ---- the evaluator
 
+module _ (ws : List ℕ) (k : ℕ) {h : ℕ} (u : h ≡ node-at ws k .head) where
+  pub list-low : h < 7 → false ≡ lists ws k
+  unfolding lists
+  list-low l = rw (sym u, lt-leb 7 h l)
+
+  pub list-some : 7 ≤ h → leb h 9 ≡ lists ws k
+  unfolding lists
+  list-some l = rw (sym u, le-leb 7 h l)
+
 module _ (sc : Scope) (ts : List ℕ) (vs : List ℤ) (ps : List ℕ) (ws : List ℕ) (k : ℕ) {h : ℕ} (u : h ≡ node-at ws k .head) where
   abbrev n : Node
   n = node-at ws k
@@ -209,11 +221,21 @@ module _ (sc : Scope) (ts : List ℕ) (vs : List ℤ) (ps : List ℕ) (ws : List
       go (yes y) = inner {stop = link ws k} refl y ∙ test-headed n (list-at ws (link ws k) (k - 1)) a b c
       go (no y) = let z : k ≡ 0 = omega arith in ap (λ (j : ℕ). cond-in (2 * j) ws j) z ∙ ap (λ (m : Node). test (node-compare m)) (sym (start z))
 
-  pub eval-low : {x : Rows} → h < 7 → x ≡ passing sc ts vs ps (test (node-compare n)) → x ≡ passing sc ts vs ps (cond-at ws k)
-  eval-low l f = f ∙ ap (passing sc ts vs ps) (sym (compared (λ e. omega arith) (λ e. omega arith) (λ e. omega arith)))
+  listed-head : (d : ℕ) → 7 ≤ d → d ≤ 9 → n .head ≡ d → lists ws k ≡ true
+  unfolding lists
+  listed-head d l m e = rw (e, le-leb 7 d l, le-leb d 9 m)
 
-  pub eval-high : {x : Rows} → 9 < h → x ≡ passing sc ts vs ps (test (node-compare n)) → x ≡ passing sc ts vs ps (cond-at ws k)
-  eval-high l f = f ∙ ap (passing sc ts vs ps) (sym (compared (λ e. omega arith) (λ e. omega arith) (λ e. omega arith)))
+  other : lists ws k ≡ false → (d : ℕ) → 7 ≤ d → d ≤ 9 → n .head ≡ d → ⊥
+  other f d l m e = subst (λ b. T b) (sym (listed-head d l m e) ∙ f) tt
+
+  pub leaf-cond : {x : Rows} → lists ws k ≡ false → x ≡ passing sc ts vs ps (test (node-compare n)) → x ≡ passing sc ts vs ps (cond-at ws k)
+  leaf-cond l f = f ∙ ap (passing sc ts vs ps) (sym (compared (other l 7 (omega arith) (omega arith)) (other l 8 (omega arith) (omega arith)) (other l 9 (omega arith) (omega arith))))
+
+  pub eval-low : {x : Rows} → h < 7 → (lists ws k ≡ false → x ≡ passing sc ts vs ps (cond-at ws k)) → x ≡ passing sc ts vs ps (cond-at ws k)
+  eval-low l f = f (sym (list-low ws k u l))
+
+  pub eval-high : {x : Rows} → 9 < h → (lists ws k ≡ false → x ≡ passing sc ts vs ps (cond-at ws k)) → x ≡ passing sc ts vs ps (cond-at ws k)
+  eval-high l f = f (sym (list-some ws k u (omega arith)) ∙ lt-leb h 9 l)
 
   -- places fall
   pub place-some : 7 ≤ h → 1 ≤ k
@@ -262,13 +284,25 @@ module _ (sc : Scope) (ts : List ℕ) (vs : List ℤ) (ps : List ℕ) (ws : List
         go true g f = f ∙ any-is (list-at ws stop (k - 1)) (some-listed ws stop (k - 1) c) ∙ sym (ap (passing sc ts vs ps) (inner el (taken-some l) ∙ any-headed n (list-at ws stop (k - 1)) (sym u ∙ eqb-true h 8 g)))
         go false g f = f ∙ all-is (list-at ws stop (k - 1)) (some-listed ws stop (k - 1) c) ∙ sym (ap (passing sc ts vs ps) (inner el (taken-some l) ∙ all-headed n (list-at ws stop (k - 1)) (seven-eight a b (eqb-false h 8 g))))
 
--- ---- the list evaluator: the conditions from its last on that were seen
+pub start-any : (b : Bool) (n : ℕ) {x : Rows} → b ≡ true → x ≡ no-rows → x ≡ start-of b n
+unfolding start-of
+start-any b n e f = rw e f
 
-pub record Listed (ws : List ℕ) (stop j : ℕ) (any? : Bool) (sc : Scope) (ts : List ℕ) (vs : List ℤ) (ps : List ℕ) (at : ℕ) (m : Rows) : Type 0 where
-  pub seen : List (Cond Compare)
-  pub mask : m ≡ list-passing any? sc ts vs ps seen
-  pub left : list-at ws stop j ≡ list-before ws stop at seen
-  pub low : at ≤ j
+pub start-all : (b : Bool) (n : ℕ) {x : Rows} → b ≡ false → x ≡ first-rows n → x ≡ start-of b n
+unfolding start-of
+start-all b n e f = rw e f
+
+pub join-any : (b : Bool) (x m : Rows) {r : Rows} → b ≡ true → r ≡ either-of x m → r ≡ joined-of b x m
+unfolding joined-of
+join-any b x m e f = rw e f
+
+pub join-all : (b : Bool) (x m : Rows) {r : Rows} → b ≡ false → r ≡ both-of x m → r ≡ joined-of b x m
+unfolding joined-of
+join-all b x m e f = rw e f
+
+pub ruleset join-ends = (start-any, start-all, join-any, join-all)
+
+-- ---- the list evaluator: the conditions from its last on that were seen
 
 module _ (ws : List ℕ) (stop j : ℕ) (any? : Bool) (sc : Scope) (ts : List ℕ) (vs : List ℤ) (ps : List ℕ) where
   start-is : (b : Bool) → start-of b (sc .rows) ≡ list-passing b sc ts vs ps []
@@ -309,26 +343,60 @@ module _ (ws : List ℕ) (stop j : ℕ) (any? : Bool) (sc : Scope) (ts : List �
     pub listed-end : at ≤ stop → m ≡ list-passing any? sc ts vs ps (list-at ws stop j)
     listed-end h = l .mask ∙ ap (list-passing any? sc ts vs ps) (sym (l .left ∙ list-off ws stop at (l .seen) h))
 
-pub start-any : (b : Bool) (n : ℕ) {x : Rows} → b ≡ true → x ≡ no-rows → x ≡ start-of b n
-unfolding start-of
-start-any b n e f = rw e f
+-- from a place on
+module _ (ws : List ℕ) (stop j : ℕ) (any? : Bool) (sc : Scope) (ts : List ℕ) (vs : List ℤ) (ps : List ℕ) where
+  pub carried-start : {m : Rows} → Carried ws stop j any? sc ts vs ps m j m
+  carried-start = record { low = omega arith; on = λ k l. l }
 
-pub start-all : (b : Bool) (n : ℕ) {x : Rows} → b ≡ false → x ≡ first-rows n → x ≡ start-of b n
-unfolding start-of
-start-all b n e f = rw e f
+  module _ {start : Rows} {at : ℕ} {m : Rows} (r : Carried ws stop j any? sc ts vs ps start at m) where
+    pub carried-more : {b : ℕ} {x y : Rows} → stop < at → lists ws at ≡ false → b ≡ link ws at → x ≡ passing sc ts vs ps (test (node-compare (node-at ws at))) → y ≡ joined-of any? x m → Carried ws stop j any? sc ts vs ps start b y
+    carried-more {b} h f e g d =
+        let a = r .low in
+        let c = link-falls ws at in
+        record {
+          low = omega arith;
+          on = λ k l. listed-more ws stop k any? sc ts vs ps (r .on k l) h e (leaf-cond sc ts vs ps ws at refl f g) d;
+        }
 
-pub join-any : (b : Bool) (x m : Rows) {r : Rows} → b ≡ true → r ≡ either-of x m → r ≡ joined-of b x m
-unfolding joined-of
-join-any b x m e f = rw e f
+-- ---- one comparison
 
-pub join-all : (b : Bool) (x m : Rows) {r : Rows} → b ≡ false → r ≡ both-of x m → r ≡ joined-of b x m
-unfolding joined-of
-join-all b x m e f = rw e f
+le-self : (x : ℤ) → leZ x x ≡ true
+le-self (pos a) = le-leb a a (omega arith)
+le-self (negsuc a) = le-leb a a (omega arith)
 
-pub ruleset join-ends = (start-any, start-all, join-any, join-all)
+module _ (ws : List ℕ) (k : ℕ) (sc : Scope) (ts : List ℕ) (vs : List ℤ) (ps : List ℕ) where
+  pub leaf-none : {x : Rows} → k ≡ 0 → x ≡ first-rows (sc .rows) → x ≡ passing sc ts vs ps (cond-at ws k)
+  unfolding passing cond-at cond-in true-of test-at compare-holds fill-compare node-compare no-node numbered-op compares first-rows
+  leaf-none e f =
+      f ∙ rows-alike (λ i. true) (λ i. true-of (test-at sc ts vs ps i) (cond-at ws 0)) 0 (sc .rows) (λ i a b. sym (le-self (term-value (scope-columns sc) (scope-row sc ts vs i) (fill-term (profile-in ps) (coded-term 0 0)))))
+      ∙ ap (λ (j : ℕ). rows-of (λ i. true-of (test-at sc ts vs ps i) (cond-at ws j)) 0 (sc .rows)) (sym e)
+
+  alone : 1 ≤ k → list-at ws (k - 1) k ≡ cond-at ws k ∷ []
+  unfolding list-at
+  alone h = let c = link-falls ws k in listed-on ws (k - 1) k [] (omega arith) ∙ list-off ws (k - 1) (link ws k) (cond-at ws k ∷ []) (omega arith)
+
+  single : (c : Cond Compare) → list-passing false sc ts vs ps (c ∷ []) ≡ passing sc ts vs ps c
+  unfolding list-passing all-passing passing every
+  single c = rows-alike (λ i. true-of (test-at sc ts vs ps i) c && true) (λ i. true-of (test-at sc ts vs ps i) c) 0 (sc .rows) (λ i a b. and-true (true-of (test-at sc ts vs ps i) c))
+    where
+      and-true : (b : Bool) → (b && true) ≡ b
+      and-true true = refl
+      and-true false = refl
+
+  pub leaf-some : {start m : Rows} {at : ℕ} → (k ≡ 0 → ⊥) → start ≡ first-rows (sc .rows) → Carried ws (k - 1) k false sc ts vs ps start at m → (k - 1 < at → lists ws at ≡ true) → lists ws k ≡ false → m ≡ passing sc ts vs ps (cond-at ws k)
+  leaf-some {at = at} n e r z l = listed-end ws (k - 1) k false sc ts vs ps (r .on k (listed-start ws (k - 1) k false sc ts vs ps (start-all false (sc .rows) refl e))) done ∙ ap (list-passing false sc ts vs ps) (alone (omega arith)) ∙ single (cond-at ws k)
+    where
+      done : at ≤ k - 1
+      done = go (decLt (k - 1) at)
+        where
+          go : Dec (k - 1 < at) → at ≤ k - 1
+          go (yes h) = let a = r .low in let w : at ≡ k = omega arith in absurd (subst (λ b. T b) (sym (ap (lists ws) (sym w) ∙ z h) ∙ l) tt)
+          go (no h) = omega arith
 
 pub ruleset list-ends = (listed-start, listed-more, listed-falls, listed-below, listed-end)
 
 pub ruleset place-ends = (place-some, not-falls, none-falls, list-falls)
+
+pub ruleset list-tests = (list-low, list-some)
 
 pub ruleset eval-ends = (eval-low, eval-high, eval-not, eval-none, eval-list)

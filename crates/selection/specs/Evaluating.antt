@@ -96,6 +96,10 @@ pub record Taken (ws : List ℕ) (k : ℕ) (n : Node) : Type 0 where
 unfoldable pub list-at : List ℕ → ℕ → ℕ → List (Cond Compare)
 list-at ws stop j = list-in (2 * j + 1) ws stop j []
 
+-- the condition that ends at a place is `and`, `or` or `not` of others
+unfoldable pub lists : List ℕ → ℕ → Bool
+lists ws k = leb 7 (node-at ws k .head) && leb (node-at ws k .head) 9
+
 -- the first of them ends at a place
 pub record Leads (ws : List ℕ) (stop j r : ℕ) : Type 0 where
   pub low : r ≤ j
@@ -123,6 +127,18 @@ start-of any n = cond any no-rows (first-rows n)
 
 unfoldable pub joined-of : Bool → Rows → Rows → Rows
 joined-of any x m = cond any (either-of x m) (both-of x m)
+
+-- the rows of the conditions from the last of a list on that were seen, where those that end at a place and before it are left
+pub record Listed (ws : List ℕ) (stop j : ℕ) (any? : Bool) (sc : Scope) (ts : List ℕ) (vs : List ℤ) (ps : List ℕ) (at : ℕ) (m : Rows) : Type 0 where
+  pub seen : List (Cond Compare)
+  pub mask : m ≡ list-passing any? sc ts vs ps seen
+  pub left : list-at ws stop j ≡ list-in (2 * at + 1) ws stop at seen
+  pub low : at ≤ j
+
+-- from one place to a lower one, of whatever list
+pub record Carried (ws : List ℕ) (stop j : ℕ) (any? : Bool) (sc : Scope) (ts : List ℕ) (vs : List ℤ) (ps : List ℕ) (start : Rows) (at : ℕ) (m : Rows) : Type 0 where
+  pub low : at ≤ j
+  pub on : (k : ℕ) → Listed ws stop k any? sc ts vs ps j start → Listed ws stop k any? sc ts vs ps at m
 
 -- ---- times within two
 

@@ -1,7 +1,7 @@
 // The rows that conditions select, for all rows of a stream at once.
 ghost use mathlib.Core.Path.{_≡_};
 ghost use mathlib.Core.List.{[], _∷_, map};
-ghost use mathlib.Core.Bool.{true};
+ghost use mathlib.Core.Bool.{true, false};
 ghost use Prim.Native.Nat.{_≤_, _<_, _+_, _*_, _-_, _/_, _%_, min, max};
 ghost use lib.Dec.{T};
 ghost use lib.IntN.{ℤ, pos};
@@ -17,7 +17,7 @@ ghost use Rattle.nodes.specs.Nodes.{unbiased, coded-term, numbered-op, node-of,
 ghost use Rattle.rows.specs.Masks.{one, bits, part, rows-of};
 ghost use Rattle.cells.specs.Columns.{strip, strip-lent, compared-at};
 ghost use Rattle.selection.specs.Scopes.{times-fit, scope-fits, profile-in, cond-at, selected, selected-all, timely};
-ghost use Rattle.selection.specs.Evaluating.{relate, column-end, left-time, side-value, Stands, Lent, left-named, wide, narrow, Taken, Leads, passing, list-passing, list-at, start-of, joined-of, in-span, timed, past, low-of, high-of, in-limits, time-at, clock-at, later-of, clocked};
+ghost use Rattle.selection.specs.Evaluating.{relate, column-end, left-time, side-value, Stands, Lent, left-named, wide, narrow, Taken, Leads, passing, list-passing, list-at, start-of, joined-of, in-span, timed, past, low-of, high-of, in-limits, time-at, clock-at, later-of, clocked, lists, Carried};
 use cells::Cell;
 use grant::Grant;
 use ledger::Ledger;
@@ -56,6 +56,12 @@ struct Side {
     kind: u32,
     at: u32,
     value: i32,
+}
+
+// Rows so far, and the place of the next condition.
+struct Reached {
+    rows: Rows,
+    at: u32,
 }
 
 impl Side {
@@ -717,6 +723,59 @@ fn joined(any: bool, x: Rows, m: Rows) -> Rows
     x.both(m)
 }
 
+// Whether the condition that ends at a place is a list of conditions.
+fn is_list(words: &[u32], k: u32) -> bool
+    ensures { λ r. ⌜ r ≡ lists (now (words .entry)) k ⌝ }
+{
+    let head = head_of(words, k);
+    if head < Node::AND {
+        return false;
+    }
+    head <= Node::NOT
+}
+
+// The rows so far, with the comparisons that end at place j and before it joined, down to a stop or to a list; and where that is.
+// A comparison is made here alone, so that what all of them use is read once.
+fn leaves(
+    words: &[u32],
+    stop: u32,
+    j: u32,
+    any: bool,
+    start: Rows,
+    sc: Scope,
+    profile: &[u64],
+    times: &[u32],
+    values: &[i32],
+) -> Reached
+    requires { ⌜ Lent sc (now times) (now values) ⌝ }
+    ensures { λ r. ⌜ Carried (now (words .entry)) stop j any sc (now (times .entry)) (now (values .entry)) (now (profile .entry)) start (r .at) (r .rows) × (stop < r .at → lists (now (words .entry)) (r .at) ≡ true) ⌝ }
+{
+    let mut m = start;
+    let mut at = j;
+    while stop < at {
+        if is_list(words, at) {
+            return Reached { rows: m, at: at };
+        }
+        let x = compare_at(words, at, sc, profile, times, values);
+        m = joined(any, x, m);
+        at = link_at(words, at);
+    }
+    Reached { rows: m, at: at }
+}
+
+// The rows that the comparison holds of that ends at a place; of none all rows.
+fn leaf(words: &[u32], k: u32, sc: Scope, profile: &[u64], times: &[u32], values: &[i32]) -> Rows
+    requires { ⌜ Lent sc (now times) (now values) ⌝ }
+    ensures { λ r. ⌜ (lists (now (words .entry)) k ≡ false → r ≡ passing sc (now (times .entry)) (now (values .entry)) (now (profile .entry)) (cond-at (now (words .entry)) k)) ⌝ }
+{
+    let all = Rows::first(sc.rows);
+    if k == 0 {
+        return all;
+    }
+    let w = leaves(words, k - 1, k, false, all, sc, profile, times, values);
+    w.rows
+}
+
 // The rows that the condition holds of that ends at place k.
 fn eval(words: &[u32], k: u32, sc: Scope, profile: &[u64], times: &[u32], values: &[i32]) -> Rows
     requires { ⌜ Lent sc (now times) (now values) ⌝ }
@@ -724,10 +783,10 @@ fn eval(words: &[u32], k: u32, sc: Scope, profile: &[u64], times: &[u32], values
 {
     let head = head_of(words, k);
     if head < Node::AND {
-        return compare_at(words, k, sc, profile, times, values);
+        return leaf(words, k, sc, profile, times, values);
     }
     if Node::NOT < head {
-        return compare_at(words, k, sc, profile, times, values);
+        return leaf(words, k, sc, profile, times, values);
     }
     let stop = link_at(words, k);
     if head == Node::NOT {
@@ -766,9 +825,14 @@ fn list(
     let mut m = started(any, sc.rows);
     let mut at = j;
     while stop < at {
-        let x = eval(words, at, sc, profile, times, values);
-        m = joined(any, x, m);
-        at = link_at(words, at);
+        let w = leaves(words, stop, at, any, m, sc, profile, times, values);
+        let k = w.at;
+        if k <= stop {
+            return w.rows;
+        }
+        let x = eval(words, k, sc, profile, times, values);
+        m = joined(any, x, w.rows);
+        at = link_at(words, k);
     }
     m
 }

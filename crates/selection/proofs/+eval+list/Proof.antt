@@ -4,7 +4,8 @@ use native.Mathlib.Omega.{arith}
 use borrow.Author.Needs.{needs}
 use borrow.Fn.Kinds.{In}
 use borrow.Fn.PlainCycle.{Measures, is, falls, and}
-use Rattle.selection.proofs.Evaluating.{Listed, eval-ends, list-ends, place-ends}
+use Rattle.selection.specs.Evaluating.{Listed}
+use Rattle.selection.proofs.Evaluating.{eval-ends, list-ends, place-ends, listed-end, listed-below, listed-falls, listed-more}
 use Rattle.selection.proofs.eval.Reads as eval
 use Rattle.selection.proofs.eval.Kinds as eval-kinds
 use Rattle.selection.proofs.+eval+list.Lts-eval as eval-lts
@@ -13,7 +14,8 @@ use Rattle.selection.proofs.list.Kinds as list-kinds
 use Rattle.selection.proofs.+eval+list.Lts-list as list-lts
 use Rattle.rows.proofs.Rows.first.Reads as first-reads
 use Rattle.rows.proofs.Rows.flip.Reads as flip-reads
-use Rattle.selection.proofs.compare_at.Reads as compare-at-reads
+use Rattle.selection.proofs.leaf.Reads as leaf-reads
+use Rattle.selection.proofs.leaves.Reads as leaves-reads
 use Rattle.selection.proofs.first_of.Reads as first-of-reads
 use Rattle.selection.proofs.joined.Reads as joined-reads
 use Rattle.selection.proofs.link_at.Reads as link-at-reads
@@ -41,10 +43,10 @@ abbrev list-below : ℕ → In 4 list-kinds.ps
 list-below t = and 4 list-kinds.ps (falls 4 list-kinds.ps _<_ μ-list t) list.Pre
 
 abbrev eval-claims : ℕ → eval-lts.Claims
-eval-claims t = (head-of-reads.Asked, head-of-reads.Learnt, compare-at-reads.Asked, compare-at-reads.Learnt, link-at-reads.Asked, link-at-reads.Learnt, first-of-reads.Asked, first-of-reads.Learnt, first-reads.Asked, first-reads.Learnt, eval-below t, eval.Post, flip-reads.Asked, flip-reads.Learnt, list-below t, list.Post)
+eval-claims t = (head-of-reads.Asked, head-of-reads.Learnt, leaf-reads.Asked, leaf-reads.Learnt, link-at-reads.Asked, link-at-reads.Learnt, first-of-reads.Asked, first-of-reads.Learnt, first-reads.Asked, first-reads.Learnt, eval-below t, eval.Post, flip-reads.Asked, flip-reads.Learnt, list-below t, list.Post)
 
 abbrev list-claims : ℕ → list-lts.Claims
-list-claims t = (started-reads.Asked, started-reads.Learnt, eval-below t, eval.Post, joined-reads.Asked, joined-reads.Learnt, link-at-reads.Asked, link-at-reads.Learnt)
+list-claims t = (started-reads.Asked, started-reads.Learnt, leaves-reads.Asked, leaves-reads.Learnt, eval-below t, eval.Post, joined-reads.Asked, joined-reads.Learnt, link-at-reads.Asked, link-at-reads.Learnt)
 
 abbrev list-Inv-loop : list-lts.InvT-loop
 list-Inv-loop words stop j any sc profile times values m₀ at₀ m at = Listed words stop j any sc times values profile at m
@@ -58,11 +60,11 @@ pub +eval+list-spec : {M : Type 1} → statement M
     (λ t. eval-lts.spec (eval-claims t) (eval-at t) eval.Post
     {- head-of-requires -}
     (λ c κs. search needs)
-    {- compare-at-requires -}
+    {- leaf-requires -}
     (λ c κs. search needs)
     {- returns -}
     (λ c. search (eval-ends, needs))
-    {- compare-at-requires-2 -}
+    {- leaf-requires-2 -}
     (λ c κs. search needs)
     {- returns-2 -}
     (λ c. search (eval-ends, needs))
@@ -97,15 +99,19 @@ pub +eval+list-spec : {M : Type 1} → statement M
     (λ c κs. search needs)
     {- loop-holds -}
     (λ c. search (list-ends, needs))
+    {- leaves-requires -}
+    (λ c κs. search needs)
+    {- returns -}
+    (λ c. let a = c .before .before .before .before .before .before .before .before .before .args in let w = c .before .before .leaves .ensures .0 in let l = w .on (a .j) (c .before .before .before .before .loop .inv) in listed-end (a .words .now) (a .stop) (a .j) (a .any) (a .sc) (a .times .now) (a .values .now) (a .profile .now) l (c .before .if1 .taken))
     {- eval-requires -}
-    (λ c κs. (search (list-ends, needs), search needs))
+    (λ c κs. (let a = c .before .before .before .before .before .before .before .before .args in let w = c .before .leaves .ensures .0 in let l = w .on (a .j) (c .before .before .before .loop .inv) in listed-below (a .words .now) (a .stop) (a .j) (a .any) (a .sc) (a .times .now) (a .values .now) (a .profile .now) l (search needs), search needs))
     {- joined-requires -}
     (λ c κs. search needs)
     {- link-at-requires -}
     (λ c κs. search needs)
     {- loop-less -}
-    (λ c. search (list-ends, needs))
+    (λ c. let a = c .before .before .before .before .before .before .before .before .before .before .before .args in let w = c .before .before .before .before .leaves .ensures .0 in let l = w .on (a .j) (c .before .before .before .before .before .before .loop .inv) in let f = listed-falls (a .words .now) (a .stop) (a .j) (a .any) (a .sc) (a .times .now) (a .values .now) (a .profile .now) l (let g = c .before .before .before .if1 .left in omega arith) (c .link-at .ensures) in let h = w .low in omega arith)
     {- loop-again -}
-    (λ c. search (list-ends, needs))
-    {- returns -}
+    (λ c. let a = c .before .before .before .before .before .before .before .before .before .before .before .args in let w = c .before .before .before .before .leaves .ensures .0 in let l = w .on (a .j) (c .before .before .before .before .before .before .loop .inv) in listed-more (a .words .now) (a .stop) (a .j) (a .any) (a .sc) (a .times .now) (a .values .now) (a .profile .now) l (let g = c .before .before .before .if1 .left in omega arith) (c .link-at .ensures) (c .before .before .eval .ensures) (c .before .joined .ensures))
+    {- returns-2 -}
     (λ c. search (list-ends, needs)))
