@@ -2,7 +2,7 @@
 use mathlib.Core.Path.{_≡_, refl, sym, ap, _∙_}
 use mathlib.Core.List.{List, _∷_, _++_}
 use mathlib.Core.Option.{Option, none, some}
-use mathlib.Core.Bool.{not}
+use mathlib.Core.Bool.{true, not, _&&_}
 use native.Mathlib.Omega.{arith}
 use Prim.Native.Nat.{ℕ}
 use lib.IntN.{ℤ}
@@ -14,6 +14,7 @@ use Rattle.refusal.specs.declared.Refusal.the-variants.{Lent}
 use Rattle.refusal.proofs.Passing.{first-skip}
 use Rattle.refusal.proofs.Verdicts.{never, never-first}
 use Rattle.lists.specs.Lists.{every}
+use Rattle.lists.proofs.Laws.{and-both, true-T}
 use Rattle.syntax.specs.Grammar.{Bytes}
 use Rattle.syntax.specs.Readers.{parse-query}
 use Rattle.calls.specs.Replies.{reply}
@@ -21,12 +22,26 @@ use Rattle.calls.specs.Tables.{query-checks}
 use Rattle.calls.specs.Asking.{answer-checks, line-checks, with-route}
 use Rattle.calls.specs.Events.{Event}
 use Rattle.calls.proofs.Order.{never-written}
-use Rattle.history.specs.Fixtures.{Store, Trace, Fresh}
+use Rattle.ledger.specs.Records.{memory-sound}
+use Rattle.caller.specs.declared.Caller.{Caller}
+use Rattle.caller.specs.Callers.{caller-sound}
+use Rattle.grant.specs.Catalogues.{catalogue-sound}
+use Rattle.history.specs.Fixtures.{Store, Trace, Sound, Fresh}
 use Rattle.history.proofs.Events.{left-after}
 use Rattle.ask.specs.declared.Reply.{Reply}
 use Rattle.ask.specs.Replies.{reply-of, Replies}
-use Rattle.ask.specs.Asking.{lent-sound, asked-table, asked, lined-table, lined}
-use Rattle.demands.proofs.Interference.{lends, store-lent}
+use Rattle.ask.specs.Asking.{Lending, lent-sound, asked-table, asked, lined-table, lined}
+
+-- what a store lends to a query of a caller
+abbrev lends : Store → Caller → Lending
+lends s w = record { memory = s .memory; grants = s .grants; granted = s .words; caller = w }
+
+store-lent : (s : Store) (w : Caller) → Sound s → caller-sound w ≡ true → T (lent-sound (lends s w))
+unfolding lent-sound
+store-lent s w k e =
+    let m = memory-sound (s .memory) in
+    let c = catalogue-sound (s .memory .names) (s .grants) (s .words) in
+    and-both (m && c) (caller-sound w) (and-both m c (k .memory .lent) (k .grants)) (true-T (caller-sound w) e)
 
 -- a table that does not give 12
 not-twelve : {A : Type 0} (o : Option Refusal) (out lent : List A) {p : List A} {y : Reply} → ((f : Refusal) → o ≡ some f → number-of f ≡ 12 → ⊥) → Replies (reply o out lent) lent p y → y .refusal ≡ 12 → ⊥

@@ -1,4 +1,5 @@
 pub mod Defined
 pub mod Answered
+pub mod Catalogues
 pub mod Interference
 pub mod Lent

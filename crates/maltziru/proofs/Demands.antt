@@ -26,11 +26,11 @@ use Rattle.ask.specs.declared.Reply.{Reply}
 use Rattle.ask.specs.Replies.{reply-of, Replies}
 use Rattle.ask.specs.Asking.{Lending, asked-table, asked, lined-table, lined}
 use Rattle.demands.proofs.Answered as A
+use Rattle.demands.proofs.Interference as I
 use Rattle.maltziru.specs.Calls.{said}
 use Rattle.maltziru.specs.Lists.{lending, Called, Calls, table-of, first-number}
 use Rattle.maltziru.proofs.Lists.{happens, trace}
 use Rattle.maltziru.proofs.Refusals as R
-use Rattle.maltziru.proofs.Interference as I
 
 -- ---- demand 1: every call is answered or refused by its table, and a refusal changes nothing
 
@@ -90,7 +90,7 @@ pub same-answers : {s t u v : Store} {es fs : List Event} → Fresh s → Calls 
     → Replies (asked 0 (parse-query query) (lending (u .memory) grants words caller) query cells) cells p i
     → Replies (asked 0 (parse-query query) (lending (v .memory) grants words caller) query cells) cells q j
     → (i ≡ j) × (p ≡ q)
-same-answers f r g k gs ws w a bs cells h l = I.same-answers f r g k gs ws w a bs cells h l
+same-answers f r g k gs ws w a bs cells h l = I.same-answers f (trace r) g (trace k) gs ws w a bs cells h l
 
 -- and every call for a line
 pub same-lines : {s t u v : Store} {es fs : List Event} → Fresh s → Calls s es u → Fresh t → Calls t fs v
@@ -99,4 +99,4 @@ pub same-lines : {s t u v : Store} {es fs : List Event} → Fresh s → Calls s 
     → Replies (lined 0 (with-route route (parse-query query)) (lending (u .memory) grants words caller) query out) out p i
     → Replies (lined 0 (with-route route (parse-query query)) (lending (v .memory) grants words caller) query out) out q j
     → (i ≡ j) × (p ≡ q)
-same-lines f r g k gs ws w a n bs out h l = I.same-lines f r g k gs ws w a n bs out h l
+same-lines f r g k gs ws w a n bs out h l = I.same-lines f (trace r) g (trace k) gs ws w a n bs out h l

@@ -36,7 +36,7 @@ unfoldable pub grants-kept : ℕ → List Grant → Grant → List Grant
 grants-kept refusal gs g = cond (eqb refusal 0) (gs ++ (g ∷ [])) gs
 
 -- what is lent to a query: the record's memory, and any catalogue and caller
-unfoldable pub lending : Memory → List Grant → List ℕ → Caller → Lending
+abbrev pub lending : Memory → List Grant → List ℕ → Caller → Lending
 lending m gs ws w = record { memory = m; grants = gs; granted = ws; caller = w }
 
 -- One call by its contract: what the program had, what it has then, and the refusal that was returned, or 0. Queries may lend any catalogue, caller, cells and bytes; they leave what the program keeps.
