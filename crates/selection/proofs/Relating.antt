@@ -28,7 +28,7 @@ use Rattle.cells.proofs.Columns.{lent-true}
 use Rattle.selection.specs.declared.Side.{Side}
 use Rattle.selection.specs.declared.Scope.{Scope}
 use Rattle.selection.specs.Scopes.{scope-columns, scope-row, paired, entry-at, profile-in}
-use Rattle.selection.specs.Evaluating.{relate, column-end, left-time, time-at, clock-at, side-value, Stands, wide, narrow, test-at, passing}
+use Rattle.selection.specs.Evaluating.{relate, column-end, left-time, time-at, clock-at, side-value, parted, bare, Stands, wide, narrow, test-at, passing}
 use Rattle.selection.proofs.Comparing.{le-not, Turned}
 
 -- ---- sides
@@ -53,8 +53,14 @@ module _ (sc : Scope) (ts : List ℕ) (vs : List ℤ) where
   unfolding side-value clock-at
   valued-time x e = record { each = λ i. rw e }
 
-  pub valued-self : (x : Side) → Valued (side-value x sc ts vs) x sc ts vs
-  valued-self x = record { each = λ i. refl }
+  -- by their parts
+  pub valued-bare : (x : Side) → x .kind ≡ 2 → Valued (clock-at (bare (sc .stream) (sc .rows) (sc .fixed)) ts) x sc ts vs
+  unfolding side-value clock-at time-at left-time paired
+  valued-bare x e = record { each = λ i. rw e }
+
+  pub valued-parted : (x : Side) {v : ℤ} → v ≡ x .value → Valued (side-value (parted (x .kind) (x .at) v) (bare (sc .stream) (sc .rows) (sc .fixed)) ts vs) x sc ts vs
+  unfolding side-value time-at left-time paired
+  valued-parted x e = record { each = λ i. rw e }
 
   module _ (l r : Side) where
     -- the rows that are asked for

@@ -62,6 +62,13 @@ clocked low ts from i = later-of low (getD ts (from + i) 0)
 unfoldable pub side-value : Side → Scope → List ℕ → List ℤ → ℕ → ℤ
 side-value x sc ts vs i = cond (eqb (x .kind) 1) (getD vs (x .at + i * max-columns) (pos 0)) (cond (eqb (x .kind) 2) (pos (time-at sc ts i)) (x .value))
 
+-- a side of its parts, and the rows of a stream beside a place, whatever their columns
+abbrev pub parted : ℕ → ℕ → ℤ → Side
+parted kind at v = record { kind = kind; at = at; value = v }
+
+abbrev pub bare : ℕ → ℕ → ℕ → Scope
+bare stream n fixed = record { stream = stream; width = 0; rows = n; fixed = fixed; other = 0; breadth = 0 }
+
 -- a side stands for a term: it has its value in each row
 pub record Stands (sc : Scope) (vs : List ℤ) (t : Term) (x : Side) : Type 0 where
   pub near : x .at < column-end

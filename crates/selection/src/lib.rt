@@ -17,7 +17,7 @@ ghost use Rattle.nodes.specs.Nodes.{unbiased, coded-term, numbered-op, node-of,
 ghost use Rattle.rows.specs.Masks.{one, bits, part, rows-of};
 ghost use Rattle.cells.specs.Columns.{strip, strip-lent, compared-at};
 ghost use Rattle.selection.specs.Scopes.{times-fit, scope-fits, profile-in, cond-at, selected, selected-all, timely};
-ghost use Rattle.selection.specs.Evaluating.{relate, column-end, left-time, side-value, Stands, Lent, left-named, wide, narrow, Taken, Leads, passing, list-passing, list-at, start-of, joined-of, in-span, timed, past, low-of, high-of, in-limits, time-at, clock-at, later-of, clocked, lists, Carried};
+ghost use Rattle.selection.specs.Evaluating.{relate, column-end, left-time, side-value, Stands, Lent, left-named, wide, narrow, Taken, Leads, passing, list-passing, list-at, start-of, joined-of, in-span, timed, past, low-of, high-of, in-limits, time-at, clock-at, later-of, clocked, bare, parted, lists, Carried};
 use cells::Cell;
 use grant::Grant;
 use ledger::Ledger;
@@ -402,26 +402,37 @@ fn by_time(head: u32, v: Cell, sc: Scope, times: &[u32]) -> Rows
 }
 
 // The rows whose time compares so with a side; with itself it does as any value.
-fn by_times(head: u32, r: Side, sc: Scope, times: &[u32], values: &[i32]) -> Rows
-    requires { ⌜ Lent sc (now times) (now values) × (r .at < column-end) ⌝ }
-    ensures { λ x. ⌜ x ≡ rows-of (relate head (clock-at sc (now (times .entry))) (side-value r sc (now (times .entry)) (now (values .entry)))) 0 (sc .rows) ⌝ }
+// The side and the scope are handed over in parts, which no other comparison then leaves in memory.
+fn by_times(
+    head: u32,
+    kind: u32,
+    at: u32,
+    v: Cell,
+    stream: u32,
+    n: u32,
+    fixed: u32,
+    times: &[u32],
+    values: &[i32],
+) -> Rows
+    requires { ⌜ (stream < max-streams) × (n ≤ max-rows) × (places-size ≤ length (now times)) × (values-size ≤ length (now values)) × (at < column-end) ⌝ }
+    ensures { λ x. ⌜ x ≡ rows-of (relate head (clock-at (bare stream n fixed) (now (times .entry))) (side-value (parted kind at (v .v)) (bare stream n fixed) (now (times .entry)) (now (values .entry)))) 0 n ⌝ }
 {
-    if r.kind == Side::COLUMN {
+    let sc = Scope {
+        stream: stream,
+        width: 0,
+        rows: n,
+        fixed: fixed,
+        other: 0,
+        breadth: 0,
+    };
+    if kind == Side::COLUMN {
         let low = clock(Cell { v: 0 }, left_time(sc, times));
-        return by_clock(
-            head,
-            low,
-            times,
-            sc.stream * Scope::ROWS,
-            values,
-            r.at,
-            sc.rows,
-        );
+        return by_clock(head, low, times, stream * Scope::ROWS, values, at, n);
     }
-    if r.kind == Side::TIME {
-        return settled(head, Cell { v: 0 }, Cell { v: 0 }, sc.rows);
+    if kind == Side::TIME {
+        return settled(head, Cell { v: 0 }, Cell { v: 0 }, n);
     }
-    by_time(head, Cell { v: r.value }, sc, times)
+    by_time(head, v, sc, times)
 }
 
 // The rows where two sides compare so.
@@ -430,10 +441,32 @@ fn compared(head: u32, l: Side, r: Side, sc: Scope, times: &[u32], values: &[i32
     ensures { λ x. ⌜ x ≡ rows-of (relate head (side-value l sc (now (times .entry)) (now (values .entry))) (side-value r sc (now (times .entry)) (now (values .entry)))) 0 (sc .rows) ⌝ }
 {
     if l.kind == Side::TIME {
-        return by_times(head, r, sc, times, values);
+        let v = Cell { v: r.value };
+        return by_times(
+            head,
+            r.kind,
+            r.at,
+            v,
+            sc.stream,
+            sc.rows,
+            sc.fixed,
+            times,
+            values,
+        );
     }
     if r.kind == Side::TIME {
-        return by_times(turned(head), l, sc, times, values);
+        let v = Cell { v: l.value };
+        return by_times(
+            turned(head),
+            l.kind,
+            l.at,
+            v,
+            sc.stream,
+            sc.rows,
+            sc.fixed,
+            times,
+            values,
+        );
     }
     if l.kind == Side::COLUMN {
         if r.kind == Side::COLUMN {
