@@ -16,7 +16,7 @@ use mir.ValLaws.{toZ-ofZ}
 use borrow.Author.Tests.{ne-eqb, le-leb, lt-leb, lt-ltb, le-ltb, ltb-true, ltb-false, not-true, not-false}
 use Rattle.lists.specs.Lists.{every}
 use Rattle.lists.proofs.Laws.{true-T, and-l, and-r, parts}
-use Rattle.syntax.specs.Grammar.{Cond, Op, eq, ge, le}
+use Rattle.syntax.specs.Grammar.{Cond, eq, ge, le}
 use Rattle.syntax.specs.Limits.{max-streams, max-rows, top}
 use Rattle.model.specs.Queries.{Col, Row, Compare}
 use Rattle.model.specs.Conditions.{true-of}

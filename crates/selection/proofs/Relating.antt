@@ -2,7 +2,7 @@
 use mathlib.Core.Path.{_≡_, refl, sym, ap, ap₂, _∙_}
 use mathlib.Core.List.{List, [], _∷_, map}
 use mathlib.Core.Bool.{Bool, true, false, _&&_, not, cond}
-use Prim.Native.Nat.{ℕ, _+_, _*_, _-_, _/_, _%_, _<_, _≤_, min, max}
+use Prim.Native.Nat.{ℕ, _+_, _*_, _-_, _/_, _%_, _<_, _≤_}
 use native.Mathlib.Omega.{arith}
 use lib.IntN.{ℤ, pos, negsuc}
 use lib.Dec.{T, leb, ltb, eqb, eqb→eq, ltb→lt}
@@ -12,7 +12,7 @@ use borrow.Author.Tests.{eq-eqb, ne-eqb, lt-ltb, le-ltb, le-leb, ltb-true, ltb-f
 use Rattle.lists.specs.Lists.{count-from, same-list}
 use Rattle.lists.proofs.Laws.{or-cases, true-T, and-l, and-r}
 use Rattle.syntax.specs.Grammar.{Op, eq, ne, lt, le, gt, ge, test}
-use Rattle.syntax.specs.Limits.{max-columns, max-rows, top}
+use Rattle.syntax.specs.Limits.{max-rows}
 use Rattle.model.specs.Conditions.{true-of}
 use Rattle.model.specs.Meaning.{compares, term-value, compare-holds}
 use Rattle.model.specs.Grants.{entry-value, fill-term, fill-compare}

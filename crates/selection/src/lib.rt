@@ -1,8 +1,8 @@
 // The rows that conditions select, for all rows of a stream at once.
 ghost use mathlib.Core.Path.{_≡_};
-ghost use mathlib.Core.List.{[], _∷_, map};
+ghost use mathlib.Core.List.{map};
 ghost use mathlib.Core.Bool.{true, false};
-ghost use Prim.Native.Nat.{_≤_, _<_, _+_, _*_, _-_, _/_, _%_, min, max};
+ghost use Prim.Native.Nat.{_≤_, _<_, _+_, _*_, _-_, _/_, _%_, min};
 ghost use lib.Dec.{T};
 ghost use lib.IntN.{ℤ, pos};
 ghost use lib.ListN.{length, getD};
