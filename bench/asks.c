@@ -82,8 +82,8 @@ static void worst_by(const char *when, const char *pick) {
     declare("(stream a a)");
     declare("(stream b a)");
     ledger.clock = 2000000;
-    rows(0, 128, 1000, 1, 1, same);
-    rows(1, 128, 1000, 1, 1, same);
+    rows(0, 128, 0, 0, 1, same);
+    rows(1, 128, 0, 1, 1, same);
     caller("(caller (roles a))");
     for (int i = 0; i < 16; i++) {
         set("(grant a read (of a b) (show *) (when (= a.a b.a)");
@@ -99,8 +99,10 @@ static void worst_by(const char *when, const char *pick) {
 static void worst_pair(void) { worst_by("(= a.a b.a)", "(= a.a b.a)"); }
 static void worst_number(void) { worst_by("(= b.a 1)", "(= b.a 1)"); }
 static void worst_right(void) { worst_by("(= b.a b.a)", "(= b.a b.a)"); }
-static void worst_time(void) { worst_by("(= b.a b.a)", "(> time 1)"); }
+static void worst_time(void) { worst_by("(= b.a b.a)", "(< time 9)"); }
+static void worst_same_time(void) { worst_by("(= b.a b.a)", "(= time 9)"); }
 static void worst_time_column(void) { worst_by("(= b.a b.a)", "(> time b.a)"); }
+static void worst_time_same(void) { worst_by("(= b.a b.a)", "(= time b.a)"); }
 
 struct sample { const char *label; void (*make)(void); int route; };
 static const struct sample samples[] = {
@@ -131,7 +133,9 @@ static const struct sample samples[] = {
     { "worst: comparisons of right with a number", worst_number, 0 },
     { "worst: comparisons of right with right", worst_right, 0 },
     { "worst: comparisons of time with a number", worst_time, 0 },
+    { "worst: time the same as a number", worst_same_time, 0 },
     { "worst: comparisons of time with right", worst_time_column, 0 },
+    { "worst: time the same as right", worst_time_same, 0 },
 #endif
 };
 enum { SAMPLES = sizeof samples / sizeof *samples };
