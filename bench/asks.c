@@ -141,8 +141,9 @@ static const struct sample samples[] = {
 enum { SAMPLES = sizeof samples / sizeof *samples };
 
 static void prepare(int k) {
-    for (int i = 0; i < NAMES; i++) names[i] = 0;
-    ledger = maltziru_fresh();
+    begin();
+    clear(cells, sizeof cells);
+    clear(bytes, sizeof bytes);
     granted = 0;
     samples[k].make();
 }
@@ -153,5 +154,6 @@ __attribute__((noinline)) uint32_t measured(int k) {
     else r = maltziru_ask(grants, granted, words, WORDS, ledger, names, NAMES, times, PLACES, values, VALUES, who, text(), size, cells, CELLS);
     return r.refusal ? r.refusal : r.count;
 }
+static uint32_t left(int k) { (void)k; return sum(sum(1, cells, sizeof cells), bytes, sizeof bytes); }
 static const char *label(int k) { return samples[k].label; }
 #include "main.h"

@@ -16,7 +16,7 @@ for line in sys.stdin:
         n += 1
 said = [line[1:].rstrip("\n").split("|") for line in open(sys.argv[3]) if line.startswith("#")]
 base = counts[0] if counts else 0
-for (_, label, answer, stack), n in zip(said, counts):
+for (_, label, answer, stack, _), n in zip(said, counts):
     print(f"{n - base:8d}  {stack:>6}  {answer:>2}  {label}")
 if len(said) != len(counts) or not said:
     sys.exit("the program ended early: " + open(sys.argv[3]).read()[:500])

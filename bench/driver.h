@@ -13,3 +13,18 @@ static void set(const char *s) { size = 0; add(s); }
 static unsigned count(const char *s) { unsigned n = 0; while (s[n]) n++; return n; }
 static const uint8_t *text(void) { return (const uint8_t *)typed; }
 static void declare(const char *s) { set(s); maltziru_stream(names, NAMES, text(), size); }
+/* a sum of what is left in some memory */
+static uint32_t sum(uint32_t h, const void *p, unsigned n) {
+    const uint8_t *b = p;
+    while (n--) h = (h ^ *b++) * 16777619u;
+    return h;
+}
+/* the same memory for each case, whichever was before */
+static void clear(void *p, unsigned n) { volatile uint8_t *b = p; while (n--) *b++ = 0; }
+static void begin(void) {
+    clear(names, sizeof names);
+    clear(times, sizeof times);
+    clear(values, sizeof values);
+    clear(words, sizeof words);
+    ledger = maltziru_fresh();
+}

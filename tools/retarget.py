@@ -1,21 +1,57 @@
-"""retarget.py IN.ll OUT.ll [NAME ..] [+NAME ..]: the compiler's module for a Cortex-M0, with what it leaves unsaid said.
+"""retarget.py IN.ll OUT.ll CRATES [NAME ..] [+NAME ..]: the compiler's module for a Cortex-M0, with what it leaves unsaid said.
 
 The module hands structs and slices over by pointer to a local of the caller, says nothing of that pointer, and copies what it points to at the start of each function. Said here, so that most of these copies go:
 - the target; code for size; a struct of two words, which the module returns as one number, in memory as C expects it there; the named functions are not inlined, those with a + are, for the sake of the stack;
 - of a pointer that a function only copies from: how much it points to, that it is read only and is no other argument's (which holds at each call, or it is not said); of the pointer to the result: that it is no other argument's;
-- its alignment, where every call gives it; where a function does not write its copy, it has none;
+- its alignment, where every call gives it; where a function does not write its copy, it has none (a copy whose place is kept may be written by that place; it is not where the sources, below CRATES, have no `let mut` of a parameter);
 - where the life of a local begins and ends, so that locals share room;
 - a copy between two locals, or a local and an argument, does not overlap.
 A measurement of the module and no supported target: outside every proof.
 """
+import glob
+import os
 import re
 import sys
 
 lines = open(sys.argv[1]).read().split('\n')
-apart = {n for n in sys.argv[3:] if n[0] != '+'}
-within = {n[1:] for n in sys.argv[3:] if n[0] == '+'}
+apart = {n for n in sys.argv[4:] if n[0] != '+'}
+within = {n[1:] for n in sys.argv[4:] if n[0] == '+'}
+
 head = re.compile(r'define (internal )?(.*?)@("[^"]+"|[\w.]+)\((.*)\) (#\d+) \{')
 copy = re.compile(r'  call void @llvm\.memmove\.p0\.p0\.i64\(ptr (%\w+), ptr (%\w+), i64 (\d+), i1 false\)')
+
+
+def mutable_copies(crates):
+    """The functions of the sources that make a mutable copy of a parameter, or have a mutable one."""
+    found = set()
+    for path in glob.glob(os.path.join(crates, '*', 'src', 'lib.rt')):
+        crate, of, fn, params = path.split(os.sep)[-3], '', None, ''
+        for line in open(path, encoding='utf-8'):
+            m = re.match(r'impl (\w+) \{', line)
+            if m:
+                of = m.group(1) + '::'
+            if line.startswith('}'):
+                of = ''
+            m = re.match(r'\s*(?:pub )?(?:extern "C" )?fn (\w+)\((.*)', line)
+            if m:
+                fn, params, open_ = crate + '::' + of + m.group(1), m.group(2), True
+                if ')' in m.group(2):
+                    open_ = False
+                continue
+            if fn and open_:
+                params += line
+                if re.match(r'\s*\)', line):
+                    open_ = False
+                continue
+            m = re.search(r'let mut \w+(?:: [^=]+)? = (\w+);', line)
+            if fn and m and re.search(r'\b%s\b' % m.group(1), params):
+                found.add(fn)
+            if fn and re.search(r'\bmut \w+:', params):
+                found.add(fn)
+    return found
+
+
+mutable = mutable_copies(sys.argv[3])
 functions, name = {}, None
 for i, line in enumerate(lines):
     m = head.match(line)
@@ -134,6 +170,8 @@ def elided(name, f, j):
         elif re.match(r'  store ', line):
             if line.split(', ptr ')[1].split(',')[0] in parts:
                 return False
+            if name.strip('"') in mutable:
+                return False
         elif 'call ' in line:
             m = re.search(r'call [^@]*@("[^"]+"|[\w.]+)\((.*)\)', line)
             for n, a in enumerate(m.group(2).split(', ')):
@@ -152,7 +190,7 @@ def elided(name, f, j):
     return True
 
 
-# A function's own copy of an argument that it only reads is the argument itself: no parameter is mutable in the sources.
+# A function's own copy of an argument that it only reads is the argument itself.
 for name, f in functions.items():
     f['end'] = next(i for i in range(f['at'], len(lines)) if lines[i] == '}')
     while any(elided(name, f, j) for j in list(f['copies']) if re.match(r'%a\d+$', copy.match(lines[j]).group(2))):
