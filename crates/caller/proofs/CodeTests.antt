@@ -9,10 +9,9 @@ use lib.ListN.{length, take, drop, getD, take-append-drop, List·getD-eq-default
 use lib.Seq.{take-all, take-append-le}
 use borrow.Author.Tests.{not-true, not-false}
 use Rattle.lists.specs.Lists.{All, all-nil, all-cons, every, distinct, same-list, count-from}
-use Rattle.lists.proofs.Laws.{all-left, distinct-map, distinct-unmap, same-list-refl}
+use Rattle.lists.proofs.Laws.{all-left, distinct-map, distinct-unmap, same-list-refl, same-truth}
 use Rattle.text.specs.Words.{name-of}
 use Rattle.schema.specs.Schemas.{code-end}
-use Rattle.schema.proofs.Counted.{same-truth}
 use Rattle.schema.proofs.FreeNames.{name-one}
 use Rattle.items.specs.Items.{once}
 use Rattle.caller.specs.Callers.{code-valid, names-of, names-sound}

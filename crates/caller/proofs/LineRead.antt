@@ -10,7 +10,7 @@ use lib.ListN.{length, drop, getD}
 use borrow.Author.Tests.{lt-ltb, le-ltb, leb-true, leb-false}
 use Rattle.refusal.specs.Checks.{shown}
 use Rattle.lists.specs.Lists.{every, count-from}
-use Rattle.lists.proofs.Laws.{true-T}
+use Rattle.lists.proofs.Laws.{true-T, not-both}
 use Rattle.syntax.specs.Grammar as G
 use Rattle.syntax.specs.Grammar.{Bytes, Entry}
 use Rattle.syntax.specs.Limits.{short, is-value}
@@ -39,10 +39,6 @@ at-most n m l = go (leb n 4) refl
     go : (t : Bool) → leb n 4 ≡ t → ltb 4 (min n m) ≡ not t
     go true e = let h = leb-true n 4 e in le-ltb 4 (min n m) (omega arith)
     go false e = let h = leb-false n 4 e in lt-ltb 4 (min n m) (omega arith)
-
-not-both : (a b : Bool) → (not a || not b) ≡ not (a && b)
-not-both true b = refl
-not-both false b = refl
 
 not-all : (a b s e : Bool) → (not s || (not e || (not b || not a))) ≡ not (((a && b) && s) && e)
 not-all true true true true = refl

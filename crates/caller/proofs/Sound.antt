@@ -11,12 +11,12 @@ use borrow.Author.Tests.{le-leb, lt-leb, not-true, not-false}
 use Rattle.lists.specs.Lists.{every, distinct, same-list, count-from}
 use Rattle.lists.proofs.Laws.{T-true}
 use Rattle.lists.proofs.Counting.{map-length}
+use Rattle.lists.proofs.Gathers.{every-of-map}
 use Rattle.syntax.specs.Grammar.{Entry}
 use Rattle.syntax.specs.Limits.{is-value}
 use Rattle.calls.specs.Validity.{valid-name, entry-names, valid-caller}
 use Rattle.text.specs.Words.{name-of}
 use Rattle.text.proofs.Values.{value-at}
-use Rattle.schema.proofs.Counted.{every-of-map}
 use Rattle.caller.specs.declared.Caller.{Caller}
 use Rattle.caller.specs.Callers.{roles-in, entries-in, role-in, entry-in, caller-of, caller-sound, code-valid, names-of, names-sound}
 use Rattle.caller.proofs.Slots.{by-places}

@@ -11,10 +11,10 @@ use lib.Seq.{getD-take}
 use Rattle.lists.specs.Lists.{every, gather, count-from}
 use Rattle.lists.proofs.Laws.{parts, and-r, T-true}
 use Rattle.lists.proofs.Counting.{map-places, map-alike, every-at}
+use Rattle.lists.proofs.Gathers.{every-of-map}
 use Rattle.syntax.specs.Grammar.{Bytes, Entry}
 use Rattle.syntax.specs.Limits.{is-value}
 use Rattle.calls.specs.Validity.{valid-name, valid-caller}
-use Rattle.schema.proofs.Counted.{every-of-map}
 use Rattle.text.specs.Words.{name-of, value-kept}
 use Rattle.terms.specs.Terms.{biased}
 use Rattle.terms.proofs.Numbers.{biased-back}

@@ -1,7 +1,7 @@
 -- The columns of some streams and the bits of their mask; columns and terms that stand among them by their codes.
 use mathlib.Core.Path.{_≡_, refl, sym, ap, ap₂, _∙_}
-use mathlib.Core.List.{List, [], _∷_, _++_, map}
-use mathlib.Core.Bool.{Bool, true, false, _&&_, _||_, and-true}
+use mathlib.Core.List.{List, [], _∷_, map}
+use mathlib.Core.Bool.{Bool, true, false, _&&_, _||_, and-true, or-false, or-true}
 use Prim.Native.Nat.{ℕ, zero, suc, _+_, _*_, _/_, _%_, _≤_, _<_}
 use native.Mathlib.Omega.{arith}
 use lib.Bits.{bitOr}
@@ -9,7 +9,8 @@ use lib.Dec.{T, eqb, ltb, eqb→eq, eqb-refl, lt→ltb, ltb→lt}
 use lib.ListN.{length}
 use borrow.Author.Tests.{ne-eqb}
 use Rattle.lists.specs.Lists.{every, some?, gather, count-from}
-use Rattle.lists.proofs.Laws.{and-l, and-r, and-both, parts, every-append, some-none}
+use Rattle.lists.proofs.Laws.{and-l, and-r, and-both, parts, every-append, some-none, same-truth}
+use Rattle.lists.proofs.Gathers.{some-append, every-of-map, some-of-map, every-good}
 use Rattle.syntax.specs.Grammar as G
 use Rattle.syntax.specs.Grammar.{Bytes, Ref, Operand, ref?}
 use Rattle.syntax.specs.Limits.{max-columns, short-ref}
@@ -17,7 +18,6 @@ use Rattle.model.specs.Queries.{Schema, Col, col, figure, same-col, columns-of}
 use Rattle.model.specs.Checks.{has, within, term-cols, when-left, when-right}
 use Rattle.calls.specs.Names.{col-of, is-self, term-of, column-of, operand-of}
 use Rattle.schema.specs.Schemas.{streams-in, width-in, schema-of, schema-sound}
-use Rattle.schema.proofs.Counted.{same-truth, every-of-map, some-of-map}
 use Rattle.schema.proofs.Lookups.{length-schema, stream-columns}
 use Rattle.schema.proofs.Tests.{streams-most}
 use Rattle.schema.proofs.Soundness.{width-most}
@@ -37,30 +37,6 @@ codes-of ns ss = gather (λ s. map (λ c. s * max-columns + c) (count-from 0 (wi
 unfoldable pub operand-fine : List ℕ → Operand → Bool
 operand-fine ns (G.ref r) = fine ns r
 operand-fine ns (G.number z) = true
-
--- ---- lists
-
-some-append : {A : Type 0} (p : A → Bool) (xs ys : List A) → some? p (xs ++ ys) ≡ (some? p xs || some? p ys)
-unfolding some?
-some-append p [] ys = refl
-some-append p (x ∷ xs) ys = ap (λ b. p x || b) (some-append p xs ys) ∙ assoc (p x) (some? p xs) (some? p ys)
-  where
-    assoc : (a b c : Bool) → (a || (b || c)) ≡ ((a || b) || c)
-    assoc true b c = refl
-    assoc false b c = refl
-
-or-false : (a : Bool) → (a || false) ≡ a
-or-false true = refl
-or-false false = refl
-
-or-true : (a : Bool) → (a || true) ≡ true
-or-true true = refl
-or-true false = refl
-
-every-same : {A : Type 0} (p q good : A → Bool) → ((x : A) → T (good x) → p x ≡ q x) → (xs : List A) → T (every good xs) → every p xs ≡ every q xs
-unfolding every
-every-same p q good f [] t = refl
-every-same p q good f (x ∷ xs) t = ap₂ _&&_ (f x (search parts)) (every-same p q good f xs (search parts))
 
 -- ---- one stream
 
@@ -234,7 +210,7 @@ module _ (ns : List ℕ) where
       unfolding within
       refs-inside rs t =
           inside-every (map (ref-code ns) rs) mask ∙ every-of-map (bit? mask) (ref-code ns) rs
-          ∙ every-same (λ r. bit? mask (ref-code ns r)) (λ r. has theirs (column-of d r)) (fine ns) ref-bit rs t
+          ∙ every-good (λ r. bit? mask (ref-code ns r)) (λ r. has theirs (column-of d r)) (fine ns) ref-bit rs t
           ∙ sym (every-of-map (has theirs) (column-of d) rs)
 
       -- ---- the terms of a grant's condition where they may stand, by their codes

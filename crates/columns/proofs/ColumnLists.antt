@@ -1,7 +1,7 @@
 -- The columns at a place as the code reads them.
 use mathlib.Core.Path.{_≡_, refl, sym, ap, _∙_}
 use mathlib.Core.List.{List, [], _∷_, map}
-use mathlib.Core.Bool.{Bool, true, false, _&&_, _||_, not}
+use mathlib.Core.Bool.{Bool, true, false, _&&_, _||_, not, or-false}
 use mathlib.Core.Option.{Option, none, some}
 use Prim.Native.Nat.{ℕ, _+_, _-_, _≤_, _<_, _^_}
 use native.Mathlib.Omega.{arith}
@@ -32,10 +32,6 @@ use Rattle.columns.proofs.StreamLists.{with-small}
 use Rattle.columns.proofs.Loops.{Walk, on, walk-falls, walk-over, walk-end, walk-other, walk-stuck, walk-more, end-place}
 
 -- ---- tests
-
-or-none : (a : Bool) → (a || false) ≡ a
-or-none true = refl
-or-none false = refl
 
 or-regroup : (a b c : Bool) → (a || (b || c)) ≡ ((a || b) || c)
 or-regroup true b c = refl
@@ -121,7 +117,7 @@ columns-start ns form s at own e = rw e (go (any-items (ends-by form) read-ref (
 
 ended : (ns : List ℕ) (s : Bytes) (i : ℕ) (r : Columns) (own : List ℕ) → i < length s → columns-answer ns s (both r own) (some (record { what = []; left = drop i s })) ≡ columns-ended r i
 unfolding columns-answer columns-ended repeats every some? mask-of order-from
-ended ns s i r own h = rw (end-place s i h) (alike (or-none (r .over)) (or-none (r .unknown)) (or-none (r .repeated)) (or-zero-r (r .mask)))
+ended ns s i r own h = rw (end-place s i h) (alike (or-false (r .over)) (or-false (r .unknown)) (or-false (r .repeated)) (or-zero-r (r .mask)))
 
 pub columns-less : (s : Bytes) (i : ℕ) {c : Reference} → i < length s → c ≡ ref-at s (i + 1) → not (c .ok) ≡ false → length s - c .next < length s - i
 unfolding columns-walk ref-view ref-at

@@ -7,7 +7,8 @@ use native.Mathlib.Omega.{arith}
 use lib.Dec.{T, eqb, eqb→eq, eqb-refl}
 use borrow.Author.Tests.{ne-eqb}
 use Rattle.lists.specs.Lists.{every, some?, distinct, nth, same-list}
-use Rattle.lists.proofs.Laws.{and-l, and-r, and-both, or-cases, parts, true-T, T-true, all-weaken, every-all, every-map, every-both, map-same, position-nth, same-list→eq, same-list-refl}
+use Rattle.lists.proofs.Laws.{and-l, and-r, and-both, or-cases, parts, true-T, T-true, all-weaken, every-all, every-map, every-both, map-same, position-nth, same-list→eq, same-list-refl, same-truth}
+use Rattle.lists.proofs.Gathers.{some-of-map}
 use Rattle.syntax.specs.Grammar.{Bytes, name?, Ref, ref?, Stream}
 use Rattle.syntax.specs.Limits.{max-streams, short, short-ref}
 use Rattle.model.specs.Queries.{Schema}
@@ -15,7 +16,6 @@ use Rattle.calls.specs.Names.{stream-names, stream-number}
 use Rattle.calls.specs.Validity.{valid-name, free-name, valid-stream, valid-schema}
 use Rattle.calls.specs.Tables.{declared, ref-declared}
 use Rattle.schema.specs.Schemas.{schema-of, schema-sound}
-use Rattle.schema.proofs.Counted.{same-truth, some-of-map}
 use Rattle.schema.proofs.Tests.{streams-most}
 use Rattle.schema.proofs.Valid.{sound-valid}
 use Rattle.terms.specs.Terms.{unknown-code, ref-code}

@@ -1,20 +1,20 @@
 -- Whether a profile has the entries that comparisons name, step by step.
 use mathlib.Core.Path.{_≡_, refl, sym, ap, ap₂, _∙_}
 use mathlib.Core.List.{List, [], _∷_, _++_, map}
-use mathlib.Core.Bool.{Bool, true, false, _&&_, _||_, not, cond}
+use mathlib.Core.Bool.{Bool, true, false, _&&_, _||_, not, cond, and-true}
 use Prim.Native.Nat.{ℕ, suc, _+_, _*_, _-_, _/_, _%_, _≤_, _<_}
 use native.Mathlib.Decide.{ℕ-discrete}
 use native.Mathlib.Omega.{arith}
 use lib.Dec.{ltb, eqb}
-use lib.ListN.{length, getD, List·getD-eq-default}
+use lib.ListN.{length, getD}
 use borrow.Author.Tests.{eq-eqb, ne-eqb, lt-ltb, le-ltb, not-true, not-false}
 use Rattle.lists.specs.Lists.{every, some?, same-list, count-from}
 use Rattle.lists.proofs.Laws.{same-list-refl, T-true}
 use Rattle.lists.proofs.Counting.{count-left, count-done}
+use Rattle.lists.proofs.Gathers.{every-append-same}
 use Rattle.syntax.specs.Grammar.{Bytes, Entry}
 use Rattle.model.specs.Queries.{col, figure, Term, column, time, number, self, Compare}
 use Rattle.model.specs.Grants.{has-entry, term-known}
-use Rattle.model.proofs.Gathers.{every-append-same}
 use Rattle.text.specs.Words.{name-of}
 use Rattle.schema.specs.Schemas.{code-end}
 use Rattle.schema.proofs.FreeNames.{name-one}
@@ -24,9 +24,6 @@ use Rattle.nodes.proofs.Puts.{words-some}
 use Rattle.grant.proofs.Laid.{prior}
 use Rattle.comparisons.specs.Compared.{own-compare, compared, entry-at, profile-in, compare-known}
 use Rattle.comparisons.proofs.Walked.{compared-on, compared-off}
-
-pub number-none : (ps : List ℕ) (i : ℕ) → length ps ≤ i → 0 ≡ getD ps i 0
-number-none ps i h = sym (List·getD-eq-default ps 0 {n = i} h)
 
 -- ---- an entry
 
@@ -80,10 +77,6 @@ module _ (p : List Entry) (code v : ℕ) where
 pub ruleset term-ends = (term-plain, term-entry)
 
 -- ---- a node
-
-and-true : (a : Bool) → (a && true) ≡ a
-and-true true = refl
-and-true false = refl
 
 module _ (p : List Entry) (n : Node) {c : Bool} (e : c ≡ comparing n) where
   pub node-inner : not c ≡ true → true ≡ every (compare-known p) (own-compare n)

@@ -1,13 +1,14 @@
 -- Whether one of some conditions is the equality of two columns, step by step.
 use mathlib.Core.Path.{_≡_, refl, sym, ap, ap₂, _∙_}
-use mathlib.Core.List.{List, [], _∷_, _++_}
-use mathlib.Core.Bool.{Bool, true, false, _&&_, _||_, not, cond}
+use mathlib.Core.List.{List, [], _∷_}
+use mathlib.Core.Bool.{Bool, true, false, _&&_, _||_, not, cond, or-false, or-true}
 use Prim.Native.Nat.{ℕ, suc, _+_, _*_, _-_, _/_, _%_, _≤_, _<_}
 use native.Mathlib.Decide.{decLt, ℕ-discrete}
 use native.Mathlib.Omega.{arith}
 use lib.Dec.{ltb, eqb}
 use borrow.Author.Tests.{eq-eqb, ne-eqb, lt-ltb, le-ltb}
 use Rattle.lists.specs.Lists.{some?}
+use Rattle.lists.proofs.Gathers.{some-append}
 use Rattle.syntax.specs.Grammar.{Op, eq, ne, lt, le, gt, ge, Cond, test, all, any, neg}
 use Rattle.model.specs.Queries.{Col, col, figure, same-col, Term, column, time, number, self, Compare}
 use Rattle.model.specs.Routes.{is-eq, is-col, is-equality}
@@ -15,10 +16,9 @@ use Rattle.text.specs.Words.{name-of}
 use Rattle.nodes.specs.declared.Node.{Node}
 use Rattle.nodes.specs.Nodes.{unbiased, node-at, node-compare, numbered-op, coded-term, link, headed, conditions-of}
 use Rattle.nodes.proofs.Conditions.{column-term}
-use Rattle.nodes.proofs.Reaching.{link-falls, cond-of, list-before, list-off, cond-on}
+use Rattle.nodes.proofs.Reaching.{link-falls, cond-of, list-before, list-off, cond-on, list-last}
 use Rattle.query.specs.Forms.{coded-col}
 use Rattle.comparisons.specs.Compared.{column-code, node-equates}
-use Rattle.comparisons.proofs.Walked.{listed-on}
 
 -- ---- codes of columns
 
@@ -81,17 +81,18 @@ numbered-eq h = go (eqb h 1) (eqb h 2) (eqb h 3) (eqb h 4) (eqb h 5)
     go false false false false true = refl
     go false false false false false = refl
 
+pub equates-other : (n : Node) (a b : ℕ) → (n .head ≡ 1 → ⊥) → false ≡ node-equates n (column-code a) (column-code b)
+unfolding node-equates
+equates-other n a b e = rw (ne-eqb (n .head) 1 e)
+
 -- the condition of a head is such an equality where its node is
 headed-equates : (n : Node) (cs : List (Cond Compare)) (a b : ℕ) → is-equality (coded-col a) (coded-col b) (headed n cs) ≡ node-equates n (column-code a) (column-code b)
 headed-equates n cs a b = go (ℕ-discrete (n .head) 7) (ℕ-discrete (n .head) 8) (ℕ-discrete (n .head) 9)
   where
-    not-one : (n .head ≡ 1 → ⊥) → false ≡ node-equates n (column-code a) (column-code b)
-    not-one e = unfold node-equates in rw (ne-eqb (n .head) 1 e)
-
     go : Dec (n .head ≡ 7) → Dec (n .head ≡ 8) → Dec (n .head ≡ 9) → is-equality (coded-col a) (coded-col b) (headed n cs) ≡ node-equates n (column-code a) (column-code b)
-    go (yes x) y z = unfold headed is-equality in rw (eq-eqb (n .head) 7 x) (not-one (λ i. omega arith))
-    go (no x) (yes y) z = unfold headed is-equality in rw (ne-eqb (n .head) 7 x, eq-eqb (n .head) 8 y) (not-one (λ i. omega arith))
-    go (no x) (no y) (yes z) = unfold headed is-equality in rw (ne-eqb (n .head) 7 x, ne-eqb (n .head) 8 y, eq-eqb (n .head) 9 z) (not-one (λ i. omega arith))
+    go (yes x) y z = unfold headed is-equality in rw (eq-eqb (n .head) 7 x) (equates-other n a b (λ i. omega arith))
+    go (no x) (yes y) z = unfold headed is-equality in rw (ne-eqb (n .head) 7 x, eq-eqb (n .head) 8 y) (equates-other n a b (λ i. omega arith))
+    go (no x) (no y) (yes z) = unfold headed is-equality in rw (ne-eqb (n .head) 7 x, ne-eqb (n .head) 8 y, eq-eqb (n .head) 9 z) (equates-other n a b (λ i. omega arith))
     go (no x) (no y) (no z) = unfold headed is-equality node-compare node-equates in
         rw (ne-eqb (n .head) 7 x, ne-eqb (n .head) 8 y, ne-eqb (n .head) 9 z, numbered-eq (n .head), is-code a (n .left) (n .value), is-code b (n .right) (n .value), is-code b (n .left) (n .value), is-code a (n .right) (n .value))
 
@@ -104,10 +105,6 @@ terms-right n a b e = rw (eq-eqb (n .left) a e)
 pub ruleset terms-ends = (terms-left, terms-right)
 
 module _ (n : Node) (a b : ℕ) where
-  pub equates-other : (n .head ≡ 1 → ⊥) → false ≡ node-equates n (column-code a) (column-code b)
-  unfolding node-equates
-  equates-other e = rw (ne-eqb (n .head) 1 e)
-
   module _ (h : n .head ≡ 1) {x y : ℕ} (e : x ≡ column-code a) (f : y ≡ column-code b) {p : Bool} (g : p ≡ (eqb (n .left) x && eqb (n .right) y)) where
     pub equates-first : p ≡ true → true ≡ node-equates n (column-code a) (column-code b)
     unfolding node-equates
@@ -120,23 +117,6 @@ module _ (n : Node) (a b : ℕ) where
 pub ruleset equates-ends = (equates-other, equates-first, equates-second)
 
 -- ---- those of some words
-
-some-append : {A : Type 0} (p : A → Bool) (xs ys : List A) → some? p (xs ++ ys) ≡ (some? p xs || some? p ys)
-unfolding some?
-some-append p [] ys = refl
-some-append p (x ∷ xs) ys = go (p x) (some-append p xs ys)
-  where
-    go : (b : Bool) → some? p (xs ++ ys) ≡ (some? p xs || some? p ys) → (b || some? p (xs ++ ys)) ≡ ((b || some? p xs) || some? p ys)
-    go true e = refl
-    go false e = e
-
-or-false : (b : Bool) → (b || false) ≡ b
-or-false true = refl
-or-false false = refl
-
-or-true : (b : Bool) → (b || true) ≡ true
-or-true true = refl
-or-true false = refl
 
 module _ (ws : List ℕ) (n a b : ℕ) where
   abbrev P : Cond Compare → Bool
@@ -158,7 +138,7 @@ module _ (ws : List ℕ) (n a b : ℕ) where
     module _ (h : 0 < j) {m : Node} (e : m ≡ node-at ws j) {x : Bool} (f : x ≡ node-equates m (column-code a) (column-code b)) where
       apart : p ≡ (equated-before (link ws j) || x)
       apart =
-          inv ∙ ap (some? P) (listed-on ws 0 j h) ∙ some-append P (list-before ws 0 (link ws j) []) (cond-of ws j ∷ [])
+          inv ∙ ap (some? P) (list-last ws 0 j h) ∙ some-append P (list-before ws 0 (link ws j) []) (cond-of ws j ∷ [])
           ∙ ap (λ y. equated-before (link ws j) || y) (one ∙ ap P (cond-on ws j h) ∙ headed-equates (node-at ws j) _ a b ∙ ap (λ y. node-equates y (column-code a) (column-code b)) (sym e) ∙ sym f)
         where
           one : some? P (cond-of ws j ∷ []) ≡ P (cond-of ws j)

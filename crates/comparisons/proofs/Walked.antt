@@ -6,19 +6,19 @@ use Prim.Native.Nat.{ℕ, zero, suc, _+_, _*_, _-_, _≤_, _<_}
 use native.Mathlib.Decide.{decLt}
 use native.Mathlib.Omega.{arith}
 use lib.Dec.{T, eqb, leb, ltb, leb→le, ltb→lt, eqb→eq}
-use lib.ListN.{length, length-append}
+use lib.ListN.{length}
 use borrow.Author.Tests.{lt-ltb, le-ltb}
 use Rattle.lists.specs.Lists.{gather}
-use Rattle.lists.proofs.Laws.{and-l, and-r, or-cases, parts, true-T, T-true, append-nil, gather-append}
+use Rattle.lists.proofs.Laws.{and-l, and-r, parts, true-T, T-true, append-nil, gather-append}
 use Rattle.syntax.specs.Grammar.{Cond}
 use Rattle.model.specs.Conditions.{tests}
 use Rattle.model.specs.Queries.{Compare}
 use Rattle.nodes.specs.declared.Node.{Node}
-use Rattle.nodes.specs.Nodes.{node-at, node-words, node-compare, link, headed, cond-in, list-in, conditions-of, comparing, reaches, linked}
+use Rattle.nodes.specs.Nodes.{node-at, node-words, node-compare, link, headed, conditions-of, comparing, reaches, linked}
 use Rattle.nodes.proofs.Puts.{words-some}
-use Rattle.nodes.proofs.Reaching.{link-falls, list-step, list-stop, reaches-step, reaches-stop, reaches-fuel, cond-of, list-before, list-on, list-off, cond-on}
+use Rattle.nodes.proofs.Reaching.{link-falls, reaches-step, reaches-stop, reaches-fuel, cond-of, list-before, list-off, cond-on, list-last}
 use Rattle.grant.specs.Grants.{linked-from, laid-out}
-use Rattle.grant.proofs.Laid.{one-word, link-is, headed-compare, headed-list, headed-one, prior, walk, prior-falls, back, back-on, linked-at, linked-walk}
+use Rattle.grant.proofs.Laid.{one-word, link-is, headed-compare, prior, walk, prior-falls, back, back-on, linked-at, linked-walk, heads-inner}
 use Rattle.comparisons.specs.Compared.{own-compare, compared-in, compared}
 
 module _ (ws : List ℕ) where
@@ -53,22 +53,6 @@ module _ (ws : List ℕ) where
     pub compared-off : (k : ℕ) → k ≤ stop → compared ws stop k ≡ []
     unfolding compared
     compared-off k h = in-stop (suc k) k h
-
-  -- ---- lists
-
-  list-append : (f stop j : ℕ) (cs : List (Cond Compare)) → list-in f ws stop j cs ≡ list-in f ws stop j [] ++ cs
-  list-append zero stop j cs = unfold cond-in in refl
-  list-append (suc f) stop j cs = go (decLt stop j) (list-append f stop (link ws j))
-    where
-      go : Dec (stop < j) → ((cs : List (Cond Compare)) → list-in f ws stop (link ws j) cs ≡ list-in f ws stop (link ws j) [] ++ cs) → list-in (suc f) ws stop j cs ≡ list-in (suc f) ws stop j [] ++ cs
-      go (yes h) i =
-          let c = cond-in f ws j in
-          list-step ws f stop j cs h ∙ i (c ∷ cs) ∙ sym (ap (λ l. l ++ cs) (list-step ws f stop j [] h ∙ i (c ∷ [])) ∙ append-assoc (list-in f ws stop (link ws j) []) (c ∷ []) cs)
-      go (no h) i = list-stop ws f stop j cs (omega arith) ∙ sym (ap (λ l. l ++ cs) (list-stop ws f stop j [] (omega arith)))
-
-  -- those before the last, and the last
-  pub listed-on : (stop j : ℕ) → stop < j → list-before ws stop j [] ≡ list-before ws stop (link ws j) [] ++ (cond-of ws j ∷ [])
-  listed-on stop j h = list-on ws stop j [] h ∙ list-append (2 * link ws j + 1) stop (link ws j) (cond-of ws j ∷ [])
 
   -- ---- what stands between two places
 
@@ -110,32 +94,17 @@ module _ (ws : List ℕ) where
       let z : Between b (k - 1) (list-before ws b (k - 1) []) = inside b (omega arith) (T-true (reaches k ws b (k - 1)) (search parts depth 9)) (rw p at r) in
       let i : link ws k ≡ b = link-is ws k (omega arith) in
       let o : own-compare n ≡ [] = rw c in
-      let u : tests (cond-of ws k) ≡ gather tests (list-before ws b (k - 1) []) = ap tests (cond-on ws k h) ∙ ap (λ j. tests (headed n (list-before ws j (k - 1) []))) i ∙ heads (and-r (eqb (n .right) 0 && leb 7 (n .head) && leb (n .head) 9 && ltb (suc b) k && reaches k ws b (k - 1)) (ltb (n .head) 9 || eqb (link ws (k - 1)) b) t) low high (omega arith) in
+      let u : tests (cond-of ws k) ≡ gather tests (list-before ws b (k - 1) []) = ap tests (cond-on ws k h) ∙ ap (λ j. tests (headed n (list-before ws j (k - 1) []))) i ∙ heads-inner ws k (and-r (eqb (n .right) 0 && leb 7 (n .head) && leb (n .head) 9 && ltb (suc b) k && reaches k ws b (k - 1)) (ltb (n .head) 9 || eqb (link ws (k - 1)) b) t) low high (omega arith) in
       record {
         walked = λ stop m.
             compared-on stop k (omega arith) ∙ ap₂ (λ j l. compared ws stop j ++ l) p o ∙ append-nil (compared ws stop (k - 1))
             ∙ z .walked stop (omega arith) ∙ sym (ap₂ (λ j l. compared ws stop j ++ l) i (append-nil (tests (cond-of ws k)) ∙ u));
         rest = rw i (z .rest);
       }
-    where
-      heads : T (ltb (node-at ws k .head) 9 || eqb (link ws (k - 1)) (node-at ws k .before)) → 7 ≤ node-at ws k .head → node-at ws k .head ≤ 9 → node-at ws k .before < k - 1
-          → tests (headed (node-at ws k) (list-before ws (node-at ws k .before) (k - 1) [])) ≡ gather tests (list-before ws (node-at ws k .before) (k - 1) [])
-      heads t low high up = go (decLt (node-at ws k .head) 9)
-        where
-          b : ℕ
-          b = node-at ws k .before
-
-          go : Dec (node-at ws k .head < 9) → tests (headed (node-at ws k) (list-before ws b (k - 1) [])) ≡ gather tests (list-before ws b (k - 1) [])
-          go (yes m) = headed-list (node-at ws k) (list-before ws b (k - 1) []) (rw (listed-on b (k - 1) up) (omega (arith, length-append (list-before ws b (link ws (k - 1)) []) (cond-of ws (k - 1) ∷ [])))) low m
-          go (no m) =
-              or-cases (ltb (node-at ws k .head) 9) (eqb (link ws (k - 1)) b) t (λ a. let x = ltb→lt (node-at ws k .head) 9 a in absurd (omega arith))
-              (λ a. let e = eqb→eq (link ws (k - 1)) b a in
-              let s : list-before ws b (k - 1) [] ≡ cond-of ws (k - 1) ∷ [] = listed-on b (k - 1) up ∙ ap (λ l. l ++ (cond-of ws (k - 1) ∷ [])) (list-off ws b (link ws (k - 1)) [] (omega arith)) in
-              rw s (headed-one (node-at ws k) (cond-of ws (k - 1)) (omega arith)))
 
   list-join : (stop i j : ℕ) → stop < j → link ws j ≡ i → stop ≤ i → Between stop i (list-before ws stop i []) → Between i j (cond-of ws j ∷ []) → Between stop j (list-before ws stop j [])
   list-join stop i j h e low x y =
-      let s : list-before ws stop j [] ≡ list-before ws stop i [] ++ (cond-of ws j ∷ []) = listed-on stop j h ∙ ap (λ i. list-before ws stop i [] ++ (cond-of ws j ∷ [])) e in
+      let s : list-before ws stop j [] ≡ list-before ws stop i [] ++ (cond-of ws j ∷ []) = list-last ws stop j h ∙ ap (λ i. list-before ws stop i [] ++ (cond-of ws j ∷ [])) e in
       record {
         walked = λ end m.
             y .walked end (omega arith) ∙ ap (λ l. l ++ gather tests (cond-of ws j ∷ [])) (x .walked end m)

@@ -1,7 +1,7 @@
 -- What is told of a comparison, and of conditions inside brackets by what is told of those inside.
 use mathlib.Core.Path.{_≡_, refl, sym, ap, ap₂, _∙_}
 use mathlib.Core.List.{List}
-use mathlib.Core.Bool.{Bool, true, false, _&&_, not, cond}
+use mathlib.Core.Bool.{Bool, true, false, _&&_, not, cond, and-false, or-false}
 use mathlib.Core.Option.{Option, none, some}
 use Prim.Native.Nat.{ℕ, suc, _+_, _-_, _≤_}
 use native.Mathlib.Omega.{arith}
@@ -9,6 +9,7 @@ use lib.Dec.{leb, eqb, leb·suc-suc}
 use lib.ListN.{length, drop, getD, length-drop}
 use borrow.Author.Tests.{ne-eqb, eqb-true, eqb-false, le-leb}
 use Rattle.lists.specs.Lists.{some?}
+use Rattle.lists.proofs.Laws.{never, by-test}
 use Rattle.syntax.specs.Grammar.{Bytes, Op, eq, Ref, Operand, Test, Cond, test}
 use Rattle.syntax.specs.Limits.{cond-depth}
 use Rattle.syntax.specs.Readers.{Read, bind, byte, read-test}
@@ -23,11 +24,9 @@ use Rattle.nodes.specs.Nodes.{node-words}
 use Rattle.nodes.specs.Storing.{put-node, size, store, inner-node}
 use Rattle.nodes.specs.Storing as N
 use Rattle.nodes.proofs.Puts.{length-put}
-use Rattle.nodes.proofs.Tests.{or-false}
 use Rattle.conditions.specs.declared.Seen.{Seen}
 use Rattle.conditions.specs.Seeing.{test-node, nodes-of, test-unknown, nothing-seen, deep-seen, seen-of}
 use Rattle.conditions.specs.Steps.{Answers, counted, compared-node, compared-seen, compared-stored, closed-seen, closed-stored, Kind, one, told, put-read, ReadIn}
-use Rattle.conditions.proofs.Leaves.{never, by-test, and-false}
 use Rattle.conditions.proofs.Folds.{left-small, right-small, mask-one}
 
 -- ---- what is told

@@ -10,6 +10,7 @@ use lib.ListN.{length, drop, getD, length-drop}
 use mir.Syntax.{w64}
 use mir.Val.{Fits}
 use borrow.Author.Tests.{ne-eqb, lt-leb}
+use Rattle.lists.proofs.Laws.{never, by-test}
 use Rattle.syntax.specs.Grammar.{Bytes, Test, Cond, test, all, any, neg, Conds}
 use Rattle.syntax.specs.Limits.{cond-depth}
 use Rattle.syntax.specs.Readers as R
@@ -28,7 +29,6 @@ use Rattle.conditions.specs.declared.Headed.{Headed}
 use Rattle.conditions.specs.Seeing.{head-at, nodes-of, nothing-seen, deep-seen}
 use Rattle.conditions.specs.Steps.{Answers, compared-seen, compared-stored, closed-seen, closed-stored, Kind, one, many, told, ReadIn, CondIn, CondsIn, skipped-seen}
 use Rattle.conditions.proofs.Heads.{op-small, unheaded, headed}
-use Rattle.conditions.proofs.Leaves.{never, by-test}
 use Rattle.conditions.proofs.Closing.{unread-ok, told-few, read-none, answered, compared-all, Around, closing, close-all}
 use Rattle.conditions.proofs.Going.{cond-less}
 

@@ -9,7 +9,7 @@ use lib.Dec.{leb, eqb}
 use lib.ListN.{length, drop, getD, length-append, length-drop, drop-of-length-le}
 use borrow.Author.Tests.{ne-eqb, not-true, not-false}
 use Rattle.lists.specs.Lists.{every, some?, gather}
-use Rattle.lists.proofs.Laws.{append-nil, gather-append}
+use Rattle.lists.proofs.Laws.{append-nil, gather-append, never, by-test}
 use Rattle.syntax.specs.Grammar.{Bytes, Test, Cond, Conds, last, more}
 use Rattle.syntax.specs.Limits.{cond-depth, conds-depth}
 use Rattle.syntax.specs.Readers.{Read, Reader, bind, byte, read-more, head-word, heads}
@@ -29,7 +29,6 @@ use Rattle.conditions.specs.declared.Seen.{Seen}
 use Rattle.conditions.specs.Seeing.{test-node, nodes-of, nothing-seen, deep-seen, begun, seen-of}
 use Rattle.conditions.specs.Steps.{counted, both-seen, one, many, told, put-read, CondIn, CondsIn}
 use Rattle.conditions.proofs.Folds.{seen-both}
-use Rattle.conditions.proofs.Leaves.{never, by-test}
 use Rattle.conditions.proofs.Closing.{few-deep, unread-ok, told-near, told-deep, told-cases, read-none}
 
 -- ---- a condition takes a byte or more

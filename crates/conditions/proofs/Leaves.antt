@@ -1,7 +1,7 @@
 -- The ends of the functions that read a comparison, a closing bracket and two conditions of a list, and of those that count words.
 use mathlib.Core.Path.{_≡_, refl, sym, ap, _∙_}
 use mathlib.Core.List.{List}
-use mathlib.Core.Bool.{Bool, true, false, _||_, _&&_, not}
+use mathlib.Core.Bool.{Bool, true, false, _||_, not, and-false}
 use Prim.Native.Nat.{ℕ, _+_, _≤_, _<_}
 use native.Mathlib.Omega.{arith}
 use lib.Dec.{eqb, leb}
@@ -17,19 +17,6 @@ use Rattle.nodes.specs.declared.Node.{Node}
 use Rattle.conditions.specs.declared.Seen.{Seen}
 use Rattle.conditions.specs.Seeing.{nothing-seen, deep-seen, has-room}
 use Rattle.conditions.specs.Steps.{Answers, counted, Placed, compared-node, compared-seen, compared-stored, closed-seen, closed-stored, both-seen, fitted}
-
--- ---- tests
-
-pub never : {X : Type 0} → _≡_ {A = Bool} true false → X
-never e = absurd (let q : _≡_ {A = ℕ} 0 1 = cc in omega arith)
-
-pub by-test : {X : Type 0} (t : Bool) → (t ≡ true → X) → (t ≡ false → X) → X
-by-test true f g = f refl
-by-test false f g = g refl
-
-pub and-false : (a : Bool) → (a && false) ≡ false
-and-false true = refl
-and-false false = refl
 
 -- ---- counts
 

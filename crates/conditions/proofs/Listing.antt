@@ -9,6 +9,7 @@ use lib.Dec.{leb, eqb}
 use lib.ListN.{length, drop, getD}
 use borrow.Author.Tests.{eqb-true, eq-eqb, ne-eqb, lt-leb, leb-true, leb-false, lt-ltb, le-ltb, not-true, not-false}
 use Rattle.lists.specs.Lists.{empty?}
+use Rattle.lists.proofs.Laws.{never, by-test}
 use Rattle.syntax.specs.Grammar.{Bytes, Test, Cond, Conds, last, more}
 use Rattle.syntax.specs.Limits.{cond-depth}
 use Rattle.syntax.specs.Readers.{Read, bind, ensure, byte, closes, read-items, read-some, read-more, read-cond}
@@ -24,7 +25,7 @@ use Rattle.nodes.specs.Storing.{size, store, list-size}
 use Rattle.conditions.specs.declared.Seen.{Seen}
 use Rattle.conditions.specs.Seeing.{nodes-of, nothing-seen, deep-seen, seen-of, has-room, cond-seen, cond-stored, cond-at, CondRead, list-seen, list-stored, list-at, ListRead}
 use Rattle.conditions.specs.Steps.{counted, Kind, one, many, told, put-read, CondIn, CondsIn, fitted, skipped-seen}
-use Rattle.conditions.proofs.Leaves.{never, by-test, count-exact}
+use Rattle.conditions.proofs.Leaves.{count-exact}
 use Rattle.conditions.proofs.Closing.{unread-ok, told-near, told-deep, told-cases}
 use Rattle.conditions.proofs.Conditions.{cond-skipped}
 use Rattle.conditions.proofs.Going.{list-of, sizes-list, store-lists, tests-list, depth-list}

@@ -10,6 +10,7 @@ use lib.Dec.{eqb}
 use lib.ListN.{length, drop, getD, set, replicate, length-drop, length-set, length-replicate, drop-of-length-le}
 use lib.Seq.{getD-set-same, getD-set-other}
 use borrow.Author.Tests.{eq-eqb, ne-eqb, eqb-true, eqb-false}
+use Rattle.lists.proofs.Laws.{never}
 use Rattle.syntax.specs.Grammar.{Bytes, Op, Test, Cond, all, any, neg, Conds, last, more}
 use Rattle.syntax.specs.Readers as R
 use Rattle.syntax.specs.Readers.{Read, Reader, bind, ensure, _>>_, _>>=_, give, byte, read-test, read-headed, read-more, compare, and, or, not-of, head-word}
@@ -27,7 +28,6 @@ use Rattle.conditions.specs.declared.Skip.{Skip}
 use Rattle.conditions.specs.declared.Seen.{Seen}
 use Rattle.conditions.specs.Seeing.{head-at, nothing-seen, deep-seen}
 use Rattle.conditions.specs.Steps.{stuck, after-cond, skipped-seen}
-use Rattle.conditions.proofs.Leaves.{never}
 use Rattle.conditions.proofs.Heads.{op-small, unheaded, headed}
 
 -- ---- what is still to be read

@@ -7,7 +7,7 @@ use lib.IntN.{ℤ, pos, negsuc}
 use lib.Dec.{T, ltb, eqb, leb→le, le→leb, lt→ltb}
 use borrow.Author.Tests.{ne-eqb}
 use Rattle.lists.specs.Lists.{every}
-use Rattle.lists.proofs.Laws.{and-r, and-both, true-T, every-map}
+use Rattle.lists.proofs.Laws.{and-r, and-both, true-T, every-map, by-test}
 use Rattle.syntax.specs.Grammar as G
 use Rattle.syntax.specs.Grammar.{Ref, dotted, time, figure, Operand, Test, Cond, name?, ref?, operand?, test?, cond?}
 use Rattle.syntax.specs.Limits.{short, is-value}
@@ -24,7 +24,6 @@ use Rattle.nodes.specs.Storing.{value-fits, fits}
 use Rattle.conditions.specs.Seeing.{test-node, nodes-of}
 use Rattle.conditions.proofs.Heads.{op-some, op-small}
 use Rattle.conditions.proofs.Folds.{left-small, right-small}
-use Rattle.conditions.proofs.Leaves.{by-test}
 
 -- ---- values
 

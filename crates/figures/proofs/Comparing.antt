@@ -18,6 +18,7 @@ use Rattle.model.specs.Queries.{column, self, col, same-col, figure}
 use Rattle.model.specs.Meaning.{value, term-value, compares, compare-holds}
 use Rattle.nodes.specs.declared.Node.{Node}
 use Rattle.nodes.specs.Nodes.{node-of, no-node, value-at, node-at, unbiased, coded-term, numbered-op, node-compare}
+use Rattle.nodes.proofs.Words.{value-zero}
 use Rattle.figures.specs.declared.Answer.{Answer}
 use Rattle.figures.specs.Figures.{row-of, coded-value, tested, Standing}
 
@@ -134,16 +135,6 @@ node-number ws k = go (eqb k 0)
     go true e = absurd (omega arith)
     go false e = rw (eq-eqb (getD ws (k - 1) 0 / 65536 % 256) 26 e)
 
-node-plain : (ws : List ℕ) (k : ℕ) → (node-at ws k .right ≡ 26 → ⊥) → (node-at ws k .right ≡ 27 → ⊥) → node-at ws k .value ≡ 0
-unfolding node-at node-of value-at no-node
-node-plain ws k = go (eqb k 0)
-  where
-    go : (b : Bool) → (cond b no-node (node-of (getD ws (k - 1) 0) (value-at ws k (getD ws (k - 1) 0 / 65536 % 256))) .right ≡ 26 → ⊥)
-        → (cond b no-node (node-of (getD ws (k - 1) 0) (value-at ws k (getD ws (k - 1) 0 / 65536 % 256))) .right ≡ 27 → ⊥)
-        → cond b no-node (node-of (getD ws (k - 1) 0) (value-at ws k (getD ws (k - 1) 0 / 65536 % 256))) .value ≡ 0
-    go true e f = refl
-    go false e f = rw (ne-eqb (getD ws (k - 1) 0 / 65536 % 256) 26 e, ne-eqb (getD ws (k - 1) 0 / 65536 % 256) 27 f)
-
 -- whatever number it has, a profile entry is 0
 entry-zero : (a : Answer) (code v : ℕ) → code ≡ 27 → coded-value a code v ≡ pos 0
 entry-zero a code v e = sym (term-other a code v (λ h. omega arith) (λ h. omega arith) (λ h. omega arith))
@@ -203,7 +194,7 @@ module _ (ws : List ℕ) (k : ℕ) {n : Node} (e : n ≡ node-at ws k) where
 
   pub standing-plain : (n .right ≡ 26 → ⊥) → (n .right ≡ 27 → ⊥) → Standing n 0
   standing-plain h i =
-      standing-same (sym (node-plain ws k (λ q. h (ap (λ (m : Node). m .right) e ∙ q)) (λ q. i (ap (λ (m : Node). m .right) e ∙ q))) ∙ ap (λ (m : Node). m .value) (sym e))
+      standing-same (sym (value-zero ws k (λ q. h (ap (λ (m : Node). m .right) e ∙ q)) (λ q. i (ap (λ (m : Node). m .right) e ∙ q))) ∙ ap (λ (m : Node). m .value) (sym e))
 
   pub standing-small : n .value < 4294967296 → Standing n (n .value)
   standing-small h = standing-same refl

@@ -1,7 +1,7 @@
 -- What a grant asks of a comparison and of conditions, by the nodes of their comparisons.
-use mathlib.Core.Path.{_≡_, refl, sym, ap, ap₂, _∙_}
+use mathlib.Core.Path.{_≡_, refl, sym, ap₂, _∙_}
 use mathlib.Core.List.{List, [], _∷_, _++_}
-use mathlib.Core.Bool.{Bool, true, false, _&&_, _||_, cond}
+use mathlib.Core.Bool.{Bool, true, false, _&&_, _||_, cond, and-true}
 use Prim.Native.Nat.{ℕ, _+_, _*_, _-_, _/_, _%_, _≤_, _<_}
 use native.Mathlib.Decide.{decLt, ℕ-discrete}
 use native.Mathlib.Omega.{arith}
@@ -9,7 +9,8 @@ use lib.IntN.{ℤ, pos, negsuc}
 use lib.Dec.{T, eqb, leb, ltb}
 use borrow.Author.Tests.{eq-eqb, ne-eqb, lt-ltb, le-ltb, le-leb, lt-leb}
 use Rattle.lists.specs.Lists.{every, gather}
-use Rattle.lists.proofs.Laws.{and-l, and-r, and-both, parts, every-append, every-append-l, every-append-r, every-weaken, every-gather, every-gathered}
+use Rattle.lists.proofs.Laws.{and-l, and-r, and-both, parts, every-append, every-append-l, every-append-r, every-weaken, every-gather, every-gathered, same-truth}
+use Rattle.lists.proofs.Gathers.{every-append-same}
 use Rattle.nodes.proofs.Conditions.{column-term}
 use Rattle.syntax.specs.Grammar.{name?, Cond}
 use Rattle.syntax.specs.Limits.{is-value}
@@ -18,7 +19,6 @@ use Rattle.model.specs.Queries.{col, figure, Term, column, time, number, self, 
 use Rattle.model.specs.Checks.{term-cols, cond-cols, when-left, when-right, grantable}
 use Rattle.calls.specs.Validity.{valid-name, valid-term, valid-cond}
 use Rattle.text.specs.Words.{bytes-from, name-of}
-use Rattle.schema.proofs.Counted.{same-truth}
 use Rattle.nodes.specs.declared.Node.{Node}
 use Rattle.nodes.specs.Nodes.{unbiased, coded-term, node-compare, in-mask, column-in, terms-sound}
 
@@ -33,10 +33,6 @@ right-fit mask t = when-right t && (valid-term t && every (column-in mask) (term
 
 pub compare-fit : ℕ → Compare → Bool
 compare-fit mask t = left-fit mask (t .left) && right-fit mask (t .right)
-
-and-true : (a : Bool) → (a && true) ≡ a
-and-true true = refl
-and-true false = refl
 
 number-value : (v : ℕ) → is-value (unbiased v) ≡ ltb v 4294967296
 unfolding unbiased is-value
@@ -145,15 +141,6 @@ terms-are mask n z = ap₂ _&&_ (left-is mask (n .left) (n .value)) (right-is ma
 
 -- ---- conditions
 
-pub every-both-lists : {A : Type 0} (p : A → Bool) (xs ys : List A) → every p (xs ++ ys) ≡ (every p xs && every p ys)
-unfolding every
-every-both-lists p [] ys = refl
-every-both-lists p (x ∷ xs) ys = ap (λ b. p x && b) (every-both-lists p xs ys) ∙ assoc (p x) (every p xs) (every p ys)
-  where
-    assoc : (a b c : Bool) → (a && (b && c)) ≡ ((a && b) && c)
-    assoc true b c = refl
-    assoc false b c = refl
-
 -- what a grant asks of a condition
 abbrev pub cond-fit : ℕ → Cond Compare → Bool
 cond-fit mask c = grantable c && valid-cond c && every (column-in mask) (cond-cols c)
@@ -213,4 +200,4 @@ cond-is mask c =
 pub conditions-are : (mask : ℕ) (cs : List (Cond Compare)) → every (cond-fit mask) cs ≡ every (compare-fit mask) (gather tests cs)
 unfolding every gather
 conditions-are mask [] = refl
-conditions-are mask (c ∷ cs) = ap₂ _&&_ (cond-is mask c) (conditions-are mask cs) ∙ sym (every-both-lists (compare-fit mask) (tests c) (gather tests cs))
+conditions-are mask (c ∷ cs) = ap₂ _&&_ (cond-is mask c) (conditions-are mask cs) ∙ sym (every-append-same (compare-fit mask) (tests c) (gather tests cs))

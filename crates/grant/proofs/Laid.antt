@@ -1,44 +1,33 @@
 -- Words that may be lent are laid out as a stored list, and the conditions that they stand for are those of a grant over the columns of the mask.
 use mathlib.Core.Path.{_≡_, refl, sym, ap, ap₂, _∙_, subst}
 use mathlib.Core.List.{List, [], _∷_, _++_, append-assoc}
-use mathlib.Core.Bool.{Bool, true, false, _&&_, _||_, not, cond}
-use Prim.Native.Nat.{ℕ, zero, suc, _+_, _*_, _-_, _/_, _%_, _≤_, _<_}
+use mathlib.Core.Bool.{Bool, true, false, _&&_, _||_, not}
+use Prim.Native.Nat.{ℕ, zero, suc, _+_, _*_, _-_, _≤_, _<_}
 use native.Mathlib.Decide.{decLt}
 use native.Mathlib.Omega.{arith}
 use lib.Dec.{T, eqb, leb, ltb, leb→le, ltb→lt, eqb→eq}
-use lib.ListN.{length, getD, length-append}
+use lib.ListN.{length, length-append}
 use borrow.Author.Tests.{eq-eqb, ne-eqb}
 use Rattle.lists.specs.Lists.{every, gather}
 use Rattle.lists.proofs.Laws.{and-l, and-r, or-cases, parts, true-T, T-true, append-nil, gather-append, and-four}
+use Rattle.lists.proofs.Gathers.{every-append-same}
 use Rattle.syntax.specs.Grammar.{Cond, test}
 use Rattle.model.specs.Conditions.{tests, tests-of, conds-of}
 use Rattle.model.specs.Queries.{Compare}
 use Rattle.nodes.specs.declared.Node.{Node}
-use Rattle.nodes.specs.Nodes.{value-at, node-of, no-node, node-at, node-words, node-compare, link, some-conds, first-cond, headed, cond-in, list-in, conditions-of, comparing, reaches, linked, terms-sound, node-sound, all-sound, shallow-conds, nodes-sound}
+use Rattle.nodes.specs.Nodes.{node-at, node-words, node-compare, link, some-conds, first-cond, headed, cond-in, list-in, conditions-of, comparing, reaches, linked, terms-sound, node-sound, all-sound, shallow-conds, nodes-sound}
 use Rattle.nodes.proofs.Puts.{words-some}
 use Rattle.nodes.proofs.Reaching.{link-falls, list-step, list-stop, reaches-step, reaches-stop, reaches-fuel, cond-of, list-before, list-off, list-last, cond-on}
 use Rattle.nodes.proofs.Conditions.{headed-test}
+use Rattle.nodes.proofs.Words.{value-zero}
 use Rattle.grant.specs.Grants.{linked-from, laid-out}
-use Rattle.grant.proofs.Compared.{compare-fit, terms-are, every-both-lists, cond-fit, conditions-are}
+use Rattle.grant.proofs.Compared.{compare-fit, terms-are, cond-fit, conditions-are}
 
 -- ---- nodes
 
 pub one-word : (n : Node) → n .right ≡ 0 → node-words n ≡ 1
 unfolding node-words
 one-word n e = rw e
-
--- a node has a value only where its right side asks for one
-value-none : (ws : List ℕ) (k : ℕ) → (node-at ws k .right ≡ 26 → ⊥) → (node-at ws k .right ≡ 27 → ⊥) → node-at ws k .value ≡ 0
-unfolding node-at node-of value-at no-node
-value-none ws k = go (eqb k 0)
-  where
-    w : ℕ
-    w = getD ws (k - 1) 0
-
-    go : (b : Bool) → (cond b no-node (node-of w (value-at ws k (w / 65536 % 256))) .right ≡ 26 → ⊥) → (cond b no-node (node-of w (value-at ws k (w / 65536 % 256))) .right ≡ 27 → ⊥)
-        → cond b no-node (node-of w (value-at ws k (w / 65536 % 256))) .value ≡ 0
-    go true f g = refl
-    go false f g = rw (ne-eqb (w / 65536 % 256) 26 f, ne-eqb (w / 65536 % 256) 27 g)
 
 -- a link that is not too far is the node's own
 pub link-is : (ws : List ℕ) (k : ℕ) → node-at ws k .before < k → link ws k ≡ node-at ws k .before
@@ -68,6 +57,22 @@ headed-list n (c ∷ cs) some low high = go (decLt (n .head) 8)
 pub headed-one : (n : Node) (c : Cond Compare) → n .head ≡ 9 → tests (headed n (c ∷ [])) ≡ gather tests (c ∷ [])
 unfolding headed tests first-cond gather
 headed-one n c e = rw (ne-eqb (n .head) 7 (λ i. omega arith), ne-eqb (n .head) 8 (λ i. omega arith), eq-eqb (n .head) 9 e) (sym (append-nil (tests c)))
+
+-- a head with the conditions inside it
+pub heads-inner : (ws : List ℕ) (k : ℕ) → T (ltb (node-at ws k .head) 9 || eqb (link ws (k - 1)) (node-at ws k .before)) → 7 ≤ node-at ws k .head → node-at ws k .head ≤ 9 → node-at ws k .before < k - 1
+    → tests (headed (node-at ws k) (list-before ws (node-at ws k .before) (k - 1) [])) ≡ gather tests (list-before ws (node-at ws k .before) (k - 1) [])
+heads-inner ws k t low high up = go (decLt (node-at ws k .head) 9)
+  where
+    b : ℕ
+    b = node-at ws k .before
+
+    go : Dec (node-at ws k .head < 9) → tests (headed (node-at ws k) (list-before ws b (k - 1) [])) ≡ gather tests (list-before ws b (k - 1) [])
+    go (yes m) = headed-list (node-at ws k) (list-before ws b (k - 1) []) (rw (list-last ws b (k - 1) up) (omega (arith, length-append (list-before ws b (link ws (k - 1)) []) (cond-of ws (k - 1) ∷ [])))) low m
+    go (no m) =
+        or-cases (ltb (node-at ws k .head) 9) (eqb (link ws (k - 1)) b) t (λ a. let x = ltb→lt (node-at ws k .head) 9 a in absurd (omega arith))
+        (λ a. let e = eqb→eq (link ws (k - 1)) b a in
+        let s : list-before ws b (k - 1) [] ≡ cond-of ws (k - 1) ∷ [] = list-last ws b (k - 1) up ∙ ap (λ l. l ++ (cond-of ws (k - 1) ∷ [])) (list-off ws b (link ws (k - 1)) [] (omega arith)) in
+        rw s (headed-one (node-at ws k) (cond-of ws (k - 1)) (omega arith)))
 
 module _ (ws : List ℕ) where
   -- ---- a test of every node, from the one that ends at a place back to the first
@@ -189,7 +194,7 @@ module _ (ws : List ℕ) where
         let u : tests (cond-of ws k) ≡ node-compare n ∷ [] = ap tests (cond-on ws k h) ∙ headed-compare n _ c in
         let v : every (compare-fit mask) (gather tests (cond-of ws k ∷ [])) ≡ (compare-fit mask (node-compare n) && true) = rw (append-nil (tests (cond-of ws k)), u) in
         record {
-          compared = f ∙ ap (λ b. b && fits (prior k)) (terms-are mask n (value-none ws k)) ∙ and-swap (compare-fit mask (node-compare n)) (fits (prior k)) ∙ sym (ap₂ (λ j b. fits j && b) i v);
+          compared = f ∙ ap (λ b. b && fits (prior k)) (terms-are mask n (value-zero ws k)) ∙ and-swap (compare-fit mask (node-compare n)) (fits (prior k)) ∙ sym (ap₂ (λ j b. fits j && b) i v);
           rest = rw i r;
         }
 
@@ -210,26 +215,11 @@ module _ (ws : List ℕ) where
         let z : Between b (k - 1) (list-before ws b (k - 1) []) = inside b (omega arith) (T-true (reaches k ws b (k - 1)) (search parts depth 9)) (rw p at r) in
         let i : link ws k ≡ b = link-is ws k (omega arith) in
         let f : fits k ≡ fits (k - 1) = back-on (fit-at mask) k h ∙ rw (c, p) in
-        let u : tests (cond-of ws k) ≡ gather tests (list-before ws b (k - 1) []) = ap tests (cond-on ws k h) ∙ ap (λ j. tests (headed n (list-before ws j (k - 1) []))) i ∙ heads (and-r (eqb (n .right) 0 && leb 7 (n .head) && leb (n .head) 9 && ltb (suc b) k && reaches k ws b (k - 1)) (ltb (n .head) 9 || eqb (link ws (k - 1)) b) t) low high (omega arith) in
+        let u : tests (cond-of ws k) ≡ gather tests (list-before ws b (k - 1) []) = ap tests (cond-on ws k h) ∙ ap (λ j. tests (headed n (list-before ws j (k - 1) []))) i ∙ heads-inner ws k (and-r (eqb (n .right) 0 && leb 7 (n .head) && leb (n .head) 9 && ltb (suc b) k && reaches k ws b (k - 1)) (ltb (n .head) 9 || eqb (link ws (k - 1)) b) t) low high (omega arith) in
         record {
           compared = f ∙ z .compared ∙ sym (ap₂ (λ j l. fits j && every (compare-fit mask) l) i (append-nil (tests (cond-of ws k)) ∙ u));
           rest = rw i (z .rest);
         }
-      where
-        heads : T (ltb (node-at ws k .head) 9 || eqb (link ws (k - 1)) (node-at ws k .before)) → 7 ≤ node-at ws k .head → node-at ws k .head ≤ 9 → node-at ws k .before < k - 1
-            → tests (headed (node-at ws k) (list-before ws (node-at ws k .before) (k - 1) [])) ≡ gather tests (list-before ws (node-at ws k .before) (k - 1) [])
-        heads t low high up = go (decLt (node-at ws k .head) 9)
-          where
-            b : ℕ
-            b = node-at ws k .before
-
-            go : Dec (node-at ws k .head < 9) → tests (headed (node-at ws k) (list-before ws b (k - 1) [])) ≡ gather tests (list-before ws b (k - 1) [])
-            go (yes m) = headed-list (node-at ws k) (list-before ws b (k - 1) []) (rw (list-last ws b (k - 1) up) (omega (arith, length-append (list-before ws b (link ws (k - 1)) []) (cond-of ws (k - 1) ∷ [])))) low m
-            go (no m) =
-                or-cases (ltb (node-at ws k .head) 9) (eqb (link ws (k - 1)) b) t (λ a. let x = ltb→lt (node-at ws k .head) 9 a in absurd (omega arith))
-                (λ a. let e = eqb→eq (link ws (k - 1)) b a in
-                let s : list-before ws b (k - 1) [] ≡ cond-of ws (k - 1) ∷ [] = list-last ws b (k - 1) up ∙ ap (λ l. l ++ (cond-of ws (k - 1) ∷ [])) (list-off ws b (link ws (k - 1)) [] (omega arith)) in
-                rw s (headed-one (node-at ws k) (cond-of ws (k - 1)) (omega arith)))
 
     list-join : (stop i j : ℕ) → stop < j → link ws j ≡ i → Between stop i (list-before ws stop i []) → Between i j (cond-of ws j ∷ []) → Between stop j (list-before ws stop j [])
     list-join stop i j h e x y =
@@ -238,7 +228,7 @@ module _ (ws : List ℕ) where
         let s : list-before ws stop j [] ≡ list-before ws stop i [] ++ (cond-of ws j ∷ []) = list-last ws stop j h ∙ ap (λ i. list-before ws stop i [] ++ (cond-of ws j ∷ [])) e in
         let g : every (compare-fit mask) (gather tests (list-before ws stop j [])) ≡ (a && b) =
         ap (λ l. every (compare-fit mask) (gather tests l)) s ∙ ap (every (compare-fit mask)) (gather-append tests (list-before ws stop i []) (cond-of ws j ∷ []))
-        ∙ every-both-lists (compare-fit mask) (gather tests (list-before ws stop i [])) (gather tests (cond-of ws j ∷ [])) in
+        ∙ every-append-same (compare-fit mask) (gather tests (list-before ws stop i [])) (gather tests (cond-of ws j ∷ [])) in
         record {
           compared = y .compared ∙ ap (λ c. c && b) (x .compared) ∙ and-assoc (fits stop) a b ∙ sym (ap (λ c. fits stop && c) g);
           rest = x .rest;

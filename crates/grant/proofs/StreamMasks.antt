@@ -9,6 +9,7 @@ use borrow.Author.Tests.{lt-ltb}
 use Rattle.lists.specs.Lists.{gather, count-from}
 use Rattle.lists.proofs.Laws.{append-nil}
 use Rattle.lists.proofs.Counting.{count-left, count-done}
+use Rattle.lists.proofs.Gathers.{gather-map, map-ones}
 use Rattle.schema.specs.Schemas.{width-in}
 use Rattle.schema.proofs.Soundness.{width-most}
 use Rattle.schema.proofs.Tests.{width-none}
@@ -34,16 +35,6 @@ module _ (f : ℕ → List ℕ) where
     pub join-end : n ≤ i → m ≡ t
     unfolding gather mask-of
     join-end h = let a : gather f (count-from i (n - i)) ≡ [] = rw (count-done i n h) in sym (inv ∙ rw a (or-zero-r m))
-
-gather-map : {A B C : Type 0} (f : B → List C) (g : A → B) (xs : List A) → gather f (map g xs) ≡ gather (λ x. f (g x)) xs
-unfolding gather
-gather-map f g [] = refl
-gather-map f g (x ∷ xs) = ap (λ l. f (g x) ++ l) (gather-map f g xs)
-
-map-gather : {A B : Type 0} (f : A → B) (xs : List A) → map f xs ≡ gather (λ x. f x ∷ []) xs
-unfolding gather
-map-gather f [] = refl
-map-gather f (x ∷ xs) = ap (λ l. f x ∷ l) (map-gather f xs)
 
 -- ---- the columns of one stream
 
@@ -82,7 +73,7 @@ module _ (mask : ℕ) (ns : List ℕ) (s n : ℕ) (e : n ≡ width-in ns s) wher
     pub column-end : n ≤ c → m ≡ bitOr mask (streams-mask ns (s ∷ []))
     column-end h =
         let z : n - 0 ≡ width-in ns s = omega arith in
-        join-end (column-bit s) _ m c n inv h ∙ rw (z, one-stream ns s, map-gather (λ c. s * 6 + c) (count-from 0 (width-in ns s)))
+        join-end (column-bit s) _ m c n inv h ∙ rw (z, one-stream ns s, map-ones (λ c. s * 6 + c) (count-from 0 (width-in ns s)))
 
 pub ruleset column-ends = (stream-past, narrow, columns-start, column-on, column-end)
 

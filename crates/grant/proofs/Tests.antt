@@ -1,7 +1,7 @@
 -- Refusal 12 of a grant, test by test, in the order of the code.
 use mathlib.Core.Path.{_≡_, refl, sym, _∙_}
 use mathlib.Core.List.{List, [], _∷_}
-use mathlib.Core.Bool.{Bool, true, false, _&&_, _||_, not}
+use mathlib.Core.Bool.{Bool, true, false, _&&_, _||_, not, or-false, or-true, and-true}
 use Prim.Native.Nat.{ℕ, zero, suc, _≤_, _<_}
 use native.Mathlib.Decide.{decLt}
 use native.Mathlib.Omega.{arith}
@@ -16,18 +16,6 @@ use Rattle.masks.specs.Masks.{inside}
 use Rattle.nodes.specs.Nodes.{nodes-sound}
 use Rattle.grant.specs.declared.Grant.{Grant}
 use Rattle.grant.specs.Grants.{places-of, streams-of, streams-mask, streams-sound, limit-sound, limits-sound, window-sound, shown-sound, when-sound, grant-sound}
-
-and-true : (a : Bool) → (a && true) ≡ a
-and-true true = refl
-and-true false = refl
-
-or-false : (a : Bool) → (a || false) ≡ a
-or-false true = refl
-or-false false = refl
-
-or-true : (a : Bool) → (a || true) ≡ true
-or-true true = refl
-or-true false = refl
 
 -- ---- streams
 

@@ -8,7 +8,7 @@ use native.Mathlib.Omega.{arith}
 use lib.Dec.{T, eqb, leb, ltb, leb→le, eqb→eq, le→leb, not-T}
 use lib.ListN.{length, getD}
 use Rattle.lists.specs.Lists.{every, empty?, select, gather, distinct}
-use Rattle.lists.proofs.Laws.{and-l, and-r, and-both, or-l, or-r, or-cases, parts, T-true, every-weaken, every-both}
+use Rattle.lists.proofs.Laws.{and-l, and-r, and-both, or-l, or-r, or-cases, parts, T-true, every-weaken, every-both, same-truth}
 use Rattle.lists.proofs.Counting.{map-length}
 use Rattle.syntax.specs.Grammar.{Fn, read, figures, Cond}
 use Rattle.syntax.specs.Limits.{top}
@@ -18,7 +18,6 @@ use Rattle.model.proofs.Columns.{within-select}
 use Rattle.calls.specs.Validity.{valid-name, valid-cond, valid-limit, valid-window, valid-grant}
 use Rattle.text.specs.Words.{name-of}
 use Rattle.schema.specs.Schemas.{schema-of}
-use Rattle.schema.proofs.Counted.{same-truth}
 use Rattle.schema.proofs.Lookups.{length-schema}
 use Rattle.masks.specs.Masks.{inside}
 use Rattle.nodes.specs.Nodes.{conditions-of, column-in, nodes-sound}

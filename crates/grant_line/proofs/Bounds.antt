@@ -9,6 +9,7 @@ use lib.IntN.{ℤ}
 use lib.Dec.{leb, ltb}
 use borrow.Author.Tests.{le-leb, lt-leb, ltb-true, ltb-false}
 use Rattle.lists.specs.Lists.{every, some?, gather}
+use Rattle.lists.proofs.Laws.{not-both}
 use Rattle.syntax.specs.Grammar as G
 use Rattle.syntax.specs.Grammar.{Operand, Test, Cond, Show, Span, GrantLine}
 use Rattle.syntax.specs.Limits.{cond-depth, short, short-ref, is-value, is-time}
@@ -27,7 +28,7 @@ use Rattle.grant_line.specs.declared.Limit.{Limit}
 use Rattle.grant_line.specs.declared.Window.{Window}
 use Rattle.grant_line.specs.Parts.{holder-read, shown-all, shown-listed, show-of, limit-over, limit-of, window-of}
 use Rattle.grant_line.specs.Lines.{over-read}
-use Rattle.grant_line.proofs.Folds.{not-both, not-not-is, some-not, every-gathered}
+use Rattle.grant_line.proofs.Folds.{not-not-is, some-not, every-gathered}
 
 -- ---- the parts of a line as they are read
 

@@ -17,7 +17,7 @@ use Rattle.refusal.specs.declared.Verdict.the-variants.{Accepted, Refused}
 use Rattle.refusal.specs.declared.Refusal.{Refusal}
 use Rattle.refusal.specs.declared.Refusal.the-variants.{Lent, Malformed, Bound}
 use Rattle.refusal.proofs.Verdicts.{verdict-none}
-use Rattle.lists.proofs.Laws.{parts, true-T}
+use Rattle.lists.proofs.Laws.{parts, true-T, or-first, or-last}
 use Rattle.grant_line.proofs.Lines.{unread-not}
 use Rattle.syntax.specs.Grammar as G
 use Rattle.syntax.specs.Grammar.{Bytes}
@@ -33,14 +33,6 @@ use Rattle.grant_line.proofs.Bounds.{grant-size, flat-enough, seen-flat
 use Rattle.grant_line.proofs.Flags.{flags-of, flags, flags-said}
 
 -- ---- a table with no refusal
-
-or-first : (a b : Bool) → (a || b) ≡ false → a ≡ false
-or-first true b e = e
-or-first false b e = refl
-
-or-last : (a b : Bool) → (a || b) ≡ false → b ≡ false
-or-last true b e = absurd (let k : _≡_ {A = ℕ} 0 1 = cc in omega arith)
-or-last false b e = e
 
 not-false-is : (a : Bool) → not a ≡ false → a ≡ true
 not-false-is true e = refl

@@ -13,7 +13,7 @@ use Rattle.refusal.specs.declared.Refusal.the-variants.{Bound, Undeclared, Repe
 use Rattle.refusal.specs.declared.Checks.{Checks}
 use Rattle.refusal.specs.Checks.{refuse, first, table}
 use Rattle.lists.specs.Lists.{every, gather, distinct, same-list}
-use Rattle.lists.proofs.Laws.{true-T, parts}
+use Rattle.lists.proofs.Laws.{true-T, parts, or-first}
 use Rattle.syntax.specs.Grammar as G
 use Rattle.syntax.specs.Grammar.{Bytes, body?, grant?}
 use Rattle.syntax.specs.Limits.{shallow}
@@ -103,10 +103,6 @@ module _ (ns : List ℕ) (sound : T (schema-sound ns)) (bs : Bytes) (short : len
       go false b c = refl
 
   module _ (e : over ≡ false) where
-    or-first : (a b : Bool) → (a || b) ≡ false → a ≡ false
-    or-first true b e = e
-    or-first false b e = refl
-
     within : (not (flat-enough g) || not (grant-bounded g)) ≡ false
     within = sym (over-is ns g fits) ∙ or-first (over-read (holder g) (streams ns g) (shows ns g) (seen ns g) (first-time g) (last-time g) (span g)) (leb 24 count) e
 

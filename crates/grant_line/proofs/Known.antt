@@ -8,7 +8,8 @@ use native.Mathlib.Omega.{arith}
 use lib.Dec.{T, eqb}
 use lib.ListN.{length}
 use Rattle.lists.specs.Lists.{every, some?, gather, distinct, same-list}
-use Rattle.lists.proofs.Laws.{and-l, and-r, and-both, parts, true-T, T-true, not-not, every-both, every-all, all-every, all-gather}
+use Rattle.lists.proofs.Laws.{and-l, and-r, and-both, parts, true-T, T-true, not-not, every-both, every-all, all-every, all-gather, not-both}
+use Rattle.lists.proofs.Gathers.{every-append-same}
 use Rattle.syntax.specs.Grammar as G
 use Rattle.syntax.specs.Grammar.{Bytes, Ref, Operand, Test, Show, GrantLine, name?, ref?, operand?, test?, cond?, some-all, show?, grant?, body?, verb-word, put-ref}
 use Rattle.syntax.specs.Limits.{short, short-ref}
@@ -28,9 +29,8 @@ use Rattle.columns.specs.Columns.{streams-read, columns-read}
 use Rattle.columns.proofs.Declared.{streams-unknown, places-once, columns-unknown, columns-fine}
 use Rattle.columns.proofs.Repeats.{entries, entries-room, repeats-once}
 use Rattle.columns.proofs.ColumnBits.{operand-fine}
-use Rattle.grant.proofs.Compared.{every-both-lists}
 use Rattle.grant_line.specs.Parts.{shown-all, shown-listed, show-of}
-use Rattle.grant_line.proofs.Folds.{not-both, flip, some-good, gather-gather}
+use Rattle.grant_line.proofs.Folds.{flip, some-good, gather-gather}
 use Rattle.grant_line.proofs.Bounds.{streams, shows, grant-tests, test-bounded, conds-bounded}
 
 -- ---- what a line within its bounds holds
@@ -170,7 +170,7 @@ module _ (ns : List ℕ) (sound : T (schema-sound ns)) where
         (some-good (test-unknown ns) (test-declared ns) good-test test-known (grant-tests g) (tests-good g good bounded))
         ∙ three (every (declared (schema-of ns)) (g .of)) (every (ref-declared (schema-of ns)) (show-refs (g .show))) (every (test-declared ns) (grant-tests g))
         ∙ ap (λ b. not (every (declared (schema-of ns)) (g .of) && b))
-        (sym (every-both-lists (ref-declared (schema-of ns)) (show-refs (g .show)) (gather cond-refs (g .when)) ∙ ap (λ b. every (ref-declared (schema-of ns)) (show-refs (g .show)) && b) tests-declared))
+        (sym (every-append-same (ref-declared (schema-of ns)) (show-refs (g .show)) (gather cond-refs (g .when)) ∙ ap (λ b. every (ref-declared (schema-of ns)) (show-refs (g .show)) && b) tests-declared))
 
     module _ (known : T all-declared) where
       pub of-declared : T (every (declared (schema-of ns)) (g .of))
@@ -178,7 +178,7 @@ module _ (ns : List ℕ) (sound : T (schema-sound ns)) where
 
       both-declared : T (every (ref-declared (schema-of ns)) (show-refs (g .show)) && every (test-declared ns) (grant-tests g))
       both-declared =
-          rw (every-both-lists (ref-declared (schema-of ns)) (show-refs (g .show)) (gather cond-refs (g .when)), tests-declared) at (and-r (every (declared (schema-of ns)) (g .of)) _ known)
+          rw (every-append-same (ref-declared (schema-of ns)) (show-refs (g .show)) (gather cond-refs (g .when)), tests-declared) at (and-r (every (declared (schema-of ns)) (g .of)) _ known)
 
       pub shown-fine : T (every (fine ns) (show-refs (g .show)))
       shown-fine = columns-fine ns sound (show-refs (g .show)) (show-names g good bounded) (show-short g good bounded) (and-l (every (ref-declared (schema-of ns)) (show-refs (g .show))) _ both-declared)

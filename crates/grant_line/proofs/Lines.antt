@@ -1,7 +1,7 @@
 -- A grant line: each return of the code that reads what follows its conditions, and of the code that reads all of it.
 use mathlib.Core.Path.{_≡_, refl, sym, ap, ap₂, _∙_}
 use mathlib.Core.List.{List, [], map}
-use mathlib.Core.Bool.{Bool, true, false, _||_, not}
+use mathlib.Core.Bool.{Bool, true, false, not}
 use mathlib.Core.Option.{Option, none, some}
 use Prim.Native.Nat.{ℕ, _-_, _≤_}
 use native.Mathlib.Omega.{arith}
@@ -10,6 +10,7 @@ use lib.Dec.{leb}
 use lib.ListN.{length, drop, length-drop}
 use borrow.Author.Tests.{le-leb, ltb-false, not-true, not-false}
 use Rattle.lists.specs.Lists.{every, empty?}
+use Rattle.lists.proofs.Laws.{or-first, or-last}
 use Rattle.syntax.specs.Grammar as G
 use Rattle.syntax.specs.Grammar.{Bytes, bytes, Show, Span, Test, Cond, right-word}
 use Rattle.syntax.specs.Limits.{cond-depth}
@@ -347,14 +348,6 @@ parts-alike ns s a b g cs i j k n {h} {o} {w} {c} e f d q t =
     ∙ ap (λ c. line-read ns h₀ o₀ w₀ c from to span) q ∙ when-alike ns s from to span cs k 95 h₀ o₀ w₀
 
 -- ---- the ends
-
-or-last : (a b : Bool) → (a || b) ≡ false → b ≡ false
-or-last true b e = absurd (let k : _≡_ {A = ℕ} 0 1 = cc in omega arith)
-or-last false b e = e
-
-or-first : (a b : Bool) → (a || b) ≡ false → a ≡ false
-or-first true b e = e
-or-first false b e = refl
 
 flat : (h : Holder) (o : Streams) (w : Shown) (c : Seen) (f t : Limit) (x : Window) → over-read h o w c f t x ≡ false → c .deep ≡ false
 unfolding over-read

@@ -11,6 +11,7 @@ use lib.Dec.{T, ltb, ltb→lt}
 use borrow.Author.Tests.{ne-eqb, le-leb, lt-ltb}
 use Rattle.lists.specs.Lists.{every, select, gather}
 use Rattle.lists.proofs.Laws.{and-l, and-r, parts, T-true, not-not, every-append-l, every-append-r, every-all, all-weaken, select-every}
+use Rattle.lists.proofs.Gathers.{every-of-map, every-good}
 use Rattle.syntax.specs.Grammar as G
 use Rattle.syntax.specs.Grammar.{Bytes, Op, Right, Ref, Operand, Test, Cond, Conds, Show, Span, name?, ref?, test?}
 use Rattle.syntax.specs.Limits.{short, short-ref, is-value, is-time, natural}
@@ -29,7 +30,6 @@ use Rattle.text.proofs.Codes.{name-back}
 use Rattle.items.specs.Items.{code-short}
 use Rattle.schema.specs.Schemas.{streams-in, schema-of, schema-sound}
 use Rattle.schema.proofs.Tests.{streams-most}
-use Rattle.schema.proofs.Counted.{every-of-map}
 use Rattle.masks.specs.Masks.{bit?, mask-of, inside}
 use Rattle.masks.proofs.Lists.{bits-inside}
 use Rattle.terms.specs.Terms.{ref-code, operand-over, test-over, operand-code, operand-value, left-code, right-code, test-value}
@@ -45,7 +45,7 @@ use Rattle.grant.specs.Grants as S
 use Rattle.grant.proofs.Masked.{low, cols-low, column-theirs}
 use Rattle.grant.proofs.Compared.{compare-fit, terms-are, cond-fit, conditions-are}
 use Rattle.grant_line.specs.Parts.{shown-all, shown-listed, show-of, limit-kept, window-of}
-use Rattle.grant_line.proofs.Folds.{every-good, every-gathered}
+use Rattle.grant_line.proofs.Folds.{every-gathered}
 use Rattle.grant_line.proofs.Bounds.{test-bounded}
 use Rattle.grant_line.proofs.Known.{good-test, test-declared, test-fine}
 use Rattle.grant_line.proofs.Placing.{kept-time}

@@ -22,7 +22,7 @@ use Rattle.text.specs.declared.Word.{Word}
 use Rattle.text.specs.declared.Class.the-variants.{Plain}
 use Rattle.text.specs.Words.{name-at}
 use Rattle.text.specs.Keywords.{right-number, right-coded, coded, numbered, word-at, WordAt, part-at, keywords-compute}
-use Rattle.text.proofs.Runs.{run-from, run-room}
+use Rattle.text.proofs.Runs.{run-from, run-room, place-left}
 use Rattle.text.proofs.Places.{byte-here, byte-inside, space-is, space-not, close-is, name-not, name-is, word-is, right-is, part-absent, part-present, of-word, show-word}
 use Rattle.text.proofs.Fuel.{no-close, items-step}
 use Rattle.text.proofs.Views.{view-none, view-here}
@@ -47,9 +47,6 @@ closes-byte s n e = go (decLt n (length s))
     go : Dec (n < length s) → getD s n 0 ≡ 41
     go (yes l) = sym (eqb-true 41 (getD s n 0) (ap closes (sym (byte-here s n l refl)) ∙ e))
     go (no l) = let h : length s ≤ n = omega arith in absurd (let z : _≡_ {A = Bool} false true = ap closes (sym (drop-of-length-le s h)) ∙ e in let k : _≡_ {A = ℕ} 0 1 = cc in omega arith)
-
-pub place-left : (s : Bytes) (p : ℕ) → p ≤ length s → length s - length (drop p s) ≡ p
-place-left s p h = omega (arith, length-drop p s)
 
 module _ {A : Type 0} (item : Reader A) where
   -- one or more are some that are not none

@@ -12,6 +12,7 @@ use lib.ListN.{length, length-map}
 use borrow.Author.Tests.{ne-eqb, lt-ltb, le-ltb, leb-true, leb-false}
 use Rattle.lists.specs.Lists.{every, empty?, gather, count-from}
 use Rattle.lists.proofs.Laws.{parts, T-true, every-map, empty-map, and-four}
+use Rattle.lists.proofs.Gathers.{every-append-same, every-of-map, every-good}
 use Rattle.syntax.specs.Grammar as G
 use Rattle.syntax.specs.Grammar.{Bytes, Test, Cond, Show, Span, Right, GrantLine, some-all, grant?}
 use Rattle.syntax.specs.Limits.{is-time, natural}
@@ -27,9 +28,8 @@ use Rattle.calls.specs.Tables.{declared, ref-declared, window-allowed, show-pla
 use Rattle.text.specs.Words.{time-kept}
 use Rattle.text.specs.Keywords.{right-number}
 use Rattle.schema.specs.Schemas.{streams-in, schema-of, schema-sound}
-use Rattle.schema.proofs.Counted.{every-of-map}
 use Rattle.masks.specs.Masks.{bit?, mask-of, inside}
-use Rattle.masks.proofs.Lists.{inside-every}
+use Rattle.masks.proofs.Lists.{inside-map}
 use Rattle.terms.specs.Terms.{left-code, right-code}
 use Rattle.terms.proofs.Resolving.{fine, stream-below}
 use Rattle.items.specs.Items.{first-of}
@@ -39,10 +39,9 @@ use Rattle.columns.proofs.ColumnBits.{refs-inside, left-bit, right-bit}
 use Rattle.conditions.specs.declared.Seen.{Seen}
 use Rattle.conditions.specs.Seeing.{seen-of}
 use Rattle.grant.specs.Grants.{no-time, places-of, column-codes, streams-mask}
-use Rattle.grant.proofs.Compared.{every-both-lists}
 use Rattle.grant_line.specs.Parts.{holder-read, shown-all, shown-listed, show-of, limit-kept, limit-of, window-of}
 use Rattle.grant_line.specs.Lines.{misplaced-read}
-use Rattle.grant_line.proofs.Folds.{every-pair, every-good, every-gathered}
+use Rattle.grant_line.proofs.Folds.{every-pair, every-gathered}
 use Rattle.grant_line.proofs.Bounds.{holder, streams, shows, first-time, last-time, span, grant-tests}
 use Rattle.grant_line.proofs.Known.{good-test, test-declared, test-fine, of-declared, shown-fine, tests-fine}
 
@@ -73,7 +72,7 @@ module _ (ns : List ℕ) (sound : T (schema-sound ns)) (ss : List ℕ) (b : T (e
       let x = test-fine ns sound t h in
       let l = term-of d (t .left) in
       let r = operand-of d (t .right) in
-      ap (λ b. (when-left l && when-right r) && b) (every-both-lists (has theirs) (term-cols l) (term-cols r))
+      ap (λ b. (when-left l && when-right r) && b) (every-append-same (has theirs) (term-cols l) (term-cols r))
       ∙ and-four (when-left l) (when-right r) (every (has theirs) (term-cols l)) (every (has theirs) (term-cols r))
       ∙ ap₂ _&&_ (left-bit ns ss b sound (t .left) (x .0)) (right-bit ns ss b sound (t .right) (x .1))
 
@@ -86,16 +85,13 @@ module _ (ns : List ℕ) (sound : T (schema-sound ns)) (ss : List ℕ) (b : T (e
       ∙ every-of-map (λ t. every (has theirs) (term-cols (t .left) ++ term-cols (t .right))) (compare-of d) (tests c))
       ∙ every-pair (λ t. when-left (term-of d (t .left)) && when-right (operand-of d (t .right))) (λ t. every (has theirs) (term-cols (term-of d (t .left)) ++ term-cols (operand-of d (t .right)))) (tests c))
 
-  inside-bits : (f : Test → ℕ) (n : ℕ) (ts : List Test) → inside (mask-of (map f ts)) n ≡ every (λ t. bit? n (f t)) ts
-  inside-bits f n ts = inside-every (map f ts) n ∙ every-of-map (bit? n) f ts
-
   pub when-placed : (cs : List (Cond Test)) → T (every (λ t. good-test t && test-declared ns t) (gather tests cs))
       → every (λ c. grantable c && within (cond-cols c) theirs) (map (map-cond (compare-of d)) cs) ≡ (inside (mask-of (map (left-code ns) (gather tests cs))) mask && inside (mask-of (map (right-code ns) (gather tests cs))) wider)
   when-placed cs h =
       every-of-map (λ c. grantable c && within (cond-cols c) theirs) (map-cond (compare-of d)) cs
       ∙ every-gathered placed-test (λ c. grantable (map-cond (compare-of d) c) && within (cond-cols (map-cond (compare-of d) c)) theirs) tests cond-placed cs
       ∙ every-good placed-test bits-in (λ t. good-test t && test-declared ns t) test-placed (gather tests cs) h
-      ∙ sym (ap₂ _&&_ (inside-bits (left-code ns) mask (gather tests cs)) (inside-bits (right-code ns) wider (gather tests cs))
+      ∙ sym (ap₂ _&&_ (inside-map (left-code ns) mask (gather tests cs)) (inside-map (right-code ns) wider (gather tests cs))
       ∙ every-pair (λ t. bit? mask (left-code ns t)) (λ t. bit? wider (right-code ns t)) (gather tests cs))
 
   -- ---- what is shown

@@ -18,6 +18,7 @@ use Rattle.refusal.proofs.Verdicts.{not-accepted, verdict-none, stops}
 use Rattle.refusal.proofs.Passing.{pass-rest, pass-test, passes-first, first-skip}
 use Rattle.lists.specs.Lists.{every, empty?, gather}
 use Rattle.lists.proofs.Laws.{and-l, and-r, and-both, parts, true-T, T-true, every-map, every-both}
+use Rattle.lists.proofs.Gathers.{every-of-map}
 use Rattle.syntax.specs.Grammar as G
 use Rattle.syntax.specs.Grammar.{Bytes, Cond, body?, cond?, grant?}
 use Rattle.syntax.specs.Limits.{shallow, cond-depth, natural}
@@ -43,7 +44,6 @@ use Rattle.calls.proofs.Written.{written-passes, written-short, written-shallow
 use Rattle.calls.proofs.Order.{written-ordered}
 use Rattle.schema.specs.Schemas.{streams-in, schema-of, schema-sound}
 use Rattle.schema.proofs.Valid as S
-use Rattle.schema.proofs.Counted.{every-of-map}
 use Rattle.masks.specs.Masks.{bit?, mask-of, inside}
 use Rattle.masks.proofs.Lists.{inside-every}
 use Rattle.terms.specs.Terms.{left-code}

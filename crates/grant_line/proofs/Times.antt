@@ -16,10 +16,10 @@ use Rattle.text.specs.Words.{name-of, number-at, time-of}
 use Rattle.text.specs.Keywords.{part-at}
 use Rattle.text.proofs.Codes.{code-back, code-keyword}
 use Rattle.text.proofs.Places.{Spells, byte-inside, space-is, space-not, close-is, close-not, number-not, number-is, time-is, part-unopened, part-opened, part-present, window-word}
+use Rattle.text.proofs.Runs.{place-left}
 use Rattle.grant_line.specs.declared.Limit.{Limit}
 use Rattle.grant_line.specs.declared.Window.{Window}
 use Rattle.grant_line.specs.Parts.{no-limit, limit-over, limit-kept, limit-of, limit-at, no-window, window-of, window-read, window-at, read-span, span-at}
-use Rattle.grant_line.proofs.Parts.{place-left}
 
 -- ---- a first or a last time
 

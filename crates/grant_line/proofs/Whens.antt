@@ -22,11 +22,12 @@ use Rattle.text.specs.Readings.{any-cond, any-items, any-some}
 use Rattle.text.proofs.Places.{close-is, part-unopened, part-opened, part-present, when-word}
 use Rattle.text.proofs.Views.{left-drop}
 use Rattle.text.proofs.Fuel.{no-close, any-cond-leaves, any-some-leaves}
+use Rattle.text.proofs.Runs.{place-left}
 use Rattle.nodes.specs.Storing.{list-size, store-list}
 use Rattle.conditions.specs.declared.Seen.{Seen}
 use Rattle.conditions.specs.Seeing.{nodes-of, nothing-seen, deep-seen, begun, seen-of, has-room, list-seen, list-stored, list-at, ListRead}
 use Rattle.grant_line.specs.Parts.{read-whens, WhenRead}
-use Rattle.grant_line.proofs.Parts.{place-left, some-items, list-closed, list-inside}
+use Rattle.grant_line.proofs.Parts.{some-items, list-closed, list-inside}
 
 -- ---- what is seen of conditions, wherever they end: nothing, or the same but for the place
 

@@ -1,11 +1,12 @@
 -- The profile entry at a place as the code reads it.
-use mathlib.Core.Path.{_≡_, refl, sym, _∙_}
-use mathlib.Core.Bool.{Bool, true, false, _&&_, _||_, not, cond}
+use mathlib.Core.Path.{_≡_, sym, _∙_}
+use mathlib.Core.Bool.{true, false, not, cond}
 use mathlib.Core.Option.{none, some}
 use Prim.Native.Nat.{ℕ, _+_, _-_, _≤_}
 use native.Mathlib.Omega.{arith}
 use lib.IntN.{ℤ}
 use lib.ListN.{length, drop, getD, length-drop}
+use Rattle.lists.proofs.Laws.{not-both}
 use Rattle.syntax.specs.Grammar.{Bytes}
 use Rattle.syntax.specs.Readers.{_>>=_, _>>_, bind, give, read-entry}
 use Rattle.syntax.specs.Limits.{short, is-value}
@@ -24,11 +25,7 @@ entry-is : (s : Bytes) (w : Bytes) (z : ℤ) (n : Name) {k : Kept} (i : ℕ) →
 unfolding entry-of kept-of entry-read code-short
 entry-is s w z n i l a b c =
     let o : length s - length (drop i s) ≡ i = omega (arith, length-drop i s) in
-    rw (a, b, c, o, either-not (short w) (is-value z))
-  where
-    either-not : (a b : Bool) → (not a || not b) ≡ not (a && b)
-    either-not true b = refl
-    either-not false b = refl
+    rw (a, b, c, o, not-both (short w) (is-value z))
 
 module _ (s : Bytes) (at : ℕ) {p : ℕ} (o : p ≡ opened-at s at 0x73656c66) where
   -- where nothing is read

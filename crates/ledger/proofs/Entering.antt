@@ -1,7 +1,7 @@
 -- What a call has to show at each of its returns.
 use mathlib.Core.Path.{_≡_, refl, sym, ap, _∙_}
 use mathlib.Core.List.{List}
-use mathlib.Core.Bool.{Bool, true, false, _||_, not, cond}
+use mathlib.Core.Bool.{Bool, true, false, not, cond}
 use mathlib.Core.Option.{none, some}
 use Prim.Native.Nat.{ℕ, _+_, _*_, _≤_, _<_}
 use native.Mathlib.Omega.{arith}
@@ -17,7 +17,7 @@ use Rattle.refusal.specs.declared.Refusal.the-variants.{Lent, Bound, ClockBack}
 use Rattle.refusal.specs.declared.Verdict.{Verdict}
 use Rattle.refusal.specs.declared.Verdict.the-variants.{Accepted, Refused}
 use Rattle.refusal.proofs.Passed.{passed}
-use Rattle.lists.proofs.Laws.{true-T}
+use Rattle.lists.proofs.Laws.{true-T, or-last}
 use Rattle.syntax.specs.Limits.{max-streams, max-columns, max-rows, is-time, natural}
 use Rattle.calls.specs.Tables.{clock-checks}
 use Rattle.text.specs.Words.{time-kept, time-of}
@@ -68,18 +68,14 @@ pub record RowFits (m : Memory) (s n : ℕ) : Type 0 where
   pub width : n ≡ width-in (m .names) s
   pub space : count-in (m .ledger) s < max-rows
 
-or-false : (a b : Bool) → (a || b) ≡ false → b ≡ false
-or-false true b e = cc
-or-false false b e = e
-
 pub row-fits : (m : Memory) (s n : ℕ) (c : Checks) → verdict-of (first (table (row-shown m s n c))) ≡ Accepted → RowFits m s n
 unfolding row-shown
 row-fits m s n c e =
     let h = passed (row-shown m s n c) e in
     record {
       sound = true-T (memory-sound m) (not-false (memory-sound m) (ap (λ (k : Checks). k .lent) h));
-      declared = leb-false (streams-in (m .names)) s (or-false (c .undeclared) (leb (streams-in (m .names)) s) (ap (λ (k : Checks). k .undeclared) h));
-      width = eqb-true n (width-in (m .names) s) (not-false (eqb n (width-in (m .names) s)) (or-false (c .misplaced) _ (ap (λ (k : Checks). k .misplaced) h)));
+      declared = leb-false (streams-in (m .names)) s (or-last (c .undeclared) (leb (streams-in (m .names)) s) (ap (λ (k : Checks). k .undeclared) h));
+      width = eqb-true n (width-in (m .names) s) (not-false (eqb n (width-in (m .names) s)) (or-last (c .misplaced) _ (ap (λ (k : Checks). k .misplaced) h)));
       space = leb-false max-rows (count-in (m .ledger) s) (ap (λ (k : Checks). k .full) h);
     }
 

@@ -7,14 +7,13 @@ use lib.IntN.{ℤ, pos}
 use lib.Dec.{T, leb, eqb, le→leb, leb→le, eqb-refl}
 use lib.ListN.{length, getD}
 use Rattle.lists.specs.Lists.{every, count-from}
-use Rattle.lists.proofs.Laws.{and-both, parts, T-true}
+use Rattle.lists.proofs.Laws.{and-both, parts, T-true, same-truth}
 use Rattle.lists.proofs.Counting.{map-length, every-map}
 use Rattle.syntax.specs.Limits.{is-value, top, max-columns, max-rows}
 use Rattle.calls.specs.Validity.{steady, valid-row, valid-rows, rows-match, valid-record, valid-schema}
 use Rattle.text.proofs.Values.{value-at}
 use Rattle.schema.specs.Schemas.{streams-in, width-in, column-in, stream-in, schema-of, tidy}
 use Rattle.schema.proofs.Valid as S
-use Rattle.schema.proofs.Counted.{same-truth}
 use Rattle.ledger.specs.Records.{Memory, places-size, values-size, row-in, count-in, rows-in, record-of, ledger-sound, undeclared-empty, stream-steady, streams-steady, memory-sound, memory-tidy}
 use Rattle.ledger.proofs.Bounds.{count-le}
 use Rattle.ledger.proofs.Soundness.{sound-parts, sound-made}

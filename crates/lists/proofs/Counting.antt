@@ -7,7 +7,7 @@ use native.Mathlib.Numerals.{add-one}
 use native.Mathlib.Omega.{arith}
 use native.Mathlib.Decide.{decLt}
 use lib.Dec.{T}
-use lib.ListN.{length, getD, set}
+use lib.ListN.{length, getD, set, List·getD-eq-default}
 use Rattle.lists.specs.Lists.{every, count-from, nth}
 use Rattle.lists.proofs.Laws.{and-l, and-r, and-both}
 
@@ -147,3 +147,7 @@ unfolding every
 every-set p [] i x t u = tt
 every-set p (y ∷ ys) zero x t u = and-both (p x) (every p ys) u (and-r (p y) (every p ys) t)
 every-set p (y ∷ ys) (suc i) x t u = and-both (p y) (every p (set ys i x)) (and-l (p y) (every p ys) t) (every-set p ys i x (and-r (p y) (every p ys) t) u)
+
+-- past its end a list of numbers holds 0
+pub number-none : (xs : List ℕ) (i : ℕ) → length xs ≤ i → 0 ≡ getD xs i 0
+number-none xs i h = sym (List·getD-eq-default xs 0 {n = i} h)

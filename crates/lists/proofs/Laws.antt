@@ -58,10 +58,38 @@ pub not-or-r : (a b : Bool) → T (not (a || b)) → T (not b)
 not-or-r true b t = absurd t
 not-or-r false b t = t
 
+-- neither of two holds
+pub or-first : (a b : Bool) → (a || b) ≡ false → a ≡ false
+or-first true b e = e
+or-first false b e = refl
+
+pub or-last : (a b : Bool) → (a || b) ≡ false → b ≡ false
+or-last true b e = absurd (subst T e tt)
+or-last false b e = e
+
+pub not-both : (a b : Bool) → (not a || not b) ≡ not (a && b)
+not-both true b = refl
+not-both false b = refl
+
+-- two tests that pass alike are one
+pub same-truth : (a b : Bool) → (T a → T b) → (T b → T a) → a ≡ b
+same-truth true true f g = refl
+same-truth true false f g = absurd (f tt)
+same-truth false true f g = absurd (g tt)
+same-truth false false f g = refl
+
 -- what a test gives, by its two cases
 pub cond-cases : {A X : Type 0} (b : Bool) (x y : A) {z : A} → cond b x y ≡ z → (T b → x ≡ z → X) → (T (not b) → y ≡ z → X) → X
 cond-cases true x y e f g = f tt e
 cond-cases false x y e f g = g tt e
+
+-- by the two values of a test
+pub by-test : {X : Type 0} (t : Bool) → (t ≡ true → X) → (t ≡ false → X) → X
+by-test true f g = f refl
+by-test false f g = g refl
+
+pub never : {X : Type 0} → _≡_ {A = Bool} true false → X
+never e = absurd (subst T e tt)
 
 -- `search parts` finds a part of a conjunction in reach
 pub ruleset parts = (and-l, and-r)

@@ -1,6 +1,6 @@
 -- The mask of a list of bits: which it shows, what it lies inside, and how large it is.
 use mathlib.Core.Path.{_≡_, refl, sym, ap, ap₂, _∙_}
-use mathlib.Core.List.{List, [], _∷_, _++_}
+use mathlib.Core.List.{List, [], _∷_, _++_, map}
 use mathlib.Core.Bool.{Bool, true, false, _&&_, _||_}
 use Prim.Native.Nat.{ℕ, zero, suc, _+_, _/_, _%_, _^_, _<_, _≤_}
 use native.Mathlib.Nat.{mod-lt, zero-lt-suc, div-one}
@@ -10,7 +10,8 @@ use lib.Bits.{bitAnd, bitOr, and-zero-l, or-zero-l, or-lt}
 use lib.Dec.{T, eqb, ltb, eqb→eq, eqb-refl, ltb→lt}
 use borrow.Author.Tests.{eq-eqb}
 use Rattle.lists.specs.Lists.{every, some?}
-use Rattle.lists.proofs.Laws.{T-true, and-l, and-r, and-both, parts}
+use Rattle.lists.proofs.Laws.{T-true, and-l, and-r, and-both, parts, same-truth}
+use Rattle.lists.proofs.Gathers.{every-of-map}
 use Rattle.masks.specs.Masks.{bit?, inside, mask-of}
 use Rattle.masks.proofs.Bits.{bit-and, bit-or, bit-alone, bit-past}
 
@@ -25,10 +26,10 @@ digit (suc zero) (suc zero) h k e = refl
 digit (suc zero) (suc (suc y)) h k e = absurd (omega arith)
 digit (suc (suc x)) y h k e = absurd (omega arith)
 
-bit-first : (a : ℕ) → bit? a 0 ≡ eqb (a % 2) 1
-bit-first a = ap (λ (n : ℕ). eqb (n % 2) 1) (div-one a)
+pub bit-lowest : (a : ℕ) → bit? a 0 ≡ eqb (a % 2) 1
+bit-lowest a = ap (λ (n : ℕ). eqb (n % 2) 1) (div-one a)
 
-bit-next : (a i : ℕ) → bit? a (suc i) ≡ bit? (a / 2) i
+pub bit-next : (a i : ℕ) → bit? a (suc i) ≡ bit? (a / 2) i
 bit-next a i =
     let e : suc i ≡ 1 + i = omega arith in
     ap (λ (n : ℕ). bit? a n) e ∙ sym (ap (λ (n : ℕ). eqb (n % 2) 1) (shr-shr a 1 i))
@@ -37,7 +38,7 @@ bits-within : (k a b : ℕ) → a ≤ k → b ≤ k → ((i : ℕ) → bit? a i 
 bits-within zero a b h g e = omega arith
 bits-within (suc k) a b h g e =
     let x : a / 2 ≡ b / 2 = bits-within k (a / 2) (b / 2) (omega arith) (omega arith) (λ i. sym (bit-next a i) ∙ e (suc i) ∙ bit-next b i) in
-    let y : a % 2 ≡ b % 2 = digit (a % 2) (b % 2) (mod-lt a (zero-lt-suc 1)) (mod-lt b (zero-lt-suc 1)) (sym (bit-first a) ∙ e 0 ∙ bit-first b) in
+    let y : a % 2 ≡ b % 2 = digit (a % 2) (b % 2) (mod-lt a (zero-lt-suc 1)) (mod-lt b (zero-lt-suc 1)) (sym (bit-lowest a) ∙ e 0 ∙ bit-lowest b) in
     omega arith
 
 pub bits-same : (a b : ℕ) → ((i : ℕ) → bit? a i ≡ bit? b i) → a ≡ b
@@ -54,12 +55,6 @@ bit-mask [] i = bit-none i
 bit-mask (j ∷ is) i = bit-or (2 ^ j) (mask-of is) i ∙ ap₂ _||_ (bit-alone j i) (bit-mask is i)
 
 -- ---- what it lies inside
-
-same-tests : (a b : Bool) → (T a → T b) → (T b → T a) → a ≡ b
-same-tests true true f g = refl
-same-tests true false f g = absurd (f tt)
-same-tests false true f g = absurd (g tt)
-same-tests false false f g = refl
 
 pub inside-bits : (m n i : ℕ) → T (inside m n) → (bit? m i && bit? n i) ≡ bit? m i
 inside-bits m n i t = sym (bit-and m n i) ∙ ap (λ (x : ℕ). bit? x i) (eqb→eq (bitAnd m n) m t)
@@ -83,14 +78,14 @@ or-of false b c e f = f
 
 pub inside-or : (a b n : ℕ) → inside (bitOr a b) n ≡ (inside a n && inside b n)
 inside-or a b n =
-    same-tests (inside (bitOr a b) n) (inside a n && inside b n)
+    same-truth (inside (bitOr a b) n) (inside a n && inside b n)
     (λ t.
     let f : (i : ℕ) → ((bit? a i || bit? b i) && bit? n i) ≡ (bit? a i || bit? b i) = λ i. rw (bit-or a b i) at (inside-bits (bitOr a b) n i t) in
     and-both (inside a n) (inside b n) (bits-inside a n (λ i. or-left (bit? a i) (bit? b i) (bit? n i) (f i))) (bits-inside b n (λ i. or-right (bit? a i) (bit? b i) (bit? n i) (f i))))
     (λ t. bits-inside (bitOr a b) n (λ i. rw (bit-or a b i) (or-of (bit? a i) (bit? b i) (bit? n i) (inside-bits a n i (and-l (inside a n) (inside b n) t)) (inside-bits b n i (and-r (inside a n) (inside b n) t)))))
 
 pub inside-alone : (i n : ℕ) → inside (2 ^ i) n ≡ bit? n i
-inside-alone i n = same-tests (inside (2 ^ i) n) (bit? n i) there back
+inside-alone i n = same-truth (inside (2 ^ i) n) (bit? n i) there back
   where
     there : T (inside (2 ^ i) n) → T (bit? n i)
     there t = and-r (eqb i i) (bit? n i) (rw (sym (ap (λ b. b && bit? n i) (bit-alone i i)) ∙ inside-bits (2 ^ i) n i t ∙ bit-alone i i) (eqb-refl i))
@@ -127,3 +122,6 @@ pub mask-append : (is js : List ℕ) → mask-of (is ++ js) ≡ bitOr (mask-of i
 unfolding mask-of
 mask-append [] js = sym (or-zero-l (mask-of js))
 mask-append (i ∷ is) js = ap (bitOr (2 ^ i)) (mask-append is js) ∙ sym (or-assoc (2 ^ i) (mask-of is) (mask-of js))
+
+pub inside-map : {A : Type 0} (f : A → ℕ) (n : ℕ) (xs : List A) → inside (mask-of (map f xs)) n ≡ every (λ x. bit? n (f x)) xs
+inside-map f n xs = inside-every (map f xs) n ∙ every-of-map (bit? n) f xs

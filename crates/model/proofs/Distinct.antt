@@ -1,5 +1,5 @@
 -- Columns that stand only once.
-use mathlib.Core.Path.{_≡_, refl, ap}
+use mathlib.Core.Path.{_≡_, refl, ap, sym, _∙_}
 use mathlib.Core.List.{List, [], _∷_, _++_, map}
 use mathlib.Core.Bool.{Bool, true, false, _&&_, _||_, not, cond}
 use Prim.Native.Nat.{ℕ, zero, suc, _+_, _≤_, _<_}
@@ -7,10 +7,11 @@ use native.Mathlib.Omega.{arith}
 use lib.ListN.{length}
 use lib.Dec.{T, eqb, eqb→eq, eqb-refl, not-T, T-not}
 use borrow.Author.Tests.{eqb-true, eqb-false, ne-eqb}
-use Rattle.lists.specs.Lists.{All, all-nil, all-cons, select, some?, gather, nth, count-from, distinct}
-use Rattle.lists.proofs.Laws.{all-select, and-both, or-l, or-r, or-cases, parts, some-before, T-false}
+use Rattle.lists.specs.Lists.{All, all-nil, all-cons, select, some?, gather, nth, count-from, distinct, every}
+use Rattle.lists.proofs.Laws.{all-select, and-both, or-l, or-r, or-cases, parts, some-before, T-false, and-l, and-r}
+use Rattle.lists.proofs.Gathers.{select-fewer}
 use Rattle.model.specs.Queries.{Schema, no-stream, Col, col, same-col, columns-of}
-use Rattle.model.specs.Checks.{has}
+use Rattle.model.specs.Checks.{has, within}
 use Rattle.model.proofs.Columns.{same-col→eq, same-col-refl, has-append, has-append-r}
 
 -- ---- tests that fail
@@ -166,3 +167,48 @@ pub count-distinct : (a n : ℕ) → T (distinct eqb (count-from a n))
 unfolding distinct count-from
 count-distinct a zero = tt
 count-distinct a (suc n) = and-both (not (some? (eqb a) (count-from (suc a) n))) _ (later a (suc a) n (omega arith)) (count-distinct (suc a) n)
+
+-- ---- columns that stand once each, all of them among others, are no more than those
+
+-- those that are not a given one
+abbrev others : Col → List Col → List Col
+others x ds = select (λ y. not (same-col x y)) ds
+
+others-fewer : (x : Col) (ds : List Col) → T (has ds x) → length (others x ds) < length ds
+unfolding select has some?
+others-fewer x [] t = absurd t
+others-fewer x (y ∷ ds) t = go (same-col x y) t (select-fewer (λ y. not (same-col x y)) ds) (λ u. others-fewer x ds u)
+  where
+    go : (b : Bool) → T (b || some? (same-col x) ds) → length (others x ds) ≤ length ds → (T (some? (same-col x) ds) → length (others x ds) < length ds) → length (cond (not b) (y ∷ others x ds) (others x ds)) < suc (length ds)
+    go true t h f = omega arith
+    go false t h f = let k = f t in omega arith
+
+others-has : (x c : Col) (ds : List Col) → same-col x c ≡ false → T (has ds c) → T (has (others x ds) c)
+unfolding select has some?
+others-has x c [] e t = absurd t
+others-has x c (y ∷ ds) e t = go (same-col c y) refl t (λ u. others-has x c ds e u)
+  where
+    kept : (b : Bool) → T (some? (same-col c) (others x ds)) → T (some? (same-col c) (cond b (y ∷ others x ds) (others x ds)))
+    kept true u = or-r (same-col c y) _ u
+    kept false u = u
+
+    go : (a : Bool) → same-col c y ≡ a → T (a || some? (same-col c) ds) → (T (some? (same-col c) ds) → T (some? (same-col c) (others x ds))) → T (some? (same-col c) (cond (not (same-col x y)) (y ∷ others x ds) (others x ds)))
+    go true f t k = let z : c ≡ y = same-col→eq c y (rw f tt) in let w : same-col x y ≡ false = ap (same-col x) (sym z) ∙ e in rw (w, f) tt
+    go false f t k = kept (not (same-col x y)) (k t)
+
+others-within : (x : Col) (cs ds : List Col) → T (not (some? (same-col x) cs)) → T (within cs ds) → T (within cs (others x ds))
+unfolding within every some?
+others-within x [] ds n t = tt
+others-within x (c ∷ cs) ds n t = go (same-col x c) refl n (λ m. others-within x cs ds m (and-r (has ds c) _ t))
+  where
+    go : (b : Bool) → same-col x c ≡ b → T (not (b || some? (same-col x) cs)) → (T (not (some? (same-col x) cs)) → T (every (has (others x ds)) cs)) → T (has (others x ds) c && every (has (others x ds)) cs)
+    go true e n k = absurd n
+    go false e n k = and-both (has (others x ds) c) _ (others-has x c ds e (and-l (has ds c) _ t)) (k n)
+
+pub once-few : (cs ds : List Col) → T (distinct same-col cs) → T (within cs ds) → length cs ≤ length ds
+unfolding distinct within every
+once-few [] ds t w = omega arith
+once-few (x ∷ cs) ds t w =
+    let a = others-fewer x ds (and-l (has ds x) _ w) in
+    let b = once-few cs (others x ds) (and-r (not (some? (same-col x) cs)) _ t) (others-within x cs ds (and-l (not (some? (same-col x) cs)) _ t) (and-r (has ds x) _ w)) in
+    omega arith

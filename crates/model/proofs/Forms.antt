@@ -8,6 +8,7 @@ use lib.Dec.{T, eqb, T-not}
 use lib.ListN.{length}
 use Rattle.lists.specs.Lists.{select, every, some?, empty?, gather, nth, distinct}
 use Rattle.lists.proofs.Laws.{and-both, and-l, or-l, or-r, or-cases, not-or-l, not-or-r, parts, All, all-nil, all-cons, all-head, all-tail, all-both, all-weaken, all-append, all-left, all-right, every-append, every-append-l, every-append-r, every-all, every-map, every-gather, every-weaken, gather-append, append-nil, same-list→eq}
+use Rattle.lists.proofs.Gathers.{select-append, every-append-same, gather-none}
 use Rattle.syntax.specs.Grammar.{Cond, test, all, any, neg, Entry}
 use Rattle.model.specs.Conditions.{true-of, map-cond}
 use Rattle.model.specs.Queries.{Schema, Col, figure, same-col, columns-of, Compare, Query, source, pick, keep, join, aggregate, sources, picks, header, Grant, Caller, Row, Table, Record}
@@ -16,7 +17,6 @@ use Rattle.model.specs.Grants.{fill-compare, fill, limits, limited, show
 use Rattle.model.specs.Checks.{has, within, cond-cols, timed, no-aggregate, side, linked, allowed}
 use Rattle.model.specs.Routes.{is-col, is-equality, equated, covers, Source, Numbered, present, picked-by, seen, single, columns, keeping, over-view}
 use Rattle.model.proofs.Asked.{Rows, with-rows, all-show, shown-by, left, joins-by, absent, open-to}
-use Rattle.model.proofs.Gathers.{select-append, every-append-same, gather-none}
 use Rattle.model.proofs.Columns.{has-within, has-append-l, has-append-r, within-trans, within-by, within-select, within-present}
 use Rattle.model.proofs.Distinct.{distinct-apart, gather-distinct}
 use Rattle.model.proofs.Rowwise.{Lone, Rowwise, rowwise-select, rowwise-kept, rowwise-pairs, rowwise-view}

@@ -6,6 +6,7 @@ use Prim.Native.Nat.{ℕ}
 use lib.Dec.{T, eqb, leb}
 use Rattle.lists.specs.Lists.{select, every, some?, empty?, gather, same-list, distinct}
 use Rattle.lists.proofs.Laws.{and-both, or-l, or-cases, parts, All, all-nil, all-cons, all-any, all-select, all-weaken, all-append, all-map, all-gather, gather-same, gather-append, append-nil, select-all, select-map, map-same, same-list→eq}
+use Rattle.lists.proofs.Gathers.{select-append, gather-ones, gather-gather, gather-map, map-gather, select-gather, gather-select, every-append-same, select-none}
 use Rattle.syntax.specs.Grammar.{Right, Cond, Fn}
 use Rattle.model.specs.Queries.{Schema, Col, figure, same-col, columns-of, Compare, Query, source, pick, keep, join, aggregate, sources, picks, header, Grant, Caller, Record}
 use Rattle.model.specs.Grants.{belongs, shown-of}
@@ -13,7 +14,6 @@ use Rattle.model.specs.Checks.{has, within, cond-cols, timed, no-aggrega
 use Rattle.model.specs.Routes.{reads, gives, is-equality, equated, covers, Source, Route, Numbered, numbered, opened, seen, single, alone, onto, beside, columns, keeping, over-view, readable, summing, summed, showing, ways, routes}
 use Rattle.model.proofs.Asked.{shown-by, left, grants-at, joins-by}
 use Rattle.model.proofs.RouteKinds.{asked-cols, equal-cols, side-picks, has-equality, numbers, for-each, first-kind, second-kind, third-kind, kinds}
-use Rattle.model.proofs.Gathers.{select-append, gather-ones, gather-gather, gather-map, map-gather, select-gather, gather-select, every-append-same}
 use Rattle.model.proofs.Columns.{same-col→eq, has-within, has-append-l, has-append-r, within-by, within-trans, within-both, within-select}
 use Rattle.model.proofs.Distinct.{distinct-l, distinct-r}
 use Rattle.model.proofs.Ways.{numbered-at, grants-append}
@@ -36,11 +36,6 @@ select-grants p t (all-cons {x} {xs} h hs) = go (p x) (t (x .grants)) h (select-
     go true false e i = absurd (subst T e tt)
     go false true e i = absurd (subst T (sym e) tt)
     go false false e i = i
-
-select-none : {A : Type 0} (xs : List A) → select (λ x. false) xs ≡ []
-unfolding select
-select-none [] = refl
-select-none (x ∷ xs) = select-none xs
 
 module _ {A B : Type 0} where
   -- a test made before, of all or none

@@ -8,6 +8,7 @@ use lib.Dec.{T, T-not}
 use lib.ListN.{length}
 use Rattle.lists.specs.Lists.{select, every, some?, empty?, gather, nth, count-from}
 use Rattle.lists.proofs.Laws.{and-both, and-l, or-l, or-r, or-cases, parts, All, all-nil, all-cons, all-weaken, gather-same, gather-append, append-nil, select-all, select-map}
+use Rattle.lists.proofs.Gathers.{gather-none, gather-map, map-gather}
 use Rattle.syntax.specs.Grammar.{le, ge, Cond}
 use Rattle.model.specs.Conditions.{tests}
 use Rattle.model.specs.Queries.{Schema, no-stream, Col, col, figure, same-col, columns-of, Compare, Query, source, pick, keep, join, aggregate, sources, picks, header, Grant, Caller, Row, Table, Record}
@@ -16,7 +17,6 @@ use Rattle.model.specs.Grants.{fill, limit, limits, whole, limited, show
 use Rattle.model.specs.Checks.{has, within, term-cols, cond-cols, no-aggregate, side, linked, allowed}
 use Rattle.model.specs.Routes.{Source, present, picked-by, single, columns}
 use Rattle.model.proofs.Asked.{Rows, with-rows, shown-by, joins-by, absent, open-to}
-use Rattle.model.proofs.Gathers.{gather-none, gather-map, map-gather}
 use Rattle.model.proofs.Columns.{same-col→eq, same-col-refl, has-within, has-append, has-append-l, has-append-r, within-by, within-trans, within-both}
 use Rattle.model.proofs.Distinct.{columns-distinct}
 use Rattle.model.proofs.Cuts.{holds-kept, kept-kept, kept-self, kept-both}

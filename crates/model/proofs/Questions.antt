@@ -7,6 +7,7 @@ use lib.Dec.{T, eqb, eqb→eq}
 use lib.ListN.{length, length-map}
 use Rattle.lists.specs.Lists.{select, every, some?, empty?, gather, nth, distinct}
 use Rattle.lists.proofs.Laws.{and-both, parts, All, all-head, all-any, all-select, all-weaken, all-map, all-gather, every-all, all-every, every-append-l, every-append-r, gather-same, select-map, map-same, select-every}
+use Rattle.lists.proofs.Gathers.{gather-map, map-gather, select-gather, gather-select, map-none}
 use Rattle.syntax.specs.Grammar.{Cond, Fn}
 use Rattle.model.specs.Queries.{Schema, Col, figure, same-col, columns-of, Compare, Query, source, pick, keep, join, aggregate, sources, picks, header, Grant, Caller, Row, Table, Record}
 use Rattle.model.specs.Meaning.{holds, picked, kept-row, kept, both, pairs, aggregated, meaning, table-of, plain}
@@ -15,7 +16,6 @@ use Rattle.model.specs.Checks.{has, within, cond-cols, no-aggregate, all
 use Rattle.model.specs.Routes.{equated, covers, Source, Route, Numbered, columns, over-view, readable, summing, summed, ways, routes}
 use Rattle.model.specs.Answers.{route-table}
 use Rattle.model.proofs.Asked.{Rows, one-each, with-rows, all-show, by-row, own, shown-by, left, grants-at, full, joins-by, open-to}
-use Rattle.model.proofs.Gathers.{gather-map, map-gather, select-gather, gather-select, map-none}
 use Rattle.model.proofs.Columns.{empty-nil, within-by}
 use Rattle.model.proofs.Distinct.{distinct-l, distinct-r, columns-distinct}
 use Rattle.model.proofs.Cuts.{kept-kept, kept-self, kept-both}
@@ -23,8 +23,9 @@ use Rattle.model.proofs.Ways.{has-over, by-form}
 use Rattle.model.proofs.Interference.{aggregated-kept, over-kept, over-summed}
 use Rattle.model.proofs.Widths.{aggregated-wide}
 use Rattle.model.proofs.Rowwise.{Each, each-lone, rowwise-plain}
-use Rattle.model.proofs.OneRow.{cut-pick, Fills, table, table-cols, plain-cols}
+use Rattle.model.proofs.OneRow.{Fills, table, table-cols, plain-cols}
 use Rattle.model.proofs.Forms.{Asks, asks-source, asks-pick, asks-keep, asks-join, asks-pair, side-free, heads-apart}
+use Rattle.model.proofs.Tables.{picked-kept}
 
 -- ---- records whose rows have a value for each column
 
@@ -174,15 +175,11 @@ module _ (x : Record) (who : Caller) where
   claim : (q : Query ℕ) (gs : List Grant) (r : Query Source) → T (no-aggregate q) → T (distinct eqb (sources q)) → T (full x (sources q)) → Asks x who q gs r → (T (no-aggregate q) → Asks x who q gs r) × Answers q gs r
   claim q gs r a u f h = (λ t. h, answers q gs r a u f h)
 
-  kept-picked : (c : Cond Compare) (ls : List Col) (t : Table) → T (within (cond-cols c) ls) → picked c (kept ls t) ≡ kept ls (picked c t)
-  unfolding picked kept
-  kept-picked c ls t w = λ i. record { cols = ls; rows = cut-pick (t .cols) ls c w true (t .rows) i }
-
   pick-answers : (c : Cond Compare) (q : Query ℕ) (gs : List Grant) (r : Query Source) → T (within (cond-cols c) (columns (x .schema) r)) → Answers q gs r → Answers (pick c q) gs (pick c r)
   unfolding columns header left meaning own plain open-to joins-by
   pick-answers c q gs r w (e, t, o) = (
     e,
-    ap (picked c) t ∙ kept-picked c (left (x .schema) gs q) (own x who gs q) (subst (λ ls. T (within (cond-cols c) ls)) e w),
+    ap (picked c) t ∙ picked-kept c (left (x .schema) gs q) (own x who gs q) (subst (λ ls. T (within (cond-cols c) ls)) e w),
     λ h. (o h .0, ap (picked c) (o h .1)),
   )
 

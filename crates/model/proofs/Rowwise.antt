@@ -1,19 +1,19 @@
 -- A query with no aggregate gives its rows row by row: they are those that it gives of one row of each of its streams, for all such rows in order.
 use mathlib.Core.Path.{_≡_, refl, sym, ap, ap₂, _∙_, subst}
 use mathlib.Core.List.{List, [], _∷_, _++_, map}
-use mathlib.Core.Bool.{Bool, true, false, not, cond}
+use mathlib.Core.Bool.{Bool, not}
 use Prim.Native.Nat.{ℕ, zero, suc, _≤_}
 use native.Mathlib.Omega.{arith}
 use lib.Dec.{T, eqb, eqb-refl, T-not}
 use lib.ListN.{length, length-map}
 use Rattle.lists.specs.Lists.{select, every, some?, gather, nth, distinct}
 use Rattle.lists.proofs.Laws.{not-or-l, not-or-r, parts, All, all-nil, all-cons, all-head, all-tail, all-any, all-both, all-weaken, all-left, all-right, all-gather, gather-same, append-nil}
+use Rattle.lists.proofs.Gathers.{gather-ones, gather-none, gather-gather, map-gather, select-gather, select-fewer}
 use Rattle.model.specs.Queries.{Col, Query, source, pick, keep, join, aggregate, sources, Grant, Caller, Row, Table, Record}
 use Rattle.model.specs.Meaning.{holds, picked, kept-row, kept, both, pairs, equality, meaning, table-of, plain}
 use Rattle.model.specs.Grants.{limits, whole, limited, shown-of, view}
 use Rattle.model.specs.Checks.{no-aggregate}
 use Rattle.model.proofs.Asked.{Rows, put, one-each, with-rows}
-use Rattle.model.proofs.Gathers.{gather-ones, gather-none, gather-gather, map-gather, select-gather}
 use Rattle.model.proofs.Distinct.{distinct-l, distinct-r}
 
 -- ---- rows put in
@@ -121,15 +121,6 @@ pub record Rowwise (ss : List ℕ) (F : Rows → Table) : Type 0 where
   -- one row of each stream gives one row or none
   pub few : (xs : Rows) → Lone (λ s r. Unit {0}) ss xs → length (F xs .rows) ≤ 1
   pub spread : (xs : Rows) → F xs .rows ≡ gather (λ ys. F ys .rows) (one-each ss xs)
-
-select-fewer : {A : Type 0} (p : A → Bool) (xs : List A) → length (select p xs) ≤ length xs
-unfolding select
-select-fewer p [] = omega arith
-select-fewer p (x ∷ xs) = go (p x) (select-fewer p xs)
-  where
-    go : (b : Bool) → length (select p xs) ≤ length xs → length (cond b (x ∷ select p xs) (select p xs)) ≤ suc (length xs)
-    go true h = omega arith
-    go false h = omega arith
 
 few-pairs : (ls rs : List Row) → length ls ≤ 1 → length rs ≤ 1 → length (gather (λ x. map (both x) rs) ls) ≤ 1
 unfolding gather

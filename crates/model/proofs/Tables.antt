@@ -5,13 +5,13 @@ use mathlib.Core.Bool.{true}
 use lib.Dec.{T}
 use Rattle.lists.specs.Lists.{select, every, distinct}
 use Rattle.lists.proofs.Laws.{all-select, all-weaken, map-same}
+use Rattle.lists.proofs.Gathers.{every-append-same}
 use Rattle.syntax.specs.Grammar.{Cond, all}
 use Rattle.model.specs.Conditions.{true-of, conds-of}
 use Rattle.model.specs.Queries.{Col, same-col, Compare, Row, Table}
 use Rattle.model.specs.Meaning.{holds, picked, kept-row, kept, pairs}
 use Rattle.model.specs.Grants.{limited}
 use Rattle.model.specs.Checks.{has, within, cond-cols}
-use Rattle.model.proofs.Gathers.{every-append-same}
 use Rattle.model.proofs.Cuts.{kept-kept, kept-self}
 use Rattle.model.proofs.Rewriting.{limited-all}
 use Rattle.model.proofs.Widths.{Wide}

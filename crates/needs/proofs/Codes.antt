@@ -1,7 +1,7 @@
 -- Columns and aggregates by the numbers of forms.
 use mathlib.Core.Path.{_≡_, refl, sym, ap, ap₂, _∙_}
-use mathlib.Core.List.{List, [], _∷_, _++_, map}
-use mathlib.Core.Bool.{Bool, true, false, _&&_, _||_, cond}
+use mathlib.Core.List.{List, [], _∷_, map}
+use mathlib.Core.Bool.{_&&_, _||_, cond, and-or-distrib-right}
 use Prim.Native.Nat.{ℕ, suc, _+_, _*_, _-_, _/_, _%_, _^_, _≤_, _<_}
 use native.Mathlib.Nat.{mod-eq-of-lt}
 use native.Mathlib.Decide.{decLt, ℕ-discrete}
@@ -11,6 +11,7 @@ use lib.Bits.{bitAnd, bitOr, and-mask}
 use lib.Dec.{leb, ltb, eqb, lit<}
 use borrow.Author.Tests.{eq-eqb, ne-eqb, lt-ltb, le-ltb, le-leb}
 use Rattle.lists.specs.Lists.{some?, gather}
+use Rattle.lists.proofs.Gathers.{some-append}
 use Rattle.syntax.specs.Grammar as G
 use Rattle.model.specs.Queries.{Col, col, figure}
 use Rattle.masks.specs.Masks.{bit?, inside, mask-of}
@@ -53,29 +54,14 @@ bit-all i = go (decLt i 24)
 
 -- ---- those of an order
 
-pub some-append : {A : Type 0} (p : A → Bool) (xs ys : List A) → some? p (xs ++ ys) ≡ (some? p xs || some? p ys)
-unfolding some?
-some-append p [] ys = refl
-some-append p (x ∷ xs) ys = go (p x) (some-append p xs ys)
-  where
-    go : (b : Bool) → some? p (xs ++ ys) ≡ (some? p xs || some? p ys) → (b || some? p (xs ++ ys)) ≡ ((b || some? p xs) || some? p ys)
-    go true e = refl
-    go false e = e
-
 low-codes : (cs : List ℕ) (i : ℕ) → (some? (λ j. eqb j i) cs && ltb i 24) ≡ some? (λ j. eqb j i) (gather col-codes (map coded-col cs))
 unfolding some? gather
 low-codes [] i = refl
 low-codes (c ∷ cs) i =
-    split (eqb c i) (some? (λ j. eqb j i) cs) (ltb i 24)
+    and-or-distrib-right (eqb c i) (some? (λ j. eqb j i) cs) (ltb i 24)
     ∙ ap₂ _||_ (one (decLt c 24) (ℕ-discrete c i)) (low-codes cs i)
     ∙ sym (some-append (λ j. eqb j i) (col-codes (coded-col c)) (gather col-codes (map coded-col cs)))
   where
-    split : (a b t : Bool) → ((a || b) && t) ≡ ((a && t) || (b && t))
-    split true b true = refl
-    split true true false = refl
-    split true false false = refl
-    split false b t = refl
-
     one : Dec (c < 24) → Dec (c ≡ i) → (eqb c i && ltb i 24) ≡ some? (λ j. eqb j i) (col-codes (coded-col c))
     one (yes h) (yes e) = rw (codes-of-col c, lt-ltb c 24 h, eq-eqb c i e, lt-ltb i 24 (omega arith))
     one (yes h) (no e) = rw (codes-of-col c, lt-ltb c 24 h, ne-eqb c i e)

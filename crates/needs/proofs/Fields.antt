@@ -1,7 +1,7 @@
 -- What a query asks, part by part, as the columns and streams that it names.
 use mathlib.Core.Path.{_≡_, refl, sym, ap, ap₂, _∙_, subst}
 use mathlib.Core.List.{List, [], _∷_, _++_, map}
-use mathlib.Core.Bool.{Bool, true, false, _&&_, _||_, not, cond}
+use mathlib.Core.Bool.{Bool, true, false, _&&_, _||_, not, cond, and-or-distrib-right, and-false}
 use Prim.Native.Nat.{ℕ, zero, suc, _+_, _*_, _-_, _/_, _%_, _^_, _≤_, _<_}
 use native.Mathlib.Decide.{decLt, ℕ-discrete}
 use native.Mathlib.Omega.{arith}
@@ -10,6 +10,7 @@ use lib.Dec.{T, leb, ltb, eqb, ltb→lt}
 use borrow.Author.Tests.{eq-eqb, ne-eqb, lt-ltb, le-ltb}
 use Rattle.lists.specs.Lists.{every, some?, empty?, gather, count-from}
 use Rattle.lists.proofs.Laws.{and-l, and-r, and-both, parts, T-true, T-false, append-nil, gather-append, every-append-l, every-append-r}
+use Rattle.lists.proofs.Gathers.{some-append}
 use Rattle.syntax.specs.Grammar.{Cond}
 use Rattle.model.specs.Conditions.{tests}
 use Rattle.model.specs.Queries.{Schema, Col, col, figure, columns-of, Term, column, time, number, self, Compare, Query, source, pick, keep, join, aggregate, sources, picks, header}
@@ -29,7 +30,7 @@ use Rattle.grant.proofs.Masked.{declared-stream}
 use Rattle.comparisons.specs.Compared.{col-codes, term-codes, compare-codes, named-by}
 use Rattle.needs.specs.declared.Needs.{Needs}
 use Rattle.needs.specs.Asking.{no-stream, all-columns, bits-of, code-bit, col-code, fn-code, rows-needs, pick-needs, keep-needs, join-needs, aggregate-needs, needs-of}
-use Rattle.needs.proofs.Codes.{some-append, bit-all}
+use Rattle.needs.proofs.Codes.{bit-all}
 
 -- ---- bits of columns
 
@@ -48,16 +49,6 @@ bit-one figure = refl
 
 -- ---- what conditions name
 
-and-none : (b : Bool) → (b && false) ≡ false
-and-none true = refl
-and-none false = refl
-
-split : (a b t : Bool) → ((a || b) && t) ≡ ((a && t) || (b && t))
-split true b true = refl
-split true true false = refl
-split true false false = refl
-split false b t = refl
-
 module _ (i : ℕ) where
   abbrev at : List ℕ → Bool
   at is = some? (λ j. eqb j i) is
@@ -74,7 +65,7 @@ module _ (i : ℕ) where
   term-low time = go (ℕ-discrete 24 i)
     where
       go : Dec (24 ≡ i) → ((eqb 24 i || false) && ltb i 24) ≡ false
-      go (yes e) = rw (le-ltb i 24 (omega arith)) (and-none (eqb 24 i || false))
+      go (yes e) = rw (le-ltb i 24 (omega arith)) (and-false (eqb 24 i || false))
       go (no e) = rw (ne-eqb 24 i e)
   term-low (number z) = refl
   term-low (self n) = refl
@@ -84,7 +75,7 @@ module _ (i : ℕ) where
   compares-low [] = unfold some? in refl
   compares-low (t ∷ ts) =
       ap (λ b. b && ltb i 24) (some-append (λ j. eqb j i) (compare-codes t) (gather compare-codes ts))
-      ∙ split (at (compare-codes t)) (at (gather compare-codes ts)) (ltb i 24)
+      ∙ and-or-distrib-right (at (compare-codes t)) (at (gather compare-codes ts)) (ltb i 24)
       ∙ ap₂ _||_ one (compares-low ts)
       ∙ sym (ap at (gather-append col-codes (term-cols (t .left) ++ term-cols (t .right)) (gather (λ t. term-cols (t .left) ++ term-cols (t .right)) ts))
       ∙ some-append (λ j. eqb j i) (gather col-codes (term-cols (t .left) ++ term-cols (t .right))) _)
@@ -93,7 +84,7 @@ module _ (i : ℕ) where
       one =
           unfold compare-codes in
           ap (λ b. b && ltb i 24) (some-append (λ j. eqb j i) (term-codes (t .left)) (term-codes (t .right)))
-          ∙ split (at (term-codes (t .left))) (at (term-codes (t .right))) (ltb i 24)
+          ∙ and-or-distrib-right (at (term-codes (t .left))) (at (term-codes (t .right))) (ltb i 24)
           ∙ ap₂ _||_ (term-low (t .left)) (term-low (t .right))
           ∙ sym (ap at (gather-append col-codes (term-cols (t .left)) (term-cols (t .right))) ∙ some-append (λ j. eqb j i) (gather col-codes (term-cols (t .left))) (gather col-codes (term-cols (t .right))))
 

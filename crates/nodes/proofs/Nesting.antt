@@ -1,7 +1,7 @@
 -- How deep conditions nest, found by walking back from the last node to the first: what is left to look at, inside the conditions around a node.
 use mathlib.Core.Path.{_≡_, refl, sym, ap, ap₂, _∙_}
 use mathlib.Core.List.{List, [], _∷_, _++_}
-use mathlib.Core.Bool.{Bool, true, false, _&&_, and-true}
+use mathlib.Core.Bool.{Bool, true, false, _&&_, and-true, and-false}
 use Prim.Native.Nat.{ℕ, zero, suc, _+_, _*_, _-_, _≤_, _<_}
 use native.Mathlib.Numerals.{add-one}
 use native.Mathlib.Decide.{decLt}
@@ -36,10 +36,6 @@ test-depth n cs c = ap cond-depth (headed-test n cs c)
 no-test : (n : Node) → 7 ≤ n .head → T (comparing n) → ⊥
 unfolding comparing
 no-test n h c = let l = leb→le (n .head) 6 (search parts) in omega arith
-
-and-false : (a : Bool) → (a && false) ≡ false
-and-false true = refl
-and-false false = refl
 
 -- one deeper than those inside
 deeper : (d : ℕ) (c : Cond Compare) (cs : List (Cond Compare)) → leb (d + suc (conds-depth (some-conds (c ∷ cs)))) max-nesting ≡ every (fits (suc d)) (c ∷ cs)

@@ -1,7 +1,7 @@
 -- Whether words may be lent, test by test, in the order of the code.
 use mathlib.Core.Path.{_≡_, refl, sym, ap, _∙_}
 use mathlib.Core.List.{List}
-use mathlib.Core.Bool.{Bool, true, false, _&&_, _||_, not}
+use mathlib.Core.Bool.{Bool, true, false, _&&_, not, or-false}
 use Prim.Native.Nat.{ℕ, zero, suc, _+_, _-_, _/_, _≤_, _<_}
 use native.Mathlib.Decide.{decLt}
 use native.Mathlib.Omega.{arith}
@@ -16,10 +16,6 @@ use Rattle.nodes.specs.declared.Node.{Node}
 use Rattle.nodes.specs.Nodes.{node-of, node-at, node-words, link, comparing, reaches, linked, in-mask, terms-sound, node-sound, conditions-of, all-sound, shallow-conds, nodes-sound}
 use Rattle.nodes.proofs.Puts.{words-some}
 use Rattle.nodes.proofs.Reaching.{link-falls, reaches-step, reaches-stop, reaches-fuel}
-
-pub or-false : (a : Bool) → (a || false) ≡ a
-or-false true = refl
-or-false false = refl
 
 -- ---- links
 

@@ -1,15 +1,30 @@
 -- A node's words read and stored, as the code does it.
 use mathlib.Core.Path.{_≡_, refl, sym, _∙_}
 use mathlib.Core.List.{List}
+use mathlib.Core.Bool.{Bool, true, false, cond}
 use Prim.Native.Nat.{ℕ, _+_, _*_, _-_, _/_, _%_, _≤_, _<_}
 use native.Mathlib.Omega.{arith}
 use lib.ListN.{length, getD, set, List·getD-eq-default}
+use lib.Dec.{eqb}
 use borrow.Author.Tests.{eq-eqb, ne-eqb, le-leb, lt-leb}
 use Rattle.nodes.specs.declared.Node.{Node}
 use Rattle.nodes.specs.Nodes.{no-node, node-of, node-words, value-at, node-at}
 use Rattle.nodes.specs.Storing.{head-word, put-value, put-node}
 
 -- ---- read
+
+-- a node has a value only where its right side asks for one
+pub value-zero : (ws : List ℕ) (k : ℕ) → (node-at ws k .right ≡ 26 → ⊥) → (node-at ws k .right ≡ 27 → ⊥) → node-at ws k .value ≡ 0
+unfolding node-at node-of value-at no-node
+value-zero ws k = go (eqb k 0)
+  where
+    w : ℕ
+    w = getD ws (k - 1) 0
+
+    go : (b : Bool) → (cond b no-node (node-of w (value-at ws k (w / 65536 % 256))) .right ≡ 26 → ⊥) → (cond b no-node (node-of w (value-at ws k (w / 65536 % 256))) .right ≡ 27 → ⊥)
+        → cond b no-node (node-of w (value-at ws k (w / 65536 % 256))) .value ≡ 0
+    go true f g = refl
+    go false f g = rw (ne-eqb (w / 65536 % 256) 26 f, ne-eqb (w / 65536 % 256) 27 g)
 
 pub node-parts : (w v : ℕ) → _≡_ {A = Node} (record { head = w % 256; left = w / 256 % 256; right = w / 65536 % 256; before = w / 16777216; value = v }) (node-of w v)
 unfolding node-of

@@ -1,9 +1,10 @@
 -- Lists of conditions that limit a table alike.
 use mathlib.Core.Path.{_≡_, refl, sym, ap, _∙_}
 use mathlib.Core.List.{List, [], _∷_, _++_}
-use mathlib.Core.Bool.{Bool, true, false, _&&_, cond}
-use Rattle.lists.specs.Lists.{select, every}
+use mathlib.Core.Bool.{cond, and-comm}
+use Rattle.lists.specs.Lists.{every}
 use Rattle.lists.proofs.Laws.{append-nil}
+use Rattle.lists.proofs.Gathers.{select-alike, every-append-same}
 use Rattle.syntax.specs.Grammar.{Cond, all}
 use Rattle.model.specs.Queries.{Compare, Query, Table}
 use Rattle.model.specs.Conditions.{conds-of}
@@ -15,32 +16,12 @@ use Rattle.model.proofs.Tables.{limited-limited, limited-more}
 abbrev pub Same : List (Cond Compare) → List (Cond Compare) → Type 0
 Same cs ds = (t : Table) → limited cs t ≡ limited ds t
 
-select-same : {A : Type 0} (p q : A → Bool) → ((x : A) → p x ≡ q x) → (xs : List A) → select p xs ≡ select q xs
-unfolding select
-select-same p q e [] = refl
-select-same p q e (x ∷ xs) = rw (e x, select-same p q e xs) refl
-
-and-comm : (a b : Bool) → (a && b) ≡ (b && a)
-and-comm true true = refl
-and-comm true false = refl
-and-comm false true = refl
-and-comm false false = refl
-
-and-assoc : (a b c : Bool) → ((a && b) && c) ≡ (a && (b && c))
-and-assoc true b c = refl
-and-assoc false b c = refl
-
-every-cat : {A : Type 0} (p : A → Bool) (xs ys : List A) → every p (xs ++ ys) ≡ (every p xs && every p ys)
-unfolding every
-every-cat p [] ys = refl
-every-cat p (x ∷ xs) ys = ap (λ b. p x && b) (every-cat p xs ys) ∙ sym (and-assoc (p x) (every p xs) (every p ys))
-
 pub same-swap : (cs ds : List (Cond Compare)) → Same (cs ++ ds) (ds ++ cs)
 unfolding limited
 same-swap cs ds t =
     ap (λ rs. record { cols = t .cols; rows = rs })
-    (select-same (λ r. every (holds (t .cols) r) (cs ++ ds)) (λ r. every (holds (t .cols) r) (ds ++ cs))
-    (λ r. every-cat (holds (t .cols) r) cs ds ∙ and-comm (every (holds (t .cols) r) cs) (every (holds (t .cols) r) ds) ∙ sym (every-cat (holds (t .cols) r) ds cs)) (t .rows))
+    (select-alike (λ r. every (holds (t .cols) r) (cs ++ ds)) (λ r. every (holds (t .cols) r) (ds ++ cs))
+    (λ r. every-append-same (holds (t .cols) r) cs ds ∙ and-comm (every (holds (t .cols) r) cs) (every (holds (t .cols) r) ds) ∙ sym (every-append-same (holds (t .cols) r) ds cs)) (t .rows))
 
 append-assoc : {A : Type 0} (xs ys zs : List A) → (xs ++ ys) ++ zs ≡ xs ++ (ys ++ zs)
 append-assoc [] ys zs = refl

@@ -22,6 +22,7 @@ use Rattle.model.proofs.Tables.{limited-more}
 use Rattle.model.proofs.Widths.{Wide}
 use Rattle.model.proofs.Flat.{upper, base, side-upper, side-base, plain-flat, plain-outer}
 use Rattle.model.proofs.Forms.{side-free}
+use Rattle.model.proofs.Distinct.{once-few}
 use Rattle.calls.specs.Names.{columns-named}
 use Rattle.schema.specs.Schemas.{streams-in, width-in, schema-of}
 use Rattle.schema.proofs.Lookups.{stream-columns, columns-past}
@@ -35,7 +36,7 @@ use Rattle.plan.specs.declared.Plan.{Plan}
 use Rattle.plan.specs.Plans.{no-view, view-of, view-limits, no-plan, stream-order, with-rows, with-pick, with-keep, with-join, with-aggregate, with-view, plan-step, plan-in, picks-in, right-conds, left-conds, inner-table, figure-table, planned, viewless, form-regular, regular, pick-count}
 use Rattle.plan.proofs.Steps.{step-rows, step-pick, step-keep, step-join, step-aggregate, step-view}
 use Rattle.plan.proofs.Tables.{Placed, result, result-plain, result-figures, inner-alone, left-of-alone, ended-plain, pick-result, right-same, keep-result, rows-result, view-result, join-result, aggregate-result, counted-on}
-use Rattle.plan.proofs.Headers.{distinct-few, stream-header, joined-header}
+use Rattle.plan.proofs.Headers.{stream-header, joined-header}
 
 -- ---- a form's kind
 
@@ -84,10 +85,18 @@ module _ (w : Words) (f : Form) (qs : List (Query ℕ)) where
   form-under h =
       rw (ne-eqb (f .kind) 0 (λ e. omega arith), ne-eqb (f .kind) 1 (λ e. omega arith), ne-eqb (f .kind) 2 (λ e. omega arith), ne-eqb (f .kind) 3 (λ e. omega arith), ne-eqb (f .kind) 4 (λ e. omega arith)) refl
 
-one-less : (qs : List (Query ℕ)) → 1 ≤ length qs → suc (length (inner qs)) ≡ length qs
+pub one-less : (qs : List (Query ℕ)) → 1 ≤ length qs → suc (length (inner qs)) ≡ length qs
 unfolding inner
 one-less [] h = omega arith
 one-less (q ∷ qs) h = refl
+
+pub picks-after : (f : Form) (fs : List Form) → pick-count fs ≤ pick-count (f ∷ fs)
+unfolding pick-count
+picks-after f fs = go (eqb (f .kind) 1)
+  where
+    go : (b : Bool) → pick-count fs ≤ cond b (suc (pick-count fs)) (pick-count fs)
+    go true = omega arith
+    go false = omega arith
 
 -- ---- what a plan says of the query in front
 
@@ -284,7 +293,7 @@ module _ (w : Words) (ns : List ℕ) where
   side-few (pick c q) u a k = side-few q u (search parts) k
   side-few (keep cs q) u a k =
       let r = side-few q u (search parts) (search parts) in
-      let l = distinct-few cs (header hs q) (search parts) (search parts) in
+      let l = once-few cs (header hs q) (search parts) (search parts) in
       omega arith
   side-few (join a b q r) u w k = absurd u
   side-few (aggregate f c size offset q) u a k = absurd u
@@ -480,18 +489,10 @@ module _ (w : Words) (ns : List ℕ) where
         (picks-as (λ u. omega arith)) (bare-under h)
         (says-under f qs (plan-in ns fs) (pick-count fs) (viewless fs) y (some-query (search parts)) (search parts))
 
-  fewer : (f : Form) (fs : List Form) → pick-count fs ≤ pick-count (f ∷ fs)
-  unfolding pick-count
-  fewer f fs = go (eqb (f .kind) 1)
-    where
-      go : (b : Bool) → pick-count fs ≤ cond b (suc (pick-count fs)) (pick-count fs)
-      go true = omega arith
-      go false = omega arith
-
   pub says : (fs : List Form) → T (regular w ns fs) → pick-count fs ≤ 12 → Says (queries-in w fs) (plan-in ns fs) (pick-count fs) (viewless fs)
   unfolding regular
   says [] t l = unfold queries-in plan-in pick-count viewless in says-none
-  says (f ∷ fs) t l = step f fs (kind-of f) (search parts) l (says fs (search parts) (omega (arith, fewer f fs)))
+  says (f ∷ fs) t l = step f fs (kind-of f) (search parts) l (says fs (search parts) (omega (arith, picks-after f fs)))
 
   -- ---- the meaning
 

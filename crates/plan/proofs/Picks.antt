@@ -14,6 +14,7 @@ use Rattle.rewrite.specs.declared.Granted.{Granted}
 use Rattle.rewrite.specs.Rewrites.{cut-form, seen-forms, cut-forms, side-picks, side-stream, side-rest, view-forms, joined-forms, pair-forms, sum-forms}
 use Rattle.plan.specs.Plans.{pick-count}
 use Rattle.plan.proofs.Rewriter.{stream-kind}
+use Rattle.plan.proofs.Meaning.{picks-after}
 
 -- ---- forms
 
@@ -41,14 +42,6 @@ unfolding pick-count
 picks-on f fs gs h = go (eqb (f .kind) 1)
   where
     go : (b : Bool) → cond b (suc (pick-count fs)) (pick-count fs) ≤ cond b (suc (pick-count gs)) (pick-count gs)
-    go true = omega arith
-    go false = omega arith
-
-picks-after : (f : Form) (fs : List Form) → pick-count fs ≤ pick-count (f ∷ fs)
-unfolding pick-count
-picks-after f fs = go (eqb (f .kind) 1)
-  where
-    go : (b : Bool) → pick-count fs ≤ cond b (suc (pick-count fs)) (pick-count fs)
     go true = omega arith
     go false = omega arith
 

@@ -25,7 +25,7 @@ use Rattle.query.proofs.Shapes.{form-rows, form-pick, form-keep, form-join, for
 use Rattle.plan.specs.declared.Plan.{Plan}
 use Rattle.plan.specs.Plans.{view-of, view-limits, no-plan, with-rows, with-pick, with-keep, with-join, with-aggregate, with-view, plan-step, plan-in, form-regular, regular, plan-streams}
 use Rattle.plan.proofs.Steps.{step-rows, step-pick, step-keep, step-join, step-aggregate, step-view}
-use Rattle.plan.proofs.Meaning.{Kind, k-rows, k-pick, k-keep, k-join, k-aggregate, k-under, kind-of, form-under, regular-pick, regular-keep, regular-join, regular-aggregate, regular-under}
+use Rattle.plan.proofs.Meaning.{Kind, k-rows, k-pick, k-keep, k-join, k-aggregate, k-under, kind-of, form-under, regular-pick, regular-keep, regular-join, regular-aggregate, regular-under, one-less}
 
 -- the OFFSET of a query's aggregate, 0 where it has none
 unfoldable pub query-offset : {S : Type 0} → Query S → ℕ
@@ -120,11 +120,6 @@ module _ (w : Words) (ns : List ℕ) where
   pub record Shaped (qs : List (Query ℕ)) (p : Plan) : Type 0 where
     pub top : 1 ≤ length qs → T (allowed hs (outer qs)) → Shape (outer qs) p
     pub behind : 2 ≤ length qs → T (side (outer (inner qs))) → T (allowed hs (outer (inner qs))) → T (side (outer qs)) → stream (outer (inner qs)) ≡ p .right
-
-  one-less : (qs : List (Query ℕ)) → 1 ≤ length qs → suc (length (inner qs)) ≡ length qs
-  unfolding inner
-  one-less [] h = omega arith
-  one-less (q ∷ qs) h = refl
 
   module _ (f : Form) (qs : List (Query ℕ)) (p : Plan) (y : Shaped qs p) where
     shaped-rows : Shaped (source (f .first) ∷ qs) (with-rows ns f p)

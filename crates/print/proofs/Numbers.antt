@@ -3,13 +3,13 @@ use mathlib.Core.Path.{_≡_, refl, sym, ap, _∙_}
 use mathlib.Core.List.{List, [], _∷_, _++_, append-assoc}
 use mathlib.Core.Bool.{Bool, true, false}
 use Prim.Native.Nat.{ℕ, zero, suc, _+_, _*_, _-_, _/_, _%_, _<_, _≤_, min}
-use native.Mathlib.Decide.{decLt}
 use native.Mathlib.Omega.{arith}
 use lib.Dec.{ltb}
 use lib.ListN.{length, length-append}
-use borrow.Author.Tests.{lt-ltb, le-ltb, le-leb, lt-leb}
+use borrow.Author.Tests.{lt-ltb, le-leb, lt-leb}
 use Rattle.lists.proofs.Laws.{append-nil}
 use Rattle.syntax.specs.Grammar.{Bytes, digits-from, put-nat, put-int}
+use Rattle.syntax.proofs.Lexical.{digits-high, digits-room}
 use Rattle.nodes.specs.Nodes.{unbiased}
 use Rattle.print.specs.Writing.{furthest, Put, byte-text, digits-in}
 use Rattle.print.proofs.Putting.{put-as, put-then, put-past}
@@ -24,20 +24,6 @@ digits-append (suc k) n bs cs = go (ltb n 10) (digits-append k (n / 10) ((48 + n
     go true i = refl
     go false i = i
 
-digits-room : (k l n : ℕ) (bs : Bytes) → n < k → n < l → digits-from k n bs ≡ digits-from l n bs
-unfolding digits-from
-digits-room zero l n bs h i = absurd (omega arith)
-digits-room (suc k) zero n bs h i = absurd (omega arith)
-digits-room (suc k) (suc l) n bs h i = go (decLt n 10) (λ j. digits-room k l (n / 10) ((48 + n % 10) ∷ bs) (omega arith) (omega arith))
-  where
-    go : Dec (n < 10) → ((n < 10 → ⊥) → digits-from k (n / 10) ((48 + n % 10) ∷ bs) ≡ digits-from l (n / 10) ((48 + n % 10) ∷ bs)) → digits-from (suc k) n bs ≡ digits-from (suc l) n bs
-    go (yes j) f = let e = lt-ltb n 10 j in rw (e, digits-from)
-    go (no j) f = let e = le-ltb n 10 (omega arith) in let g = f j in rw (e, digits-from) g
-
-digits-step : (k n : ℕ) (bs : Bytes) → 10 ≤ n → digits-from (suc k) n bs ≡ digits-from k (n / 10) ((48 + n % 10) ∷ bs)
-unfolding digits-from
-digits-step k n bs h = let e = le-ltb n 10 h in rw (e, digits-from)
-
 pub nat-one : (n : ℕ) (r : Bytes) → n < 10 → put-nat n r ≡ (48 + n) ∷ r
 unfolding put-nat digits-from
 nat-one n r h = let e = lt-ltb n 10 h in rw (e, digits-from)
@@ -45,7 +31,7 @@ nat-one n r h = let e = lt-ltb n 10 h in rw (e, digits-from)
 pub nat-more : (n : ℕ) (r : Bytes) → 10 ≤ n → put-nat n r ≡ put-nat (n / 10) ((48 + n % 10) ∷ r)
 unfolding put-nat
 nat-more n r h =
-    ap (λ w. w ++ r) (digits-step n n [] h ∙ digits-room n (suc (n / 10)) (n / 10) ((48 + n % 10) ∷ []) (omega arith) (omega arith) ∙ digits-append (suc (n / 10)) (n / 10) [] ((48 + n % 10) ∷ []))
+    ap (λ w. w ++ r) (digits-high n n [] h ∙ digits-room n (suc (n / 10)) (n / 10) ((48 + n % 10) ∷ []) (omega arith) (omega arith) ∙ digits-append (suc (n / 10)) (n / 10) [] ((48 + n % 10) ∷ []))
     ∙ append-assoc (digits-from (suc (n / 10)) (n / 10) []) ((48 + n % 10) ∷ []) r
 
 -- ---- how many digits

@@ -1,7 +1,7 @@
 -- The columns of a query's answer as the bits of a mask; the terms and columns of a form that stand among them.
 use mathlib.Core.Path.{_≡_, refl, sym, ap, ap₂, _∙_}
 use mathlib.Core.List.{List, [], _∷_, _++_, map, append-nil}
-use mathlib.Core.Bool.{Bool, true, false, _&&_, _||_, not, and-true}
+use mathlib.Core.Bool.{Bool, true, false, _&&_, _||_, not, and-true, or-false, or-true}
 use Prim.Native.Nat.{ℕ, _+_, _*_, _/_, _%_, _≤_, _<_, _^_}
 use native.Mathlib.Omega.{arith}
 use native.Mathlib.Decide.{decLt}
@@ -11,6 +11,7 @@ use lib.ListN.{length}
 use borrow.Author.Tests.{ne-eqb, eqb-true}
 use Rattle.lists.specs.Lists.{every, some?, gather}
 use Rattle.lists.proofs.Laws.{and-l, and-r, and-both, parts, true-T, T-true, and-four}
+use Rattle.lists.proofs.Gathers.{every-append-same, every-of-map, every-good}
 use Rattle.syntax.specs.Grammar as G
 use Rattle.syntax.specs.Grammar.{Bytes, Ref, Operand, Test, Cond, ref?}
 use Rattle.syntax.specs.Limits.{short-ref}
@@ -23,29 +24,19 @@ use Rattle.model.proofs.Conditions.{tests-map}
 use Rattle.calls.specs.Names.{col-of, is-self, term-of, column-of, operand-of, compare-of}
 use Rattle.calls.specs.Tables.{ref-declared}
 use Rattle.schema.specs.Schemas.{streams-in, schema-of, schema-sound}
-use Rattle.schema.proofs.Counted.{every-of-map}
 use Rattle.schema.proofs.Soundness.{width-most}
 use Rattle.masks.specs.Masks.{bit?, mask-of, inside}
 use Rattle.masks.proofs.Bits.{bit-or, bit-alone}
-use Rattle.masks.proofs.Lists.{inside-bits, inside-every}
+use Rattle.masks.proofs.Lists.{inside-bits, inside-every, inside-map}
 use Rattle.terms.specs.Terms.{ref-code, operand-code, left-code, right-code}
 use Rattle.terms.proofs.Resolving.{own?, fine, Stands, code-alone, code-entry, code-low, code-column}
 use Rattle.columns.proofs.ColumnBits.{operand-fine, listed-bit, bit-above, ref-bit}
 use Rattle.grant.specs.Grants.{column-codes, streams-mask}
-use Rattle.grant.proofs.Compared.{every-both-lists}
-use Rattle.grant_line.proofs.Folds.{every-pair, every-good, every-gathered}
+use Rattle.grant_line.proofs.Folds.{every-pair, every-gathered}
 use Rattle.grant_line.proofs.Known.{good-test, test-declared, test-fine}
 use Rattle.query_line.specs.Placing.{links}
 
 -- ---- tests
-
-or-false : (a : Bool) → (a || false) ≡ a
-or-false true = refl
-or-false false = refl
-
-or-true : (a : Bool) → (a || true) ≡ true
-or-true true = refl
-or-true false = refl
 
 untrue : (a : Bool) → (T a → ⊥) → a ≡ false
 untrue true f = absurd (f tt)
@@ -275,7 +266,7 @@ module _ (ns : List ℕ) (sound : T (schema-sound ns)) where
         let x = test-fine ns sound t h in
         let l = term-of d (t .left) in
         let r = operand-of d (t .right) in
-        ap (λ b. (pick-left l && pick-right r) && b) (every-both-lists (has cols) (term-cols l) (term-cols r))
+        ap (λ b. (pick-left l && pick-right r) && b) (every-append-same (has cols) (term-cols l) (term-cols r))
         ∙ and-four (pick-left l) (pick-right r) (every (has cols) (term-cols l)) (every (has cols) (term-cols r))
         ∙ ap₂ _&&_ (left-bit (t .left) (x .0)) (right-bit (t .right) (x .1))
 
@@ -288,13 +279,10 @@ module _ (ns : List ℕ) (sound : T (schema-sound ns)) where
         ∙ every-of-map (λ t. every (has cols) (term-cols (t .left) ++ term-cols (t .right))) (compare-of d) (tests c))
         ∙ every-pair (λ t. pick-left (term-of d (t .left)) && pick-right (operand-of d (t .right))) (λ t. every (has cols) (term-cols (term-of d (t .left)) ++ term-cols (operand-of d (t .right)))) (tests c))
 
-    inside-tests : (f : Test → ℕ) (n : ℕ) (ts : List Test) → inside (mask-of (map f ts)) n ≡ every (λ t. bit? n (f t)) ts
-    inside-tests f n ts = inside-every (map f ts) n ∙ every-of-map (bit? n) f ts
-
     pub pick-placed : (c : Cond Test) → T (every (λ t. good-test t && test-declared ns t) (tests c))
         → (pickable (map-cond (compare-of d) c) && within (cond-cols (map-cond (compare-of d) c)) cols)
         ≡ (inside (mask-of (map (left-code ns) (tests c))) (bitOr mask 16777216) && inside (mask-of (map (right-code ns) (tests c))) (bitOr mask 67108864))
     pick-placed c h =
         cond-placed c ∙ every-good placed-test bits-in (λ t. good-test t && test-declared ns t) test-placed (tests c) h
-        ∙ sym (ap₂ _&&_ (inside-tests (left-code ns) (bitOr mask 16777216) (tests c)) (inside-tests (right-code ns) (bitOr mask 67108864) (tests c))
+        ∙ sym (ap₂ _&&_ (inside-map (left-code ns) (bitOr mask 16777216) (tests c)) (inside-map (right-code ns) (bitOr mask 67108864) (tests c))
         ∙ every-pair (λ t. bit? (bitOr mask 16777216) (left-code ns t)) (λ t. bit? (bitOr mask 67108864) (right-code ns t)) (tests c))

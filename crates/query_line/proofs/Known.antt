@@ -1,7 +1,7 @@
 -- Checks 2 and 6 of a query by what is read of its forms, where nothing in it is above its bound.
 use mathlib.Core.Path.{_≡_, refl, sym, ap, ap₂, _∙_}
 use mathlib.Core.List.{List, [], _∷_, _++_, map, append-nil}
-use mathlib.Core.Bool.{Bool, true, false, _&&_, _||_, not, cond}
+use mathlib.Core.Bool.{Bool, true, false, _&&_, _||_, not, cond, or-false, and-true}
 use mathlib.Core.Option.{Option, none, some}
 use Prim.Native.Nat.{ℕ, suc, _+_, _*_, _-_, _≤_}
 use native.Mathlib.Omega.{arith}
@@ -9,7 +9,8 @@ use lib.IntN.{ℤ}
 use lib.Dec.{T, eqb, leb, ltb, le→leb, leb→le}
 use lib.ListN.{length}
 use Rattle.lists.specs.Lists.{every, some?, gather, distinct}
-use Rattle.lists.proofs.Laws.{and-l, and-r, and-both, parts, true-T, T-true, every-append, every-both}
+use Rattle.lists.proofs.Laws.{and-l, and-r, and-both, parts, true-T, T-true, every-append, every-both, not-both}
+use Rattle.lists.proofs.Gathers.{every-good}
 use Rattle.syntax.specs.Grammar as G
 use Rattle.syntax.specs.Grammar.{Bytes, Fn, Ref, Test, Cond, Form, name?, ref?, cond?, some-all, form?, test?, put-ref}
 use Rattle.syntax.specs.Limits.{short, short-ref, not-above, cond-depth, form-depth}
@@ -28,8 +29,7 @@ use Rattle.columns.proofs.Declared.{streams-unknown, columns-unknown, columns-f
 use Rattle.columns.proofs.Repeats.{entries, entries-room, repeats-once}
 use Rattle.conditions.specs.Seeing.{nodes-of, seen-of, deep-seen, test-unknown}
 use Rattle.nodes.specs.Storing.{size}
-use Rattle.grant.proofs.Compared.{every-both-lists}
-use Rattle.grant_line.proofs.Folds.{every-pair, every-gathered, every-good, some-good, some-not, not-both}
+use Rattle.grant_line.proofs.Folds.{every-pair, every-gathered, some-good, some-not}
 use Rattle.grant_line.proofs.Bounds.{test-bounded, conds-bounded}
 use Rattle.grant_line.proofs.Known.{good-test, test-declared, test-known, ref-known}
 use Rattle.query_read.specs.Parts as R
@@ -40,15 +40,12 @@ use Rattle.query_read.proofs.Answering.{conds-in}
 use Rattle.query_line.proofs.Parts.{streams-in, refs-in, keeps-in, spans-in, streams-are, refs-are, keeps-are, shallow-part}
 use Rattle.query_line.proofs.Bounds.{part-bounded, part-fine, span-bounded}
 
+or-not-both : (a b c : Bool) → ((a || not b) || not c) ≡ (a || not (b && c))
+or-not-both true b c = refl
+or-not-both false true c = refl
+or-not-both false false c = refl
+
 -- ---- tests
-
-and-true : (a : Bool) → (a && true) ≡ a
-and-true true = refl
-and-true false = refl
-
-or-false : (a : Bool) → (a || false) ≡ a
-or-false true = refl
-or-false false = refl
 
 third : (l s b : Bool) → T (l && (true && (s && ((b && true) && true)))) → T b
 third true true true t = tt
@@ -157,12 +154,7 @@ module _ (ns : List ℕ) (sound : T (schema-sound ns)) where
   parts-unknown (i ∷ is) r t =
       parts-unknown is (with-part ns r i) (and-r (sane i) _ t)
       ∙ ap (λ o. (r .unknown || o) || not (every (λ i. part-declared ns (i .part)) is)) (own-unknown (r .words) (i .around) (i .part) 0 (and-l (part-good (i .part)) _ (and-l (sane i) _ t)) (and-r (part-good (i .part)) _ (and-l (sane i) _ t)))
-      ∙ three (r .unknown) (part-declared ns (i .part)) (every (λ i. part-declared ns (i .part)) is)
-    where
-      three : (a b c : Bool) → ((a || not b) || not c) ≡ (a || not (b && c))
-      three true b c = refl
-      three false true c = refl
-      three false false c = refl
+      ∙ or-not-both (r .unknown) (part-declared ns (i .part)) (every (λ i. part-declared ns (i .part)) is)
 
   module _ (q : Form) (good : T (form? q)) (bounded : T (every (λ i. part-fine (i .around) (i .part)) (R.parts 0 q))) where
     pub all-sane : T (every sane (R.parts 0 q))
@@ -216,12 +208,7 @@ module _ (ns : List ℕ) (sound : T (schema-sound ns)) where
       parts-repeated is (with-part ns r i) (and-r (known i) _ t)
       ∙ ap (λ o. (r .repeated || o) || not (every (λ i. part-once (i .part)) is))
       (own-repeated (r .words) (i .around) (i .part) 0 (and-l (part-good (i .part)) _ a) (and-r (part-good (i .part)) _ a) (and-l (part-declared ns (i .part)) _ b) (and-r (part-declared ns (i .part)) _ b))
-      ∙ three (r .repeated) (part-once (i .part)) (every (λ i. part-once (i .part)) is)
-    where
-      three : (a b c : Bool) → ((a || not b) || not c) ≡ (a || not (b && c))
-      three true b c = refl
-      three false true c = refl
-      three false false c = refl
+      ∙ or-not-both (r .repeated) (part-once (i .part)) (every (λ i. part-once (i .part)) is)
 
   module _ (q : Form) (good : T (form? q)) (bounded : T (every (λ i. part-fine (i .around) (i .part)) (R.parts 0 q))) (declares : T (query-declared (schema-of ns) q)) (few : T (every (λ rs. leb (entries rs) 72) (form-keeps q))) where
     all-known : T (every known (R.parts 0 q))

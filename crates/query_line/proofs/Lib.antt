@@ -3,7 +3,6 @@ pub mod Bounds
 pub mod Known
 pub mod Steps
 pub mod Headers
-pub mod Widths
 pub mod Running
 pub mod Standing
 pub mod Meaning

@@ -10,7 +10,8 @@ use lib.Dec.{T, eqb, ltb, leb, lt→ltb}
 use lib.ListN.{length, getD, take, set, length-map}
 use borrow.Author.Tests.{lt-ltb}
 use Rattle.lists.specs.Lists.{every, gather, distinct}
-use Rattle.lists.proofs.Laws.{and-l, and-r, and-both, parts, true-T, T-true, every-both, every-all, every-append-l, every-append-r, every-map, all-weaken, append-nil}
+use Rattle.lists.proofs.Laws.{and-l, and-r, and-both, parts, true-T, T-true, every-both, every-all, every-append-l, every-append-r, every-map, all-weaken, append-nil, never}
+use Rattle.lists.proofs.Gathers.{every-of-map}
 use Rattle.syntax.specs.Grammar as G
 use Rattle.syntax.specs.Grammar.{Bytes, Fn, Ref, Test, Cond, Form, Entry, cond?}
 use Rattle.syntax.specs.Limits.{not-above, natural}
@@ -19,9 +20,9 @@ use Rattle.model.proofs.Conditions.{tests-map, cond-same}
 use Rattle.model.specs.Queries as M
 use Rattle.model.specs.Queries.{Schema, Col, same-col, columns-of, sources, header}
 use Rattle.model.specs.Checks.{has, within, pick-left, pick-right, pickable, cond-cols, no-aggregate, side, linked, allowed, keeps}
+use Rattle.model.proofs.Distinct.{once-few}
 use Rattle.calls.specs.Names.{term-of, column-of, operand-of, compare-of, stream-number, resolve, form-conds}
 use Rattle.schema.specs.Schemas.{streams-in, schema-of, schema-sound}
-use Rattle.schema.proofs.Counted.{every-of-map}
 use Rattle.masks.specs.Masks.{bit?}
 use Rattle.orders.specs.Orders.{codes-in, order-of}
 use Rattle.orders.proofs.Codes.{codes-of, codes-fit}
@@ -57,12 +58,8 @@ use Rattle.query_read.proofs.Answering as A
 use Rattle.query_line.specs.Placing.{begun}
 use Rattle.query_line.proofs.Known.{part-good}
 use Rattle.query_line.proofs.Headers.{Shows, ref-cases, nowhere}
-use Rattle.query_line.proofs.Widths.{once-few}
 use Rattle.query_line.proofs.Running.{Full, full-then, nothing-full, nothing-counted, count-then, run-parts}
 use Rattle.query_line.proofs.Standing.{both-left, both-right, side-plain, known, known-rows, known-pick, known-keep, known-join, known-aggregate, span-natural, Fits, Runs, runs}
-
-never : {X : Type 0} → _≡_ {A = Bool} true false → X
-never e = absurd (let q : _≡_ {A = ℕ} 0 1 = cc in omega arith)
 
 false-T : (a : Bool) → a ≡ false → T a → ⊥
 false-T true e t = never e

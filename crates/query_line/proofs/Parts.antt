@@ -1,7 +1,7 @@
 -- What a query's parts hold, all together, is what its form holds.
 use mathlib.Core.Path.{_≡_, refl, sym, ap, ap₂, _∙_}
 use mathlib.Core.List.{List, [], _∷_, _++_, append-nil}
-use mathlib.Core.Bool.{Bool, true, false, _&&_, _||_, not}
+use mathlib.Core.Bool.{Bool, true, false, _&&_, _||_, not, and-true}
 use Prim.Native.Nat.{ℕ, suc, _+_, _-_, _≤_, _<_, max}
 use native.Mathlib.Omega.{arith}
 use lib.IntN.{ℤ}
@@ -10,12 +10,12 @@ use lib.ListN.{length, length-append}
 use borrow.Author.Tests.{le-leb, lt-leb, le-ltb, lt-ltb, leb-true, leb-false}
 use Rattle.lists.specs.Lists.{every, gather}
 use Rattle.lists.proofs.Laws.{gather-append}
+use Rattle.lists.proofs.Gathers.{every-append-same}
 use Rattle.syntax.specs.Grammar as G
 use Rattle.syntax.specs.Grammar.{Bytes, Ref, Fn, Test, Cond, Form, Span}
 use Rattle.syntax.specs.Limits.{cond-depth, conds-depth, form-depth}
 use Rattle.calls.specs.Names.{cond-refs, form-streams, form-refs, form-conds, form-keeps, form-spans}
 use Rattle.calls.specs.Bounds.{form-count}
-use Rattle.grant.proofs.Compared.{every-both-lists}
 use Rattle.query_read.specs.Parts.{Part, rows, pick, keep, join, aggregate, Inner, inner, parts}
 use Rattle.query_read.proofs.Answering.{conds-in}
 
@@ -113,10 +113,6 @@ depth-some (G.all cs) = omega arith
 depth-some (G.any cs) = omega arith
 depth-some (G.neg c) = omega arith
 
-and-true : (a : Bool) → (a && true) ≡ a
-and-true true = refl
-and-true false = refl
-
 form-some : (q : Form) → 1 ≤ form-depth q
 unfolding form-depth
 form-some (G.rows s) = omega arith
@@ -159,7 +155,7 @@ depth-is n (G.keep rs q) = ap (λ b. ltb n 8 && b) (depth-is (suc n) q) ∙ one-
 depth-is n (G.join a b q r) =
     let k = form-some q in
     ap (λ b. ltb n 8 && b)
-    (every-both-lists (λ i. shallow-part (i .around) (i .part)) (parts (suc n) q) (parts (suc n) r) ∙ ap₂ _&&_ (depth-is (suc n) q) (depth-is (suc n) r)
+    (every-append-same (λ i. shallow-part (i .around) (i .part)) (parts (suc n) q) (parts (suc n) r) ∙ ap₂ _&&_ (depth-is (suc n) q) (depth-is (suc n) r)
     ∙ both-leb (suc n + form-depth q) 8 (suc n + form-depth r) 8 (suc n + max (form-depth q) (form-depth r)) 8 (λ h. (omega arith, omega arith)) (λ h i. omega arith))
     ∙ one-deeper n (max (form-depth q) (form-depth r)) (omega arith)
 depth-is n (G.aggregate f c z w q) = ap (λ b. ltb n 8 && b) (depth-is (suc n) q) ∙ one-deeper n (form-depth q) (form-some q)

@@ -11,7 +11,7 @@ use lib.ListN.{length, length-append}
 use borrow.Author.Tests.{lt-ltb}
 use Rattle.lists.specs.Lists.{every, some?, distinct}
 use Rattle.lists.proofs.Counting.{map-length}
-use Rattle.lists.proofs.Laws.{and-l, and-r, and-both, parts, true-T, T-true, every-both, every-append, every-append-l, every-append-r}
+use Rattle.lists.proofs.Laws.{and-l, and-r, and-both, parts, true-T, T-true, every-both, every-append, every-append-l, every-append-r, never}
 use Rattle.syntax.specs.Grammar as G
 use Rattle.syntax.specs.Grammar.{Bytes, Fn, Ref, Test, Cond, Form, name?, ref?, cond?}
 use Rattle.syntax.specs.Limits.{short, short-ref, not-above, natural, cond-depth}
@@ -19,6 +19,7 @@ use Rattle.model.specs.Conditions.{tests, map-cond}
 use Rattle.model.specs.Queries as M
 use Rattle.model.specs.Queries.{Schema, Col, same-col, columns-of, sources, header}
 use Rattle.model.specs.Checks.{within, has, pickable, cond-cols, no-aggregate, side, linked, allowed, placed, fitting, sized, keeps}
+use Rattle.model.proofs.Distinct.{once-few}
 use Rattle.calls.specs.Names.{operand-refs, cond-refs, stream-number, column-of, compare-of, resolve}
 use Rattle.calls.specs.Bounds.{cond-bounded}
 use Rattle.calls.specs.Tables.{declared, ref-declared}
@@ -49,13 +50,16 @@ use Rattle.query_line.proofs.Parts.{streams-in as streams-held, refs-in
 use Rattle.query_line.proofs.Bounds.{part-bounded, part-fine}
 use Rattle.query_line.proofs.Known.{part-good, part-declared, conds-good, pick-bounded, join-bounded, aggregate-bounded, spans-bounded, declared-tests}
 use Rattle.query_line.proofs.Headers.{Shows, rows-shown, rows-plain, join-shown, join-plain, aggregate-shown, inside-within, keep-shown, keep-plain, links-linked, pick-placed}
-use Rattle.query_line.proofs.Widths.{once-few}
 use Rattle.query_line.proofs.Running.{place-part, run-parts, run-append}
 
--- ---- tests
+or-not-either : (a b c : Bool) → ((a || not c) || not b) ≡ (a || not (b && c))
+or-not-either true b c = refl
+or-not-either false true true = refl
+or-not-either false true false = refl
+or-not-either false false true = refl
+or-not-either false false false = refl
 
-never : {X : Type 0} → _≡_ {A = Bool} true false → X
-never e = absurd (let q : _≡_ {A = ℕ} 0 1 = cc in omega arith)
+-- ---- tests
 
 not-back : (a : Bool) → not (not a) ≡ a
 not-back true = refl
@@ -277,19 +281,12 @@ module _ (ns : List ℕ) (sound : T (schema-sound ns)) where
         misplaced = ap (λ m. m || ungrouped (x .top) (ref-code ns c)) (r .misplaced)
             ∙ one-more (p .misplaced) (allowed (columns-of d) q) (no-aggregate q && has (header (columns-of d) q) (column-of d c)) (clash (p .seen) (sources q)) _
             (λ e. ap not (ap₂ (λ a b. not a && b) (r .fits e .grouped) (sym (r .fits e .shows .shown c t)) ∙ ap (λ a. a && has (header (columns-of d) q) (column-of d c)) (not-back (no-aggregate q))));
-        window = ap (λ m. m || unfitting size offset) (r .window) ∙ three (p .window) (fitting size offset) (sized q);
+        window = ap (λ m. m || unfitting size offset) (r .window) ∙ or-not-either (p .window) (fitting size offset) (sized q);
         fits = λ e. record { shows = aggregate-shown ns sound; plain = λ z. never (sym z); grouped = refl; unsided = or-all (x .top .joined); width = λ u. (omega arith, λ z. never (sym z)) };
         under = λ z. never (sym z);
         small = r .small;
       }
     where
-      three : (a b c : Bool) → ((a || not c) || not b) ≡ (a || not (b && c))
-      three true b c = refl
-      three false true true = refl
-      three false true false = refl
-      three false false true = refl
-      three false false false = refl
-
       or-all : (a : Bool) → (a || true) ≡ true
       or-all true = refl
       or-all false = refl
@@ -322,19 +319,12 @@ module _ (ns : List ℕ) (sound : T (schema-sound ns)) where
           misplaced = ap (λ m. m || unjoined (x .top) (x .under) (ref-code ns a) (ref-code ns b)) (left .misplaced ∙ ap₂ (λ m n. m || (not (allowed (columns-of d) q) || clash n (sources q))) (right .misplaced) (right .seen))
               ∙ two-more (p .misplaced) (allowed (columns-of d) r) (allowed (columns-of d) q) joined (clash (p .seen) (sources r)) (clash (seen-after (p .seen) (sources r)) (sources q)) _ joins
               ∙ ap (λ w. p .misplaced || (not ((joined && allowed (columns-of d) q) && allowed (columns-of d) r) || w)) (sym (clash-append (p .seen) (sources q) (sources r)));
-          window = left .window ∙ ap (λ w. w || not (sized q)) (right .window) ∙ swap (p .window) (sized q) (sized r);
+          window = left .window ∙ ap (λ w. w || not (sized q)) (right .window) ∙ or-not-either (p .window) (sized q) (sized r);
           fits = λ e. fitted e;
           under = λ z. never (sym z);
           small = every-append (λ s. ltb s 32) (sources q) (sources r) (left .small) (right .small);
         }
       where
-        swap : (w a b : Bool) → ((w || not b) || not a) ≡ (w || not (a && b))
-        swap true a b = refl
-        swap false true true = refl
-        swap false true false = refl
-        swap false false true = refl
-        swap false false false = refl
-
         fitted : ((joined && allowed (columns-of d) q) && allowed (columns-of d) r) ≡ true → Fits (M.join (column-of d a) (column-of d b) q r) (record { mask = bitOr (x .top .mask) (x .under .mask); joined = true; grouped = false })
         fitted e =
             let f = both-right (joined && allowed (columns-of d) q) _ e in

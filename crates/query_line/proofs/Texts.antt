@@ -12,7 +12,7 @@ use borrow.Author.Tests.{le-leb, lt-leb, le-ltb, lt-ltb, not-true, not-false, lt
 use Rattle.refusal.specs.Checks.{Check, refuse, first, table, unread}
 use Rattle.refusal.specs.declared.Refusal.the-variants.{Bound, Malformed}
 use Rattle.lists.specs.Lists.{empty?}
-use Rattle.lists.proofs.Laws.{T-true, true-T}
+use Rattle.lists.proofs.Laws.{T-true, true-T, never}
 use Rattle.syntax.specs.Grammar as G
 use Rattle.syntax.specs.Grammar.{Bytes, Form, RouteLine, Entry}
 use Rattle.syntax.specs.Limits.{form-depth, shallow}
@@ -39,9 +39,6 @@ use Rattle.query_line.specs.declared.Asked.{Asked}
 use Rattle.query_line.specs.declared.Routed.{Routed}
 use Rattle.query_line.specs.Asking.{form-checks, Tells, Asks, Means}
 use Rattle.query_line.specs.Texts.{unread-asked, unread-routed, routed-of, Told, QueryTold, AskTold, RouteTold}
-
-never : {X : Type 0} → _≡_ {A = Bool} true false → X
-never e = absurd (let q : _≡_ {A = ℕ} 0 1 = cc in omega arith)
 
 some-not : {A X : Type 0} {a : A} → _≡_ {A = Option A} (some a) none → X
 some-not {a} e = absurd (Option·none-ne-some a (sym e))

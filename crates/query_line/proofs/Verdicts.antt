@@ -12,7 +12,7 @@ use Rattle.refusal.specs.Checks.{Check, refuse, first, table, shown}
 use Rattle.refusal.specs.declared.Refusal.{Refusal}
 use Rattle.refusal.specs.declared.Refusal.the-variants.{Bound, Undeclared, Repeated, Misplaced, WindowSize}
 use Rattle.lists.specs.Lists.{every, distinct}
-use Rattle.lists.proofs.Laws.{and-both, true-T, T-true, every-both}
+use Rattle.lists.proofs.Laws.{and-both, true-T, T-true, every-both, never, by-test}
 use Rattle.syntax.specs.Grammar.{Bytes, Form, Entry, form?, put-form}
 use Rattle.syntax.specs.Limits.{form-depth}
 use Rattle.syntax.specs.Readers.{Read}
@@ -52,13 +52,6 @@ use Rattle.query_line.proofs.Running.{run-parts, placing-is, nothing-fu
 use Rattle.query_line.proofs.Standing.{known, misplaced-is, window-is, both-left, both-right}
 use Rattle.query_line.proofs.Linking.{all-numbered, all-laid}
 use Rattle.query_line.proofs.Meaning.{forms-run, forms-are, nothing-formed, parts-words, Agrees, Lays, lays}
-
-never : {X : Type 0} → _≡_ {A = Bool} true false → X
-never e = absurd (let q : _≡_ {A = ℕ} 0 1 = cc in omega arith)
-
-by-test : {X : Type 0} (t : Bool) → (t ≡ true → X) → (t ≡ false → X) → X
-by-test true f g = f refl
-by-test false f g = g refl
 
 -- ---- tables of checks
 

@@ -9,7 +9,7 @@ use lib.Dec.{eqb, leb, ltb}
 use lib.ListN.{length, drop, getD, set, replicate, length-drop, length-set, length-replicate, drop-of-length-le}
 use borrow.Author.Tests.{le-leb, lt-leb, le-ltb, lt-ltb, not-true, not-false}
 use Rattle.lists.specs.Lists.{gather}
-use Rattle.lists.proofs.Laws.{gather-append}
+use Rattle.lists.proofs.Laws.{gather-append, never, by-test, or-first, or-last}
 use Rattle.syntax.specs.Grammar as G
 use Rattle.syntax.specs.Grammar.{Bytes, Form, Test, Cond}
 use Rattle.syntax.specs.Limits.{cond-depth}
@@ -30,21 +30,6 @@ use Rattle.query_read.specs.Parts.{Part, rows, pick, keep, join, aggrega
 use Rattle.query_read.specs.Seeing.{level, no-own, rows-own, pick-own, keep-own, join-own, aggregate-own, picked, own-of, own-read, own-at, part-stored, own-stored, put-at, with-own, with-part, with-parts, no-reading, reading-ended, form-read, form-stored, readable, FormRead}
 use Rattle.query_read.specs.Steps.{OwnRead, after-form}
 use Rattle.query_read.proofs.Walking.{ahead, rest, within, then-own, within-own, cost, own-leaves, own-cost, After, after-law}
-
-never : {X : Type 0} → _≡_ {A = Bool} true false → X
-never e = absurd (let q : _≡_ {A = ℕ} 0 1 = cc in omega arith)
-
-by-test : {X : Type 0} (t : Bool) → (t ≡ true → X) → (t ≡ false → X) → X
-by-test true f g = f refl
-by-test false f g = g refl
-
-or-left : (a b : Bool) → (a || b) ≡ false → a ≡ false
-or-left true b e = never e
-or-left false b e = refl
-
-or-right : (a b : Bool) → (a || b) ≡ false → b ≡ false
-or-right true b e = never e
-or-right false b e = e
 
 -- ---- the answer by what is read so far and what is read on
 
@@ -132,8 +117,8 @@ module _ (ns : List ℕ) where
   pub over-before : (r : Reading) (i : Inner) → with-part ns r i .over ≡ false → (r .over ≡ false) × (own-of ns (r .words) (i .around) (i .part) 0 .over ≡ false)
   unfolding with-part with-own
   over-before r i e =
-      let a = or-right (r .over) _ e in
-      (or-left (r .over) _ e, or-left (own-of ns (r .words) (i .around) (i .part) 0 .over) _ a)
+      let a = or-last (r .over) _ e in
+      (or-first (r .over) _ e, or-first (own-of ns (r .words) (i .around) (i .part) 0 .over) _ a)
 
   pub over-first : (is : List Inner) (r : Reading) → with-parts ns r is .over ≡ false → r .over ≡ false
   unfolding with-parts
@@ -366,7 +351,7 @@ module _ (ns : List ℕ) (s : Bytes) (at : ℕ) (ws₀ ws : List ℕ) (second : 
           own-some ns s (r .words) nest p q ok (λ x e a c l t.
           f x (within-some (stack second nest) (drop p s) (drop (o .next) s) x e) a c l
           (w ∙ ap (with-own r) a ∙ placeless ns r (r .words) nest x (o .next) ∙ ap (λ m. with-own r (own-of ns (r .words) m x 0)) (sym (stack-length second nest)))
-          (λ u. let y : (r .over || (o .over || leb 12 (r .count))) ≡ false = sym (ap (λ g. g .over) w) ∙ u in (or-left (r .over) _ y, t (or-left (o .over) _ (or-right (r .over) _ y)))))
+          (λ u. let y : (r .over || (o .over || leb 12 (r .count))) ≡ false = sym (ap (λ g. g .over) w) ∙ u in (or-first (r .over) _ y, t (or-first (o .over) _ (or-last (r .over) _ y)))))
 
       few : (x : Part) → o ≡ own-of ns (r .words) nest x (o .next) → p + cost ns x ≤ o .next → 5 * v .words ≤ o .next
       unfolding with-own

@@ -1,6 +1,6 @@
 -- The ends of the functions that make what is read of one form and of all, and of those that keep numbers.
 use mathlib.Core.Path.{_≡_, refl, sym, ap, _∙_}
-use mathlib.Core.Bool.{Bool, true, false, _||_, not, cond}
+use mathlib.Core.Bool.{Bool, true, false, _||_, not, cond, or-false}
 use Prim.Native.Nat.{ℕ, suc, _+_, _-_, _≤_, _<_, min}
 use native.Mathlib.Omega.{arith}
 use lib.IntN.{ℤ, pos, negsuc, natAbs}
@@ -11,7 +11,7 @@ use mir.Syntax.{w32, w64}
 use mir.Val.{Fits, SFits, toZ, ofZ}
 use mir.ValLaws.{toZ-ofZ}
 use borrow.Author.Needs.{sfits-of}
-use borrow.Author.Tests.{ne-eqb, le-leb, lt-leb, le-ltb, lt-ltb, ltb-true, ltb-false}
+use borrow.Author.Tests.{le-leb, lt-leb, le-ltb, lt-ltb, ltb-true, ltb-false}
 use Rattle.lists.proofs.Laws.{true-T}
 use Rattle.syntax.specs.Limits.{not-above, natural}
 use Rattle.text.specs.Words.{far, clamp}
@@ -93,16 +93,6 @@ span-is z {t} e d = e ∙ rw (d, clamp-above z) (go (not-above z) refl)
     go true f = rw (natural-clamp z (true-T (not-above z) f))
     go false f = refl
 
--- ---- terms that are not declared
-
-pub undeclared-left : (l r : ℕ) → l ≡ 28 → true ≡ (eqb l 28 || eqb r 28)
-undeclared-left l r e = rw e
-
-pub undeclared-right : (l r : ℕ) → (l ≡ 28 → ⊥) → eqb r 28 ≡ (eqb l 28 || eqb r 28)
-undeclared-right l r x = rw (ne-eqb l 28 x)
-
-pub ruleset undeclared-ends = (undeclared-left, undeclared-right)
-
 -- ---- one form
 
 pub rows-made : (b n place next : ℕ) (long : Bool) {d o : Bool} → d ≡ deep n → o ≡ (d || long)
@@ -142,10 +132,6 @@ over-all true b = refl
 over-all false true = refl
 over-all false false = refl
 
-over-none : (b : Bool) → (b || false) ≡ b
-over-none true = refl
-over-none false = refl
-
 module _ (r : Reading) (o : Own) {u t : Bool} (f : u ≡ (r .unknown || o .unknown)) (g : t ≡ (r .repeated || o .repeated)) where
   pub own-full : 12 ≤ r .count → r .count ≤ 12
       → record { ok = r .ok; next = r .next; over = true; unknown = u; repeated = t; words = o .words; count = r .count; forms = r .forms; lefts = r .lefts; rights = r .rights } ≡ with-own r o
@@ -159,7 +145,7 @@ module _ (r : Reading) (o : Own) {u t : Bool} (f : u ≡ (r .unknown || o .unkno
   unfolding with-own put-at
   own-room e h =
       let z : min (suc (r .count)) 12 ≡ r .count + 1 = omega arith in
-      rw (e, f, g, z, lt-leb 12 (r .count) h, over-none (o .over), lt-ltb (r .count) 12 h)
+      rw (e, f, g, z, lt-leb 12 (r .count) h, or-false (o .over), lt-ltb (r .count) 12 h)
 
 pub ruleset with-ends = (own-full, own-room)
 

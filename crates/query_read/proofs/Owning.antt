@@ -12,6 +12,7 @@ use mir.Syntax.{w64}
 use mir.Val.{Fits}
 use borrow.Author.Tests.{le-leb, le-ltb, ne-eqb, eqb-true, eqb-false, not-true, not-false}
 use Rattle.lists.specs.Lists.{empty?}
+use Rattle.lists.proofs.Laws.{never, by-test, or-first}
 use Rattle.syntax.specs.Grammar as G
 use Rattle.syntax.specs.Grammar.{Bytes, Fn, Ref, Test, Cond, cond?}
 use Rattle.syntax.specs.Limits.{short, short-ref, cond-depth}
@@ -28,7 +29,7 @@ use Rattle.text.specs.declared.Class.the-variants.{Plain}
 use Rattle.text.specs.Words.{name-at, number-at}
 use Rattle.text.specs.Keywords.{fn-number, kind-number, kind-coded, coded, numbered, word-at, WordAt, part-at as opening-at}
 use Rattle.text.specs.Readings.{any-cond, any-items, any-some}
-use Rattle.text.proofs.Runs.{first-byte, run-from, run-room}
+use Rattle.text.proofs.Runs.{first-byte, run-from, run-room, place-left}
 use Rattle.text.proofs.Views.{view-none, view-here, view-beyond, left-drop, left-place}
 use Rattle.text.proofs.Places.{byte-here, byte-inside, byte-is, byte-not, space-is, space-not, close-is, close-not, name-not, name-is, number-not, number-is, open-not, open-is, kind-is, equal-word}
 use Rattle.text.proofs.Fuel.{any-cond-leaves, any-items-leaves, no-form-next, items-step}
@@ -52,12 +53,6 @@ use Rattle.query_read.specs.Steps.{part-at, PartRead, OwnRead}
 use Rattle.query_read.proofs.Leaves.{span-is}
 
 -- ---- places
-
-pub place-left : (s : Bytes) (p : ℕ) → p ≤ length s → length s - length (drop p s) ≡ p
-place-left s p h = omega (arith, length-drop p s)
-
-never : {X : Type 0} → _≡_ {A = Bool} true false → X
-never e = absurd (let q : _≡_ {A = ℕ} 0 1 = cc in omega arith)
 
 -- a column at a place
 module _ (s : Bytes) (p : ℕ) {r : Reference} (e : r ≡ ref-at s p) where
@@ -328,10 +323,6 @@ pub ruleset aggregate-ends = (aggregate-unspaced, aggregate-columnless, aggregat
 
 -- ---- a pick
 
-by-test : {X : Type 0} (t : Bool) → (t ≡ true → X) → (t ≡ false → X) → X
-by-test true f g = f refl
-by-test false f g = g refl
-
 -- what is told of a condition that ends at a place
 told : List ℕ → ℕ → ℕ → Cond Test → ℕ → Seen
 told ns b l x next = cond (leb (cond-depth x) l) (seen-of ns (tests x) next (b + size (nodes-of ns x))) (deep-seen next)
@@ -343,10 +334,6 @@ told-ok ns b l x next = by-test (leb (cond-depth x) l) (λ e. rw e) (λ e. rw e)
 told-own : (ns : List ℕ) (b n : ℕ) (x : Cond Test) (next after : ℕ) → pick-own (told ns b (level n) x next) after ≡ pick-own (picked ns b n x) after
 unfolding told picked pick-own seen-of deep-seen
 told-own ns b n x next after = by-test (leb (cond-depth x) (level n)) (λ e. rw e) (λ e. rw e)
-
-first-false : (a b : Bool) → (a || b) ≡ false → a ≡ false
-first-false true b e = never e
-first-false false b e = refl
 
 module _ (ns : List ℕ) (s : Bytes) (b n at : ℕ) (ws : List ℕ) (line : length s ≤ 512) (lent : 102 ≤ length ws) (few : 5 * b ≤ at) {c : ℕ} (p : c ≡ getD s at 0) where
   nothing-read : {r : Own} {vs : List ℕ} → length vs ≡ length ws → r ≡ no-own → r ≡ part-at ns s b n k-pick at → PartRead ns s b n k-pick at ws vs r
@@ -404,7 +391,7 @@ module _ (ns : List ℕ) (s : Bytes) (b n at : ℕ) (ws : List ℕ) (line : leng
           let h = byte-inside s (i .next) u z (omega arith) in
           record {
             is = rw (space-is s at p sp, f, space-is s (i .next) u z, place-left s (i .next + 1) (omega arith)) (e ∙ ap (λ y. pick-own y (i .next + 1)) g ∙ told-own ns b n x (i .next) (i .next + 1));
-            stored = λ o v. rw (space-is s at p sp, f, space-is s (i .next) u z) (q .stored (not-false (i .ok) ok) (first-false (i .deep) (i .over) (sym (ap (λ y. y .over) e) ∙ v)) ∙ rw f);
+            stored = λ o v. rw (space-is s at p sp, f, space-is s (i .next) u z) (q .stored (not-false (i .ok) ok) (or-first (i .deep) (i .over) (sym (ap (λ y. y .over) e) ∙ v)) ∙ rw f);
             kept = q .kept;
           })
 

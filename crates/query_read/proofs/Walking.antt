@@ -8,6 +8,7 @@ use native.Mathlib.Omega.{arith}
 use lib.Dec.{eqb}
 use lib.ListN.{length, drop, getD, set, replicate, length-drop, length-set, length-replicate, length-append, drop-of-length-le}
 use borrow.Author.Tests.{eq-eqb, ne-eqb, eqb-true, eqb-false, not-true, not-false}
+use Rattle.lists.proofs.Laws.{never}
 use Rattle.syntax.specs.Grammar as G
 use Rattle.syntax.specs.Grammar.{Bytes, Form, Fn, Cond, Test, Ref, fn-word, put-open, cond?}
 use Rattle.syntax.specs.Readers.{Read, Reader, bind, ensure, _>>=_, _>>_, give, byte, read-head, read-open, read-name, read-int, read-ref, form-next, Kind, k-in, k-pick, k-keep, k-join, k-fn, kind-word, kinds, read-rest}
@@ -26,9 +27,6 @@ use Rattle.conditions.proofs.Skipping.{stack, stack-push}
 use Rattle.query_read.specs.declared.Next.{Next}
 use Rattle.query_read.specs.Parts.{Part, rows, pick, keep, join, aggregate, Inner, inner, parts, read-part, read-own}
 use Rattle.query_read.specs.Steps.{stuck, after-form}
-
-never : {X : Type 0} → _≡_ {A = Bool} true false → X
-never e = absurd (let q : _≡_ {A = ℕ} 0 1 = cc in omega arith)
 
 -- ---- a form by its own part and the forms inside it
 

@@ -1,7 +1,7 @@
 -- The `row` line: each return of the code that reads it.
 use mathlib.Core.Path.{_≡_, refl, sym, ap, _∙_}
 use mathlib.Core.List.{List}
-use mathlib.Core.Bool.{Bool, true, false, _&&_, _||_, not}
+use mathlib.Core.Bool.{Bool, true, false, _||_, not}
 use mathlib.Core.Option.{some}
 use Prim.Native.Nat.{ℕ, _+_, min}
 use native.Mathlib.Omega.{arith}
@@ -12,6 +12,7 @@ use borrow.Author.Tests.{ltb-true, ltb-false, le-leb, lt-leb}
 use Rattle.refusal.specs.Checks.{unread, shown}
 use Rattle.refusal.specs.declared.Checks.{Checks}
 use Rattle.lists.specs.Lists.{every}
+use Rattle.lists.proofs.Laws.{not-both}
 use Rattle.syntax.specs.Grammar as G
 use Rattle.syntax.specs.Grammar.{Bytes}
 use Rattle.syntax.specs.Limits.{max-columns, is-value, short}
@@ -41,10 +42,6 @@ pub row-made : (n : Name) (vs : Values) {b : Bool} {c : Checks} → b ≡ (n .lo
 unfolding row-read
 row-made n vs e d = rw (d, e)
 
-either-not : (a b : Bool) → (not a || not b) ≡ not (a && b)
-either-not true b = refl
-either-not false b = refl
-
 more-than-six : (n : ℕ) → leb 7 (min n 7) ≡ ltb 6 n
 more-than-six n = go (ltb 6 n) refl
   where
@@ -56,7 +53,7 @@ more-than-six n = go (ltb 6 n) refl
 row-same : (s w : Bytes) (xs : List ℤ) (left : Bytes) (n : Name) {vs : Values} → n .long ≡ not (short w) → n .code ≡ code-short w → vs ≡ values-read s (some (record { what = xs; left = left }))
     → row-read n vs ≡ row-of (some (record { name = w; values = xs }))
 unfolding row-read row-of values-read row-bounded
-row-same s w xs left n l c e = rw (l, c, e, more-than-six (length xs), either-not (short w) (every is-value xs))
+row-same s w xs left n l c e = rw (l, c, e, more-than-six (length xs), not-both (short w) (every is-value xs))
 
 -- ---- each return
 

@@ -9,6 +9,7 @@ use lib.ListN.{length, length-append, length-map}
 use Rattle.lists.specs.Lists.{select, every, gather, distinct}
 use Rattle.lists.proofs.Laws.{and-l, and-r, and-both, parts, append-nil}
 use Rattle.lists.proofs.Counting.{map-length}
+use Rattle.lists.proofs.Gathers.{select-append, select-fewer}
 use Rattle.syntax.specs.Grammar.{Cond}
 use Rattle.syntax.specs.Limits.{max-forms}
 use Rattle.model.specs.Queries as M
@@ -18,7 +19,7 @@ use Rattle.model.specs.Checks.{within, no-aggregate, side, allowed, placed, kee
 use Rattle.model.specs.Routes.{Source, Numbered, bare, present, picked-by, columns, keeping, seen, single, over-view, summed}
 use Rattle.model.specs.Rewriting.{under, defined, expand}
 use Rattle.model.proofs.Columns.{within-by, within-trans, within-both, has-append-l, has-append-r}
-use Rattle.model.proofs.Distinct.{columns-distinct}
+use Rattle.model.proofs.Distinct.{columns-distinct, once-few}
 use Rattle.model.proofs.Rewriting.{stream, side-sources}
 use Rattle.model.proofs.Ways.{header-picks}
 use Rattle.schema.specs.Schemas.{streams-in, width-in, schema-of}
@@ -36,7 +37,7 @@ use Rattle.query.proofs.Rewritten.{table-forms}
 use Rattle.rewrite.specs.declared.Granted.{Granted}
 use Rattle.rewrite.specs.Rewrites.{under-of, cut-form, shown-order, side-picks, side-stream, side-rest, side-order, pair-order, view-forms, joined-forms, pair-forms}
 use Rattle.rewrite.specs.Routed.{over-sum, Stands}
-use Rattle.rewrite.proofs.Shown.{present-select, select-append, cols-within, declared-all, map-append, order-columns, once-fewer, select-fewer}
+use Rattle.rewrite.proofs.Shown.{present-select, cols-within, declared-all, map-append, order-columns}
 use Rattle.rewrite.proofs.SideBySide.{shown-is, grant-low, order-shown, limits-shown, kept, limited}
 
 -- ---- a side
@@ -182,7 +183,7 @@ module _ (ns : List ℕ) (w : Words) (who : Caller) (same : who .profile ≡ w .
 
   header-few : (q : M.Query ℕ) → T (side q) → T (allowed (columns-of d) q) → T (keeps (distinct same-col) q) → T (ltb (stream q) (streams-in ns)) → length (header (columns-of d) q) ≤ 6
   header-few q h t k u =
-      let i = once-fewer (header (columns-of d) q) (columns-of d (stream q)) (side-once d q h k) (side-within d q h t) in
+      let i = once-few (header (columns-of d) q) (columns-of d (stream q)) (side-once d q h k) (side-within d q h t) in
       let j = stream-few (stream q) u in
       omega arith
 

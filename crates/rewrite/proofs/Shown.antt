@@ -1,7 +1,7 @@
 -- The columns that grants show, by their codes and masks.
 use mathlib.Core.Path.{_≡_, refl, sym, ap, ap₂, _∙_}
 use mathlib.Core.List.{List, [], _∷_, _++_, map}
-use mathlib.Core.Bool.{Bool, true, false, _&&_, _||_, not, cond}
+use mathlib.Core.Bool.{Bool, true, false, _&&_, _||_, cond, or-false}
 use Prim.Native.Nat.{ℕ, zero, suc, _+_, _*_, _/_, _%_, _≤_, _<_}
 use native.Mathlib.Decide.{decLt}
 use native.Mathlib.Omega.{arith}
@@ -10,14 +10,14 @@ use lib.Dec.{T, eqb, ltb, ltb→lt}
 use lib.ListN.{length, length-append}
 use borrow.Author.Tests.{lt-ltb, le-ltb}
 use Rattle.lists.specs.Lists.{select, every, some?, gather, count-from, distinct}
-use Rattle.lists.proofs.Laws.{and-l, and-r, and-both, or-l, or-r, or-cases, not-or-l, not-or-r, true-T, T-true, T-false, select-map, append-nil, every-append}
+use Rattle.lists.proofs.Laws.{and-l, and-r, and-both, or-l, or-r, or-cases, true-T, select-map, append-nil, every-append, same-truth}
 use Rattle.lists.proofs.Counting.{map-length}
+use Rattle.lists.proofs.Gathers.{select-alike}
 use Rattle.model.specs.Queries.{Col, col, figure, same-col, columns-of}
 use Rattle.model.specs.Checks.{has, within}
 use Rattle.model.proofs.Columns.{same-col→eq, same-col-refl, has-within}
 use Rattle.model.proofs.Distinct.{gather-distinct, distinct-apart}
 use Rattle.schema.specs.Schemas.{streams-in, width-in, schema-of}
-use Rattle.schema.proofs.Counted.{same-truth}
 use Rattle.schema.proofs.Lookups.{stream-columns}
 use Rattle.schema.proofs.Soundness.{width-most}
 use Rattle.schema.proofs.Tests.{streams-most, width-none}
@@ -33,29 +33,6 @@ use Rattle.grant.proofs.Masked.{column-theirs}
 use Rattle.query.specs.Forms.{coded-col, cols-in}
 
 -- ---- lists of columns
-
-pub select-append : {A : Type 0} (p : A → Bool) (xs ys : List A) → select p (xs ++ ys) ≡ select p xs ++ select p ys
-unfolding select
-select-append p [] ys = refl
-select-append p (x ∷ xs) ys = go (p x) (select-append p xs ys)
-  where
-    go : (b : Bool) → select p (xs ++ ys) ≡ select p xs ++ select p ys → cond b (x ∷ select p (xs ++ ys)) (select p (xs ++ ys)) ≡ cond b (x ∷ select p xs) (select p xs) ++ select p ys
-    go true e = ap (λ l. x ∷ l) e
-    go false e = e
-
-pub select-fewer : {A : Type 0} (p : A → Bool) (xs : List A) → length (select p xs) ≤ length xs
-unfolding select
-select-fewer p [] = omega arith
-select-fewer p (x ∷ xs) = go (p x) (select-fewer p xs)
-  where
-    go : (b : Bool) → length (select p xs) ≤ length xs → length (cond b (x ∷ select p xs) (select p xs)) ≤ suc (length xs)
-    go true h = omega arith
-    go false h = omega arith
-
-pub select-same : {A : Type 0} (p q : A → Bool) → ((x : A) → p x ≡ q x) → (xs : List A) → select p xs ≡ select q xs
-unfolding select
-select-same p q f [] = refl
-select-same p q f (x ∷ xs) = rw (f x, select-same p q f xs)
 
 -- two tests that agree on what is there
 pub select-there : (p q : Col → Bool) (cs : List Col) → ((c : Col) → T (has cs c) → p c ≡ q c) → select p cs ≡ select q cs
@@ -103,7 +80,7 @@ module _ (mask : ℕ) (low : Low mask) where
       go (no l) = rw (le-ltb c 24 (omega arith)) (sym (low c (omega arith)))
 
   codes-shown : (cs : List ℕ) → map coded-col (select (bit? mask) cs) ≡ select (column-in mask) (map coded-col cs)
-  codes-shown cs = sym (select-map (column-in mask) coded-col cs ∙ ap (map coded-col) (select-same (λ c. column-in mask (coded-col c)) (bit? mask) shown-code cs))
+  codes-shown cs = sym (select-map (column-in mask) coded-col cs ∙ ap (map coded-col) (select-alike (λ c. column-in mask (coded-col c)) (bit? mask) shown-code cs))
 
   pub cols-within : (o : ℕ) → cols-in (order-within mask o) ≡ select (column-in mask) (cols-in o)
   unfolding cols-in
@@ -217,16 +194,12 @@ both-there : (ns : List ℕ) (s t : ℕ) → T (distinct eqb (s ∷ (t ∷ [])))
 unfolding gather
 both-there ns s t d c h k = distinct-apart (columns-of (schema-of ns) s) (gather (columns-of (schema-of ns)) (t ∷ [])) (gather-distinct (schema-of ns) (s ∷ (t ∷ [])) d) c h k
 
-or-none : (x : Bool) → (x || false) ≡ x
-or-none true = refl
-or-none false = refl
-
 module _ (ns : List ℕ) (a b s t : ℕ) (d : T (distinct eqb (s ∷ (t ∷ [])))) where
   pub shown-first : T (declared-all ns (t ∷ [])) → T (inside b (streams-mask ns (t ∷ []))) → select (column-in a) (columns-of (schema-of ns) s) ≡ select (column-in (bitOr a b)) (columns-of (schema-of ns) s)
   shown-first m i = select-there (column-in a) (column-in (bitOr a b)) (columns-of (schema-of ns) s) (λ c h. sym (column-or a b c ∙ go c h (column-in b c) refl))
     where
       go : (c : Col) → T (has (columns-of (schema-of ns) s) c) → (x : Bool) → column-in b c ≡ x → (column-in a c || x) ≡ column-in a c
-      go c h false e = or-none (column-in a c)
+      go c h false e = or-false (column-in a c)
       go c h true e = absurd (both-there ns s t d c h (mask-theirs ns b (t ∷ []) m i c (true-T _ e)))
 
   pub shown-second : T (declared-all ns (s ∷ [])) → T (inside a (streams-mask ns (s ∷ []))) → select (column-in b) (columns-of (schema-of ns) t) ≡ select (column-in (bitOr a b)) (columns-of (schema-of ns) t)
@@ -237,46 +210,3 @@ module _ (ns : List ℕ) (a b s t : ℕ) (d : T (distinct eqb (s ∷ (t ∷ []))
       go c h false e = refl
       go c h true e =
           absurd (both-there ns s t d c (rw (append-nil (columns-of (schema-of ns) s)) at (mask-theirs ns a (s ∷ []) m i c (true-T _ e))) (rw (append-nil (columns-of (schema-of ns) t)) h))
-
--- ---- columns that stand once are no more than those that they are among
-
-unfoldable without : Col → List Col → List Col
-without c [] = []
-without c (x ∷ cs) = cond (same-col c x) cs (x ∷ without c cs)
-
-without-one : (c : Col) (cs : List Col) → T (has cs c) → length cs ≡ suc (length (without c cs))
-unfolding has some? without
-without-one c [] t = absurd t
-without-one c (x ∷ cs) t = go (same-col c x) t (without-one c cs)
-  where
-    go : (b : Bool) → T (b || some? (same-col c) cs) → (T (has cs c) → length cs ≡ suc (length (without c cs))) → suc (length cs) ≡ suc (length (cond b cs (x ∷ without c cs)))
-    go true t f = refl
-    go false t f = ap suc (f t)
-
-without-other : (c y : Col) (cs : List Col) → same-col y c ≡ false → T (has cs y) → T (has (without c cs) y)
-unfolding has some? without
-without-other c y [] e t = absurd t
-without-other c y (x ∷ cs) e t = go (same-col c x) refl (without-other c y cs e)
-  where
-    go : (b : Bool) → same-col c x ≡ b → (T (has cs y) → T (has (without c cs) y)) → T (has (cond b cs (x ∷ without c cs)) y)
-    go true k f = or-cases (same-col y x) (some? (same-col y) cs) t (λ s. absurd (let z : same-col y x ≡ false = rw (same-col→eq c x (true-T _ k)) at e in rw z at s)) (λ s. s)
-    go false k f = or-cases (same-col y x) (some? (same-col y) cs) t (λ s. or-l (same-col y x) _ s) (λ s. or-r (same-col y x) _ (f s))
-
-apart-within : (c : Col) (xs ds : List Col) → T (not (some? (same-col c) xs)) → T (within xs ds) → T (within xs (without c ds))
-unfolding within every some?
-apart-within c [] ds t u = tt
-apart-within c (x ∷ xs) ds t u =
-    and-both (has (without c ds) x) _ (without-other c x ds (apart x (same-col x c) refl (T-false (same-col c x) (not-or-l (same-col c x) (some? (same-col c) xs) t))) (and-l (has ds x) (within xs ds) u))
-    (apart-within c xs ds (not-or-r (same-col c x) (some? (same-col c) xs) t) (and-r (has ds x) (within xs ds) u))
-  where
-    apart : (x : Col) (b : Bool) → same-col x c ≡ b → same-col c x ≡ false → b ≡ false
-    apart x false e k = refl
-    apart x true e k = absurd (let z : same-col c x ≡ true = rw (same-col→eq x c (true-T _ e)) (T-true (same-col c c) (same-col-refl c)) in let y : _≡_ {A = Bool} true false = sym z ∙ k in let n : _≡_ {A = ℕ} 0 1 = cc in omega arith)
-
-pub once-fewer : (cs ds : List Col) → T (distinct same-col cs) → T (within cs ds) → length cs ≤ length ds
-unfolding distinct within every
-once-fewer [] ds t u = omega arith
-once-fewer (c ∷ cs) ds t u =
-    let i = once-fewer cs (without c ds) (and-r (not (some? (same-col c) cs)) (distinct same-col cs) t) (apart-within c cs ds (and-l (not (some? (same-col c) cs)) (distinct same-col cs) t) (and-r (has ds c) (within cs ds) u)) in
-    let e = without-one c ds (and-l (has ds c) (within cs ds) u) in
-    omega arith

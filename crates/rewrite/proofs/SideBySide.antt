@@ -9,6 +9,7 @@ use lib.Dec.{T, eqb}
 use lib.ListN.{length, length-append}
 use Rattle.lists.specs.Lists.{select, gather, distinct}
 use Rattle.lists.proofs.Laws.{All, all-nil, all-cons, all-head, all-left, all-right, and-l, and-r, parts, append-nil}
+use Rattle.lists.proofs.Gathers.{select-append}
 use Rattle.syntax.specs.Limits.{max-forms}
 use Rattle.model.specs.Queries as M
 use Rattle.model.specs.Queries.{Schema, columns-of, Caller, source, pick, keep, join, aggregate, sources, header}
@@ -31,7 +32,7 @@ use Rattle.query.proofs.Rewritten.{keep-order, table-forms}
 use Rattle.rewrite.specs.declared.Granted.{Granted}
 use Rattle.rewrite.specs.Rewrites.{under-of, cut-form, shown-order, seen-forms, cut-forms, side-forms}
 use Rattle.rewrite.specs.Routed.{over-sides, Stands}
-use Rattle.rewrite.proofs.Shown.{Low, present-select, select-append, cols-within, mask-low, order-columns, or-low, shown-first, shown-second}
+use Rattle.rewrite.proofs.Shown.{Low, present-select, cols-within, mask-low, order-columns, or-low, shown-first, shown-second}
 
 -- ---- one grant
 

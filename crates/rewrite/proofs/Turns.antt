@@ -13,6 +13,7 @@ use borrow.Author.Tests.{eq-eqb, ne-eqb}
 use Rattle.lists.specs.Lists.{select, gather, count-from}
 use Rattle.lists.proofs.Laws.{append-nil}
 use Rattle.lists.proofs.Counting.{count-left, count-done}
+use Rattle.lists.proofs.Gathers.{select-append}
 use Rattle.schema.specs.Schemas.{width-in}
 use Rattle.schema.proofs.Soundness.{width-most}
 use Rattle.schema.proofs.Tests.{width-none}
@@ -30,7 +31,7 @@ use Rattle.query.specs.declared.Query.{Query}
 use Rattle.rewrite.specs.declared.Granted.{Granted}
 use Rattle.rewrite.specs.Rewrites.{under-of, cut-form, shown-order, seen-forms, cut-forms, side-forms, side-picks, side-stream, side-rest, side-order, pair-order, view-forms, joined-forms, pair-forms, sum-forms}
 use Rattle.rewrite.specs.Parts.{StreamAt}
-use Rattle.rewrite.proofs.Shown.{select-append, codes-few, codes-small}
+use Rattle.rewrite.proofs.Shown.{codes-few, codes-small}
 
 -- ---- one form
 

@@ -1,7 +1,7 @@
 -- The routes that opened grants give are those of the query, in their order.
 use mathlib.Core.Path.{_≡_, refl, sym, ap, ap₂, _∙_, subst}
 use mathlib.Core.List.{List, [], _∷_, _++_, map, map-map, map-append}
-use mathlib.Core.Bool.{Bool, true, false, _&&_, _||_, not, cond}
+use mathlib.Core.Bool.{Bool, true, false, _&&_, _||_, not, cond, and-false}
 use Prim.Native.Nat.{ℕ, suc, _-_, _≤_, _<_}
 use native.Mathlib.Omega.{arith}
 use lib.Bits.{bitAnd, bitOr}
@@ -10,6 +10,7 @@ use lib.ListN.{length, getD, length-map}
 use borrow.Author.Tests.{eq-eqb, ne-eqb}
 use Rattle.lists.specs.Lists.{select, every, some?, empty?, gather, same-list, distinct}
 use Rattle.lists.proofs.Laws.{same-list→eq, All, all-nil, all-cons, all-head, all-tail, all-any, all-both, all-select, all-weaken, all-append, all-map, all-gather, and-l, and-r, parts, T-true, append-nil, select-map, gather-same, map-same}
+use Rattle.lists.proofs.Gathers.{select-append, gather-ones, gather-map, map-gather, select-gather, gather-select, select-none}
 use Rattle.syntax.specs.Grammar.{Right}
 use Rattle.model.specs.Queries.{Schema, Col, Query, sources, Grant, Caller}
 use Rattle.model.specs.Grants.{belongs}
@@ -17,7 +18,6 @@ use Rattle.model.specs.Checks.{no-aggregate, timed, allowed, placed}
 use Rattle.model.specs.Routes.{reads, gives, Numbered, Route, numbered, single, routes}
 use Rattle.model.proofs.Asked.{shown-by, left, grants-at}
 use Rattle.model.proofs.RouteKinds.{asked-cols, equal-cols, side-picks, has-equality, numbers, for-each, first-kind, second-kind, third-kind, kinds}
-use Rattle.model.proofs.Gathers.{select-append, gather-ones, gather-map, map-gather, select-gather, gather-select}
 use Rattle.model.proofs.OneRow.{select-same, select-both, and-swap}
 use Rattle.model.proofs.Ways.{numbered-at, grants-append}
 use Rattle.model.proofs.Found.{routes-found}
@@ -44,15 +44,6 @@ use Rattle.routes.proofs.Matched.{reads-is, one-left, two-left, lone-si
 use Rattle.routes.proofs.Places.{Slot, slots, numbered-slots, sound-slots, slots-at, mine, left-places, right-places, pair-places, figures-places, Held, all-held, slots-below}
 
 -- ---- lists
-
-and-none : (b : Bool) → (b && false) ≡ false
-and-none true = refl
-and-none false = refl
-
-select-none : {A : Type 0} (xs : List A) → select (λ x. false) xs ≡ []
-unfolding select
-select-none [] = refl
-select-none (x ∷ xs) = select-none xs
 
 module _ {A B : Type 0} where
   pub all-unmap : {P : B → Type 0} (f : A → B) (xs : List A) → All P (map f xs) → All (λ x. P (f x)) xs
@@ -209,7 +200,7 @@ module _ (ns ws roles profile : List ℕ) (gs : List D.Grant) (q : Query ℕ) (p
   none-left : (f : Slot → Bool) → ((s : Slot) → f s ≡ false) → map one (select (λ s. leaves s s && (mine n ws roles profile s && f s)) ss) ≡ []
   none-left f e =
       ap (map one) (select-same _ (λ s. false) (all-weaken (λ s u. ap (λ x. leaves s s && (mine n ws roles profile s && x)) (e s)
-      ∙ ap (λ x. leaves s s && x) (and-none (mine n ws roles profile s)) ∙ and-none (leaves s s)) (all-any ss)) ∙ select-none ss)
+      ∙ ap (λ x. leaves s s && x) (and-false (mine n ws roles profile s)) ∙ and-false (leaves s s)) (all-any ss)) ∙ select-none ss)
 
   -- ---- second and third kinds
 

@@ -13,7 +13,7 @@ use borrow.Author.Tests.{eq-eqb, ne-eqb, lt-ltb, le-ltb, not-true, not-false}
 use Rattle.lists.specs.Lists.{select, nth, gather, count-from}
 use Rattle.lists.proofs.Laws.{All, all-nil, all-cons, all-nth, all-weaken, all-select, all-append, all-map, all-gather, append-nil}
 use Rattle.lists.proofs.Counting.{nth-map}
-use Rattle.model.proofs.Gathers.{select-append, select-gather, gather-ones, gather-map}
+use Rattle.lists.proofs.Gathers.{select-append, select-gather, gather-ones, gather-map}
 use Rattle.items.specs.Items.{first-of}
 use Rattle.items.proofs.Folds.{first-length, first-more}
 use Rattle.syntax.specs.Limits.{max-routes}
@@ -58,9 +58,6 @@ module _ (o : Open) (place bits : ℕ) (g : Grant) where
 pub ruleset opened-ends = (opened-past, opened-more)
 
 -- ---- a route
-
-pub number-none : (xs : List ℕ) (i : ℕ) → length xs ≤ i → 0 ≡ getD xs i 0
-number-none xs i h = sym (List·getD-eq-default xs 0 {n = i} h)
 
 module _ (g : Gate) (shown : List ℕ) (x : Route) where
   pub leaves-whole : g .whole ≡ true → true ≡ leaves-some g shown x

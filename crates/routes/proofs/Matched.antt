@@ -1,7 +1,7 @@
 -- The tests on numbers are those of the definitions, for sound grants and a checked query.
 use mathlib.Core.Path.{_≡_, refl, sym, ap, ap₂, _∙_, subst}
 use mathlib.Core.List.{List, [], _∷_, _++_, map}
-use mathlib.Core.Bool.{Bool, true, false, _&&_, _||_, not, cond}
+use mathlib.Core.Bool.{Bool, true, false, _&&_, _||_, not, cond, or-false}
 use Prim.Native.Nat.{ℕ, _+_, _*_, _/_, _≤_, _<_}
 use native.Mathlib.Decide.{ℕ-discrete}
 use native.Mathlib.Omega.{arith}
@@ -104,10 +104,6 @@ gives-code f r h = go (ℕ-discrete r 0) (ℕ-discrete r 1) (ℕ-discrete r 2) (
     go (no a) (no b) (no c) (no d) (no e) = let g : r ≡ 5 = omega arith in subst (λ x. gives f (numbered-right x) ≡ eqb x (fn-code f)) (sym g) (five-case f)
 
 -- ---- of a query and grants
-
-or-false : (a : Bool) → (a || false) ≡ a
-or-false true = refl
-or-false false = refl
 
 some-same : {A : Type 0} (p r : A → Bool) → ((x : A) → p x ≡ r x) → (xs : List A) → some? p xs ≡ some? r xs
 unfolding some?

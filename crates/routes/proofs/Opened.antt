@@ -1,7 +1,7 @@
 -- What a grant opens, test by test, in the order of the code.
 use mathlib.Core.Path.{_≡_, refl, sym, ap, ap₂, _∙_}
 use mathlib.Core.List.{List, [], _∷_, map, map-map}
-use mathlib.Core.Bool.{Bool, true, false, _&&_, _||_, not, cond}
+use mathlib.Core.Bool.{Bool, true, false, _&&_, _||_, not, cond, and-true, and-false}
 use Prim.Native.Nat.{ℕ, zero, suc, _+_, _*_, _-_, _≤_, _<_, min}
 use native.Mathlib.Omega.{arith}
 use lib.Bits.{bitAnd, bitOr}
@@ -69,14 +69,6 @@ module _ (g : Grant) (ws roles profile : List ℕ) {x : Bool} (e : x ≡ some? (
 pub ruleset belongs-ends = (belongs-none, belongs-known)
 
 -- ---- streams
-
-and-false : (a : Bool) → (a && false) ≡ false
-and-false true = refl
-and-false false = refl
-
-and-true : (a : Bool) → (a && true) ≡ a
-and-true true = refl
-and-true false = refl
 
 not-one : (f : ℕ → ℕ) (s m : ℕ) → (m ≡ 1 → ⊥) → false ≡ same-list (map f (count-from 0 m)) (s ∷ [])
 unfolding same-list count-from

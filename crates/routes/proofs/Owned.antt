@@ -1,16 +1,16 @@
 -- A grant whose words are laid out as stored ones is the caller's by the walk over its words as by the definition.
-use mathlib.Core.Path.{_≡_, refl, sym, ap, ap₂, _∙_}
-use mathlib.Core.List.{List, [], _∷_, map}
-use mathlib.Core.Bool.{Bool, _&&_}
+use mathlib.Core.Path.{_≡_, sym, ap, ap₂, _∙_}
+use mathlib.Core.List.{List, map}
+use mathlib.Core.Bool.{_&&_}
 use Prim.Native.Nat.{ℕ}
 use lib.Dec.{T}
 use Rattle.lists.specs.Lists.{every, some?, gather, same-list}
 use Rattle.lists.proofs.Laws.{parts}
+use Rattle.lists.proofs.Gathers.{every-gathers}
 use Rattle.syntax.specs.Grammar.{Cond, Entry}
 use Rattle.model.specs.Conditions.{tests}
 use Rattle.model.specs.Queries.{Compare}
 use Rattle.model.specs.Grants.{known, belongs}
-use Rattle.model.proofs.Gathers.{every-append-same}
 use Rattle.text.specs.Words.{name-of}
 use Rattle.nodes.specs.Nodes.{conditions-of}
 use Rattle.grant.specs.Grants.{grant-of, grant-tidy, laid-out}
@@ -18,11 +18,6 @@ use Rattle.grant.specs.declared.Grant.{Grant}
 use Rattle.comparisons.specs.Compared.{compared, profile-in, compare-known}
 use Rattle.comparisons.proofs.Walked.{laid-tests}
 use Rattle.routes.specs.Opening.{caller-in, belongs-in}
-
-every-gathers : {A B : Type 0} (p : B → Bool) (f : A → List B) (xs : List A) → every p (gather f xs) ≡ every (λ x. every p (f x)) xs
-unfolding every gather
-every-gathers p f [] = refl
-every-gathers p f (x ∷ xs) = every-append-same p (f x) (gather f xs) ∙ ap (λ b. every p (f x) && b) (every-gathers p f xs)
 
 known-tests : (p : List Entry) (cs : List (Cond Compare)) → every (known p) cs ≡ every (compare-known p) (gather tests cs)
 unfolding known compare-known

@@ -1,7 +1,7 @@
 -- What sound grants show of columns, by the bits of their masks.
 use mathlib.Core.Path.{_≡_, refl, sym, ap, ap₂, _∙_, subst}
 use mathlib.Core.List.{List, [], _∷_, _++_, map}
-use mathlib.Core.Bool.{Bool, true, false, _&&_, _||_, not, cond}
+use mathlib.Core.Bool.{Bool, true, false, _&&_, _||_, not, cond, or-false, and-true}
 use Prim.Native.Nat.{ℕ, zero, suc, _+_, _*_, _-_, _/_, _%_, _^_, _≤_, _<_}
 use native.Mathlib.Nat.{pow-suc, mul-assoc}
 use native.Mathlib.Decide.{decLt, ℕ-discrete}
@@ -12,13 +12,13 @@ use lib.Dec.{T, ltb, eqb, eqb→eq, ltb→lt, lit<}
 use lib.ListN.{length}
 use borrow.Author.Tests.{eq-eqb, ne-eqb, lt-ltb, le-ltb}
 use Rattle.lists.specs.Lists.{select, every, some?, empty?, nth, gather, count-from}
-use Rattle.lists.proofs.Laws.{All, all-nil, all-cons, and-l, and-r, and-both, or-l, or-r, or-cases, parts, T-true, append-nil}
+use Rattle.lists.proofs.Laws.{All, all-nil, all-cons, and-l, and-r, and-both, or-l, or-r, or-cases, parts, T-true, append-nil, same-truth}
+use Rattle.lists.proofs.Gathers.{every-gathers, some-append}
 use Rattle.model.specs.Queries.{no-stream, Col, col, figure, same-col, columns-of}
 use Rattle.model.specs.Grants.{shown-of}
 use Rattle.model.specs.Checks.{has}
 use Rattle.model.proofs.Asked.{shown-by}
 use Rattle.model.proofs.Columns.{has-append}
-use Rattle.model.proofs.Gathers.{every-append-same}
 use Rattle.model.proofs.Forms.{every-same}
 use Rattle.model.proofs.OneRow.{by-every}
 use Rattle.model.proofs.Found.{has-select-both}
@@ -35,14 +35,7 @@ use Rattle.grant.proofs.Masked.{low, declared-stream, cols-low, column-theirs}
 use Rattle.grant.proofs.Valid.{told-streams, streams-below}
 use Rattle.comparisons.specs.Compared.{col-codes}
 use Rattle.needs.specs.Asking.{bits-of}
-use Rattle.needs.proofs.Codes.{some-append}
 use Rattle.routes.specs.Opening.{stream-bits}
-
-same-truth : (a b : Bool) → (T a → T b) → (T b → T a) → a ≡ b
-same-truth true true f g = refl
-same-truth true false f g = absurd (f tt)
-same-truth false true f g = absurd (g tt)
-same-truth false false f g = refl
 
 -- ---- bits of a stream
 
@@ -119,14 +112,6 @@ inside-two x a b s t f g h k =
 not-zero : (x i : ℕ) → T (bit? x i) → T (not (eqb x 0))
 not-zero x i t = rw (ne-eqb x 0 (λ e. rw (bit-none i) at (rw e at t))) tt
 
-and-true : (a : Bool) → (a && true) ≡ a
-and-true true = refl
-and-true false = refl
-
-or-false : (a : Bool) → (a || false) ≡ a
-or-false true = refl
-or-false false = refl
-
 -- some bit of a list is set
 pub some-bits : (m : ℕ) (is : List ℕ) → not (eqb (bitAnd m (mask-of is)) 0) ≡ some? (bit? m) is
 unfolding some?
@@ -156,11 +141,6 @@ some-bits m is = same-truth (not (eqb (bitAnd m (mask-of is)) 0)) (some? (bit? m
         not-zero (bitAnd m (mask-of is)) (h .0) (rw (bit-and m (mask-of is) (h .0)) (and-both (bit? m (h .0)) (bit? (mask-of is) (h .0)) (h .1) (rw (bit-mask is (h .0)) (h .2))))
 
 -- ---- lists of columns
-
-every-gathers : {A B : Type 0} (p : B → Bool) (f : A → List B) (xs : List A) → every p (gather f xs) ≡ every (λ x. every p (f x)) xs
-unfolding every gather
-every-gathers p f [] = refl
-every-gathers p f (x ∷ xs) = every-append-same p (f x) (gather f xs) ∙ ap (λ b. every p (f x) && b) (every-gathers p f xs)
 
 some-gathers : {A B : Type 0} (p : B → Bool) (f : A → List B) (xs : List A) → some? p (gather f xs) ≡ some? (λ x. some? p (f x)) xs
 unfolding some? gather

@@ -1,12 +1,12 @@
 -- The set bits of a word, one after the other.
-use mathlib.Core.Path.{_≡_, refl, sym, ap, ap₂, _∙_, subst}
+use mathlib.Core.Path.{_≡_, refl, sym, ap, ap₂, _∙_}
 use mathlib.Core.List.{List, [], _∷_, _++_, map}
 use mathlib.Core.Bool.{Bool, true, false, cond}
 use Prim.Native.Nat.{ℕ, zero, suc, _+_, _*_, _-_, _/_, _%_, _^_, _<_, _≤_}
-use native.Mathlib.Nat.{pow-suc, div-one}
+use native.Mathlib.Nat.{pow-suc}
 use native.Mathlib.Decide.{decLt}
 use native.Mathlib.Omega.{arith}
-use lib.Dec.{T, eqb}
+use lib.Dec.{eqb}
 use lib.Count.{trailingZeros, trailing-le, under}
 use lib.ListN.{length}
 use lib.Pow.{shr-shr, shr-le}
@@ -15,24 +15,15 @@ use Rattle.lists.specs.Lists.{select, count-from, nth}
 use Rattle.lists.proofs.Counting.{count-left, count-done}
 use Rattle.masks.specs.Masks.{bit?}
 use Rattle.masks.proofs.Bits.{bit-past}
+use Rattle.masks.proofs.Lists.{bit-next, bit-lowest}
 use Rattle.rows.specs.Masks.{Next, At, bits-from, next-bit, listed, row-bit, rows-of}
 use Rattle.rows.specs.declared.Rows.{Rows}
 use Rattle.rows.proofs.Bits.{bit-first, bit-second, bit-third, bit-fourth, row-passes, row-past}
-use Rattle.lists.proofs.Laws.{gather-append, append-nil}
+use Rattle.lists.proofs.Laws.{gather-append, append-nil, never}
 use Rattle.lists.specs.Lists.{gather}
-
-apart : true ≡ false → ⊥
-apart e = subst (λ b. T b) e tt
+pub use Rattle.lists.proofs.Gathers.{select-append}
 
 -- ---- the zeros below the lowest set bit
-
-has-down : (n j : ℕ) → bit? n (suc j) ≡ bit? (n / 2) j
-has-down n j =
-    let e : suc j ≡ 1 + j = omega arith in
-    ap (λ (i : ℕ). bit? n i) e ∙ sym (ap (λ (x : ℕ). eqb (x % 2) 1) (shr-shr n 1 j))
-
-has-low : (n : ℕ) → bit? n 0 ≡ eqb (n % 2) 1
-has-low n = ap (λ (x : ℕ). eqb (x % 2) 1) (div-one n)
 
 pub trail-passed : (k n j : ℕ) → j < trailingZeros k n → bit? n j ≡ false
 unfolding trailingZeros
@@ -40,8 +31,8 @@ trail-passed zero n j h = absurd (omega arith)
 trail-passed (suc k) n j h = go (n % 2) refl (trail-passed k (n / 2)) j h
   where
     go : (d : ℕ) → n % 2 ≡ d → ((j : ℕ) → j < trailingZeros k (n / 2) → bit? (n / 2) j ≡ false) → (j : ℕ) → j < under d (trailingZeros k (n / 2)) → bit? n j ≡ false
-    go zero e r zero h = has-low n ∙ ap (λ (x : ℕ). eqb x 1) e
-    go zero e r (suc j) h = has-down n j ∙ r j (omega arith)
+    go zero e r zero h = bit-lowest n ∙ ap (λ (x : ℕ). eqb x 1) e
+    go zero e r (suc j) h = bit-next n j ∙ r j (omega arith)
     go (suc d) e r j h = absurd (omega arith)
 
 pub trail-here : (k n : ℕ) → trailingZeros k n < k → bit? n (trailingZeros k n) ≡ true
@@ -50,8 +41,8 @@ trail-here zero n h = absurd (omega arith)
 trail-here (suc k) n h = go (n % 2) refl (trail-here k (n / 2)) h
   where
     go : (d : ℕ) → n % 2 ≡ d → (trailingZeros k (n / 2) < k → bit? (n / 2) (trailingZeros k (n / 2)) ≡ true) → under d (trailingZeros k (n / 2)) < suc k → bit? n (under d (trailingZeros k (n / 2))) ≡ true
-    go zero e r h = has-down n (trailingZeros k (n / 2)) ∙ r (omega arith)
-    go (suc d) e r h = has-low n ∙ eq-eqb (n % 2) 1 (omega arith)
+    go zero e r h = bit-next n (trailingZeros k (n / 2)) ∙ r (omega arith)
+    go (suc d) e r h = bit-lowest n ∙ eq-eqb (n % 2) 1 (omega arith)
 
 -- a number of k bits that is not 0 has fewer
 pub trail-some : (k n : ℕ) → 0 < n → n < 2 ^ k → trailingZeros k n < k
@@ -96,7 +87,7 @@ module _ (w i : ℕ) where
       near r e = go (decLt 32 r)
         where
           go : Dec (32 < r) → r ≤ 32
-          go (yes k) = absurd (apart (sym e ∙ bit-past w r 32 l (omega arith)))
+          go (yes k) = never (sym e ∙ bit-past w r 32 l (omega arith))
           go (no k) = omega arith
 
 -- ---- the list of the set bits
@@ -168,7 +159,7 @@ bit-low w n i l e = go (decLt i n)
   where
     go : Dec (i < n) → i < n
     go (yes k) = k
-    go (no k) = absurd (apart (sym e ∙ bit-past w i n l (omega arith)))
+    go (no k) = never (sym e ∙ bit-past w i n l (omega arith))
 
 -- ---- a set bit, and those after it
 
@@ -212,15 +203,6 @@ count-join a (suc m) n =
     let f : suc a + m ≡ a + suc m = omega arith in
     ap (count-from a) e ∙ ap (λ l. a ∷ l) (count-join (suc a) m n ∙ ap (λ (k : ℕ). count-from (suc a) m ++ count-from k n) f)
 
-pub select-append : {A : Type 0} (p : A → Bool) (xs ys : List A) → select p (xs ++ ys) ≡ select p xs ++ select p ys
-unfolding select
-select-append p [] ys = refl
-select-append p (x ∷ xs) ys = go (p x) (select-append p xs ys)
-  where
-    go : (b : Bool) → select p (xs ++ ys) ≡ select p xs ++ select p ys → cond b (x ∷ select p (xs ++ ys)) (select p (xs ++ ys)) ≡ cond b (x ∷ select p xs) (select p xs) ++ select p ys
-    go true e = ap (λ l. x ∷ l) e
-    go false e = e
-
 -- the same items, counted from another number on
 pub gather-shift : {A : Type 0} (p q : ℕ → Bool) (g h : ℕ → List A) (a b n : ℕ) → ((j : ℕ) → j < n → p (a + j) ≡ q (b + j)) → ((j : ℕ) → j < n → g (a + j) ≡ h (b + j))
     → gather g (select p (count-from a n)) ≡ gather h (select q (count-from b n))
@@ -237,8 +219,8 @@ gather-shift p q g h a b (suc n) e f =
     go : (c d : Bool) → c ≡ d → g a ≡ h b → gather g (select p (count-from (suc a) n)) ≡ gather h (select q (count-from (suc b) n))
         → gather g (cond c (a ∷ select p (count-from (suc a) n)) (select p (count-from (suc a) n))) ≡ gather h (cond d (b ∷ select q (count-from (suc b) n)) (select q (count-from (suc b) n)))
     go true true i j k = ap₂ _++_ j k
-    go true false i j k = absurd (apart i)
-    go false true i j k = absurd (apart (sym i))
+    go true false i j k = never i
+    go false true i j k = never (sym i)
     go false false i j k = k
 
 module _ (m : Rows) where

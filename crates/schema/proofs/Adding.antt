@@ -13,6 +13,7 @@ use Rattle.lists.specs.Lists.{every, some?, empty?, distinct, count-from, same-
 use Rattle.lists.proofs.Laws.{parts, same-list-refl}
 use Rattle.lists.proofs.Pasting.{paste-in, paste-out}
 use Rattle.lists.proofs.Counting.{count-more, every-at, every-places, map-alike, map-places, map-length}
+use Rattle.lists.proofs.Gathers.{some-of-map}
 use Rattle.syntax.specs.Grammar.{Bytes, Stream, name?}
 use Rattle.syntax.specs.Limits.{short}
 use Rattle.calls.specs.Validity.{valid-name, free-name, valid-stream}
@@ -21,7 +22,7 @@ use Rattle.text.specs.Words.{code-of, code-from, name-of}
 use Rattle.text.proofs.Codes.{code-above, code-below, name-back}
 use Rattle.items.specs.Items.{first-of}
 use Rattle.schema.specs.Schemas.{code-end, column-place, streams-in, width-in, column-in, stream-in, schema-of, code-free, named-from, schema-sound, with-codes}
-use Rattle.schema.proofs.Counted.{some-of-map, none-at}
+use Rattle.schema.proofs.Counted.{none-at}
 use Rattle.schema.proofs.Places.{filled-above, filled-is, filled-same}
 use Rattle.schema.proofs.Tests.{width-none}
 use Rattle.schema.proofs.Lookups.{stream-names-are}

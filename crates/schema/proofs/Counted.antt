@@ -1,31 +1,14 @@
 -- Tests over counted lists, and that no item of one stands twice.
-use mathlib.Core.Path.{_≡_, refl, ap, ap₂}
-use mathlib.Core.List.{List, [], _∷_, map}
-use mathlib.Core.Bool.{Bool, true, false, _&&_, _||_, not}
+use mathlib.Core.Path.{_≡_, refl, ap₂}
+use mathlib.Core.List.{map}
+use mathlib.Core.Bool.{Bool, true, false, _||_, not}
 use Prim.Native.Nat.{ℕ, zero, suc, _+_, _<_, _≤_}
 use native.Mathlib.Decide.{decLt}
 use native.Mathlib.Omega.{arith}
 use lib.Dec.{T}
-use Rattle.lists.specs.Lists.{every, some?, distinct, count-from}
+use Rattle.lists.specs.Lists.{some?, distinct, count-from}
 use Rattle.lists.proofs.Laws.{and-l, and-r, and-both, not-or-l, not-or-r}
-
--- two tests that pass alike are one
-pub same-truth : (a b : Bool) → (T a → T b) → (T b → T a) → a ≡ b
-same-truth true true f g = refl
-same-truth true false f g = absurd (f tt)
-same-truth false true f g = absurd (g tt)
-same-truth false false f g = refl
-
-module _ {A B : Type 0} where
-  pub every-of-map : (p : B → Bool) (f : A → B) (xs : List A) → every p (map f xs) ≡ every (λ x. p (f x)) xs
-  unfolding every
-  every-of-map p f [] = refl
-  every-of-map p f (x ∷ xs) = ap (λ t. p (f x) && t) (every-of-map p f xs)
-
-  pub some-of-map : (p : B → Bool) (f : A → B) (xs : List A) → some? p (map f xs) ≡ some? (λ x. p (f x)) xs
-  unfolding some?
-  some-of-map p f [] = refl
-  some-of-map p f (x ∷ xs) = ap (λ t. p (f x) || t) (some-of-map p f xs)
+use Rattle.lists.proofs.Gathers.{some-of-map}
 
 none-both : (a b : Bool) → T (not a) → T (not b) → T (not (a || b))
 none-both true b s t = absurd s

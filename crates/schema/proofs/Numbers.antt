@@ -7,14 +7,15 @@ use native.Mathlib.Omega.{arith}
 use lib.Dec.{T, eqb, eqb→eq, eqb-refl}
 use lib.ListN.{getD}
 use Rattle.lists.specs.Lists.{some?, count-from, same-list, position}
-use Rattle.lists.proofs.Laws.{nth-position}
+use Rattle.lists.proofs.Laws.{nth-position, same-truth}
 use Rattle.lists.proofs.Counting.{map-alike, map-length, nth-map}
+use Rattle.lists.proofs.Gathers.{some-of-map}
 use Rattle.syntax.specs.Grammar.{Bytes}
 use Rattle.calls.specs.Names.{stream-names, columns-named, stream-number}
 use Rattle.calls.specs.Tables.{declared}
 use Rattle.text.specs.Words.{name-of}
 use Rattle.schema.specs.Schemas.{code-end, column-place, streams-in, width-in, column-in, schema-of, stands, named-from, schema-sound}
-use Rattle.schema.proofs.Counted.{same-truth, some-of-map, some-alike}
+use Rattle.schema.proofs.Counted.{some-alike}
 use Rattle.schema.proofs.FreeNames.{name-one}
 use Rattle.schema.proofs.Lookups.{stream-names-are, columns-are}
 use Rattle.schema.proofs.Soundness.{free-below, word, named-free, words-once, Sound, sound-facts}

@@ -11,11 +11,12 @@ use borrow.Author.Tests.{eq-eqb, ne-eqb, lt-ltb, le-leb, lt-leb, eqb-true, eqb-f
 use Rattle.lists.specs.Lists.{every, distinct, count-from, same-list}
 use Rattle.lists.proofs.Laws.{parts, and-l, and-r, and-both, true-T, T-true, T-false, same-list-refl}
 use Rattle.lists.proofs.Counting.{every-at, every-made, every-map}
+use Rattle.lists.proofs.Gathers.{every-of-map}
 use Rattle.syntax.specs.Grammar.{Bytes}
 use Rattle.calls.specs.Validity.{free-name}
 use Rattle.text.specs.Words.{name-of}
 use Rattle.schema.specs.Schemas.{code-end, column-place, filled, streams-in, width-in, code-free, zeros, stands, named-from, stream-sound, streams-sound, schema-sound}
-use Rattle.schema.proofs.Counted.{every-of-map, none-made, none-at, distinct-made, distinct-at}
+use Rattle.schema.proofs.Counted.{none-made, none-at, distinct-made, distinct-at}
 use Rattle.schema.proofs.FreeNames.{name-one}
 use Rattle.schema.proofs.Places.{named-at, filled-most}
 use Rattle.schema.proofs.Tests.{streams-most, width-none}

@@ -10,14 +10,14 @@ use lib.ListN.{length, getD, replicate}
 use borrow.Author.Tests.{eq-eqb}
 use Rattle.lists.specs.Lists.{every, empty?, distinct, count-from, same-list}
 use Rattle.lists.proofs.Laws as L
-use Rattle.lists.proofs.Laws.{parts, and-l, and-r, and-both, or-l, or-r, or-cases, true-T}
+use Rattle.lists.proofs.Laws.{parts, and-l, and-r, and-both, or-l, or-r, or-cases, true-T, same-truth}
 use Rattle.lists.proofs.Counting.{every-at, every-made, every-map, map-alike, map-length}
+use Rattle.lists.proofs.Gathers.{every-of-map}
 use Rattle.syntax.specs.Grammar.{Bytes, Stream}
 use Rattle.calls.specs.Names.{stream-names}
 use Rattle.calls.specs.Validity.{free-name, valid-stream, valid-schema}
 use Rattle.text.specs.Words.{name-of}
 use Rattle.schema.specs.Schemas.{code-end, schema-size, column-place, filled, streams-in, width-in, column-in, stream-in, schema-of, zeros, named-from, stream-sound, streams-sound, schema-sound, group-tidy, columns-tidy, tidy}
-use Rattle.schema.proofs.Counted.{same-truth, every-of-map}
 use Rattle.schema.proofs.Places.{filled-most}
 use Rattle.schema.proofs.Tests.{streams-most, width-none}
 use Rattle.schema.proofs.Lookups.{stream-names-are, length-schema}

@@ -12,7 +12,7 @@ use Rattle.refusal.specs.declared.Refusal.the-variants.{Lent, Bound, Repeated, 
 use Rattle.refusal.specs.declared.Checks.{Checks}
 use Rattle.refusal.specs.Checks.{refuse, first, table}
 use Rattle.lists.specs.Lists.{All, all-nil, all-cons, every, some?, distinct, same-list}
-use Rattle.lists.proofs.Laws.{parts, true-T, and-l, and-r, T-true, all-both, all-weaken, every-all, map-same}
+use Rattle.lists.proofs.Laws.{parts, true-T, and-l, and-r, T-true, all-both, all-weaken, every-all, map-same, not-both}
 use Rattle.syntax.specs.Grammar as G
 use Rattle.syntax.specs.Grammar.{Bytes, Stream, name?, some-all, body?}
 use Rattle.syntax.specs.Limits.{max-line, short, shallow}
@@ -95,10 +95,6 @@ few-streams n = go (ltb n 4) refl
     go : (b : Bool) → ltb n 4 ≡ b → leb 4 n ≡ not b
     go true e = let h = ltb-true n 4 e in lt-leb 4 n h
     go false e = let h = ltb-false n 4 e in le-leb 4 n h
-
-pub not-both : (a b : Bool) → (not a || not b) ≡ not (a && b)
-not-both true b = refl
-not-both false b = refl
 
 -- later checks matter only where the first holds off
 three-same : {a d b e c f : Bool} → a ≡ d → (a ≡ false → b ≡ e) → (a ≡ false → c ≡ f)

@@ -9,6 +9,7 @@ use lib.ListN.{length, take, drop, getD}
 use Rattle.refusal.specs.declared.Checks.{Checks}
 use Rattle.refusal.specs.Checks.{shown}
 use Rattle.lists.specs.Lists.{every}
+use Rattle.lists.proofs.Laws.{not-both}
 use Rattle.syntax.specs.Grammar as G
 use Rattle.syntax.specs.Grammar.{Bytes, Stream}
 use Rattle.syntax.specs.Limits.{short}
@@ -27,7 +28,7 @@ use Rattle.items.proofs.NameLists.{some-names-not, some-names-empty, some-names
 use Rattle.schema.specs.Schemas.{code-free}
 use Rattle.stream_line.specs.declared.StreamLine.{StreamLine}
 use Rattle.stream_line.specs.Declaring.{unread-line, stream-made, read-line, line-read, line-of, stream-line}
-use Rattle.stream_line.proofs.Flags.{few-columns, not-both}
+use Rattle.stream_line.proofs.Flags.{few-columns}
 
 -- ---- the line of a name and columns
 

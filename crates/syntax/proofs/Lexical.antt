@@ -71,7 +71,7 @@ digits-low k n ds h = rw (T-true (ltb n 10) (lt→ltb n 10 h), digits-from)
 not-less : (n : ℕ) → 10 ≤ n → ltb n 10 ≡ false
 not-less n h = T-false (ltb n 10) (not-T (ltb n 10) (λ t. let l = ltb→lt n 10 t in omega arith))
 
-digits-high : (k n : ℕ) (ds : Bytes) → 10 ≤ n → digits-from (suc k) n ds ≡ digits-from k (n / 10) ((48 + n % 10) ∷ ds)
+pub digits-high : (k n : ℕ) (ds : Bytes) → 10 ≤ n → digits-from (suc k) n ds ≡ digits-from k (n / 10) ((48 + n % 10) ∷ ds)
 unfolding digits-from
 digits-high k n ds h = rw (not-less n h, digits-from)
 
@@ -130,7 +130,7 @@ nat-put n {rest} f =
     )
 
 -- more room changes nothing
-digits-room : (k j n : ℕ) (ds : Bytes) → n < k → n < j → digits-from k n ds ≡ digits-from j n ds
+pub digits-room : (k j n : ℕ) (ds : Bytes) → n < k → n < j → digits-from k n ds ≡ digits-from j n ds
 digits-room zero j n ds h l = absurd (omega arith)
 digits-room (suc k) zero n ds h l = absurd (omega arith)
 digits-room (suc k) (suc j) n ds h l =

@@ -1,6 +1,6 @@
 -- What stands at a place where a column may, as the code reads it.
 use mathlib.Core.Path.{_≡_, refl, sym, ap, ap₂, _∙_}
-use mathlib.Core.Bool.{Bool, true, false, _&&_, _||_, not}
+use mathlib.Core.Bool.{Bool, true, false, not}
 use mathlib.Core.Option.{none, some}
 use Prim.Native.Nat.{ℕ, _+_, _-_, _<_}
 use native.Mathlib.Omega.{arith}
@@ -8,7 +8,7 @@ use lib.Dec.{T, eqb, ltb, not-T}
 use lib.ListN.{length, drop, getD, drop-of-length-le}
 use borrow.Author.Tests.{eq-eqb, ne-eqb, ltb-true, ltb-false, not-true, not-false}
 use Rattle.lists.specs.Lists.{every, same-list}
-use Rattle.lists.proofs.Laws.{T-false, same-list→eq}
+use Rattle.lists.proofs.Laws.{T-false, same-list→eq, not-both}
 use Rattle.syntax.specs.Grammar.{Bytes, bytes, Ref, dotted, time, figure, digit, letter, alnum, name?}
 use Rattle.syntax.specs.Limits.{short, short-ref}
 use Rattle.syntax.specs.Readers.{Read, bind, ensure, lone, read-dotted, after-name, read-ref}
@@ -86,13 +86,9 @@ module _ (w l : Bytes) (t : T (name? w)) (u : T (short w)) where
 
 -- ---- each return
 
-either-not : (a b : Bool) → (not a || not b) ≡ not (a && b)
-either-not true b = refl
-either-not false b = refl
-
 two-names : (s : Bytes) (a w : Read Bytes) → dotted-of (W.name-read s (some a)) (W.name-read s (some w)) ≡ ref-read s (some (record { what = dotted (a .what) (w .what); left = w .left }))
 unfolding dotted-of W.name-read ref-read short-ref first-code second-code code-short
-two-names s a w = rw (either-not (short (a .what)) (short (w .what)))
+two-names s a w = rw (not-both (short (a .what)) (short (w .what)))
 
 module _ (s : Bytes) (at : ℕ) where
   -- where nothing is read

@@ -8,7 +8,7 @@ use lib.Dec.{T, eqb, ltb, ltb→lt, eqb→eq, eqb-refl}
 use lib.ListN.{length, getD}
 use borrow.Author.Tests.{eq-eqb, ne-eqb, eqb-true, eqb-false, lt-ltb, ltb-true, ltb-false, not-true}
 use Rattle.lists.specs.Lists.{every, some?, nth, count-from, same-list, position}
-use Rattle.lists.proofs.Laws.{and-l, and-r, and-both, or-r, or-cases, parts, true-T, T-true, position-nth, position-below, same-list→eq, same-list-refl}
+use Rattle.lists.proofs.Laws.{and-l, and-r, and-both, or-r, or-cases, parts, true-T, T-true, position-nth, position-below, same-list→eq, same-list-refl, same-truth}
 use Rattle.syntax.specs.Grammar.{Bytes, bytes, Ref, dotted, time, figure, digit, letter, alnum, name?, ref?}
 use Rattle.syntax.specs.Limits.{max-streams, max-columns, short, short-ref}
 use Rattle.model.specs.Queries as Q
@@ -20,7 +20,6 @@ use Rattle.text.specs.Words.{code-from, code-of, name-of}
 use Rattle.text.proofs.Codes.{name-back, code-above, code-below, names-same}
 use Rattle.items.specs.Items.{code-short}
 use Rattle.schema.specs.Schemas.{code-end, column-place, streams-in, width-in, column-in, schema-of, schema-sound}
-use Rattle.schema.proofs.Counted.{same-truth}
 use Rattle.schema.proofs.FreeNames.{name-one}
 use Rattle.schema.proofs.Lookups.{stream-names-are, length-schema, columns-are, length-columns}
 use Rattle.schema.proofs.Tests.{streams-most}

@@ -152,3 +152,9 @@ module _ (c : Class) (s : Bytes) (at : ℕ) {e : ℕ} (q : e ≡ run-end c s at)
   run-room h =
       let l = ap length (run-past (class-of c) (drop at s)) in
       omega (arith, length-append (run (class-of c) (drop at s)) (past (class-of c) (drop at s)), length-drop at s)
+
+-- ---- places
+
+-- what is left from a place on tells the place
+pub place-left : (s : Bytes) (p : ℕ) → p ≤ length s → length s - length (drop p s) ≡ p
+place-left s p h = omega (arith, length-drop p s)

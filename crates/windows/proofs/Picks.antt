@@ -11,6 +11,7 @@ use borrow.Author.Tests.{not-true, not-false}
 use Rattle.lists.specs.Lists.{select, every, gather, count-from}
 use Rattle.lists.proofs.Laws.{All, all-nil, all-cons, all-map, all-any, all-select, select-all, gather-append}
 use Rattle.lists.proofs.Counting.{count-done, map-length}
+use Rattle.lists.proofs.Gathers.{select-fewer}
 use Rattle.syntax.specs.Grammar.{Fn}
 use Rattle.model.specs.Queries.{Row}
 use Rattle.model.specs.Answers.{row-cells}
@@ -22,7 +23,7 @@ use Rattle.windows.specs.Lent.{events-sound, answers-in, passing-row, pi
 use Rattle.windows.specs.declared.Event.{Event}
 use Rattle.windows.specs.declared.Windows.{Windows}
 use Rattle.windows.specs.declared.Place.{Place}
-use Rattle.windows.proofs.Skips.{select-few, answers-all, sought-run, sought-none-left}
+use Rattle.windows.proofs.Skips.{answers-all, sought-run, sought-none-left}
 
 -- ---- two cells
 
@@ -114,7 +115,7 @@ module _ (ws ks : List ℕ) where
 
   picked-few : (rs : List Row) → length (picked-rows ws ks rs) ≤ length rs
   unfolding picked-rows
-  picked-few rs = select-few (passing-row ws ks) rs
+  picked-few rs = select-fewer (passing-row ws ks) rs
 
   -- no condition applies
   pub picked-all : length ks ≡ 0 → (rs : List Row) → picked-rows ws ks rs ≡ rs

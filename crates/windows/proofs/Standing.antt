@@ -1,12 +1,13 @@
 -- The figures of rows are those of the events that stand for them.
-use mathlib.Core.Path.{_≡_, refl, sym, ap, ap₂, _∙_}
-use mathlib.Core.List.{List, [], _∷_, _++_, map}
+use mathlib.Core.Path.{_≡_, sym, ap, _∙_}
+use mathlib.Core.List.{List, _++_, map, map-map}
 use mathlib.Core.Bool.{true}
 use mathlib.Core.Option.{some}
 use Prim.Native.Nat.{ℕ, _+_, _*_}
 use lib.IntN.{ℤ}
-use Rattle.lists.specs.Lists.{select, gather}
+use Rattle.lists.specs.Lists.{select}
 use Rattle.lists.proofs.Laws.{select-map}
+use Rattle.lists.proofs.Gathers.{gather-alike}
 use Rattle.syntax.specs.Grammar.{Fn}
 use Rattle.model.specs.Queries.{Row}
 use Rattle.model.specs.Aggregates.{in-window, window, figures-of}
@@ -17,15 +18,6 @@ use Rattle.windows.specs.Sums.{one, sum-of, sum-row, Stand, row-event}
 use Rattle.windows.specs.declared.Event.{Event}
 use Rattle.windows.specs.declared.Windows.{Windows}
 use Rattle.windows.proofs.Sums.{event-sum, answer-sum}
-
-pub map-map : {A B C : Type 0} (g : B → C) (h : A → B) (xs : List A) → map g (map h xs) ≡ map (λ x. g (h x)) xs
-map-map g h [] = refl
-map-map g h (x ∷ xs) = ap (λ l. g (h x) ∷ l) (map-map g h xs)
-
-pub gather-alike : {A B : Type 0} (g h : A → List B) (xs : List A) → ((x : A) → g x ≡ h x) → gather g xs ≡ gather h xs
-unfolding gather
-gather-alike g h [] e = refl
-gather-alike g h (x ∷ xs) e = ap₂ _++_ (e x) (gather-alike g h xs e)
 
 module _ (f : Fn) (value : Row → ℤ) (rs : List Row) (es : List Event) (s : Stand f value rs es) where
   stand-window : (size offset k : ℕ) → event-window f size offset es k ≡ window f value size offset rs k

@@ -1,6 +1,6 @@
 -- `number_at`: past the last there is none.
 use borrow.Author.Needs.{needs}
-use Rattle.comparisons.proofs.Entries.{number-none}
+use Rattle.lists.proofs.Counting.{number-none}
 use Rattle.comparisons.proofs.number_at.Statement.{statement}
 use Rattle.comparisons.proofs.number_at.Tie as tie
 

@@ -1,5 +1,5 @@
 use borrow.Author.Needs.{needs}
-use Rattle.routes.proofs.Listed.{number-none}
+use Rattle.lists.proofs.Counting.{number-none}
 use Rattle.evaluate.proofs.number_at.Statement.{statement}
 use Rattle.evaluate.proofs.number_at.Tie as tie
 

@@ -1,5 +1,5 @@
+use Rattle.conditions.proofs.Leaves.{undeclared-ends}
 -- `undeclared`: by the left term, and else by the right one.
-use Rattle.query_read.proofs.Leaves.{undeclared-ends}
 use Rattle.query_read.proofs.undeclared.Statement.{statement}
 use Rattle.query_read.proofs.undeclared.Tie as tie
 

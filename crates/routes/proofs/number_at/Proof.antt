@@ -1,6 +1,6 @@
 -- `number_at`: past the last there is none.
 use borrow.Author.Needs.{needs}
-use Rattle.routes.proofs.Listed.{number-none}
+use Rattle.lists.proofs.Counting.{number-none}
 use Rattle.routes.proofs.number_at.Statement.{statement}
 use Rattle.routes.proofs.number_at.Tie as tie
 
