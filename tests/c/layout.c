@@ -86,6 +86,12 @@ static void amounts(void) {
     l.rows[0] = MALTZIRU_ROWS + 1;
     who.entries = 0;
     CHECK(ask(1, W, l, N, T, V, who, "(in a)", 64).refusal == MALTZIRU_LENT);
+    /* a line of one byte more, and a seventh column */
+    static char line[MALTZIRU_LINE + 2];
+    memset(line, 'a', sizeof line - 1);
+    CHECK(maltziru_clock_line(maltziru_fresh(), text(line), MALTZIRU_LINE).refusal == MALTZIRU_MALFORMED);
+    CHECK(maltziru_clock_line(maltziru_fresh(), text(line), MALTZIRU_LINE + 1).refusal == MALTZIRU_BOUND);
+    CHECK(stream("(stream b a b c d e f g)") == MALTZIRU_BOUND && stream("(stream b a b c d e f)") == 0);
     /* nothing lent at all */
     CHECK(maltziru_stream(NULL, 0, NULL, 0) == MALTZIRU_LENT);
     CHECK(maltziru_ask(NULL, 0, NULL, 0, maltziru_fresh(), NULL, 0, NULL, 0, NULL, 0, maltziru_nobody(), NULL, 0, NULL, 0).refusal == MALTZIRU_LENT);
