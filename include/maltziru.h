@@ -87,7 +87,7 @@ typedef uint64_t maltziru_len;
 
 /* ---- streams: `names` are MALTZIRU_NAMES numbers, all 0 at first */
 
-/* A line `(stream S C ..)`. Refusals 12, 1, 3, 2, 6, 4.
+/* A line `(stream S C ..)`. Refusals 12, 1, 3, 6, 4.
  * Accepted: the names hold the new stream's in its places, all others are as they were. Refused: all are as they were. */
 uint32_t maltziru_stream(uint64_t *names, maltziru_len names_len, const uint8_t *line, maltziru_len line_len);
 
