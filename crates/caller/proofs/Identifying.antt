@@ -33,7 +33,7 @@ use Rattle.caller.proofs.LineChecks.{line-first}
 
 -- ---- what an outcome holds
 
-outcome-said : (v : Verdict) (new old : Caller) → outcome v new old .verdict ≡ v
+pub outcome-said : (v : Verdict) (new old : Caller) → outcome v new old .verdict ≡ v
 unfolding outcome
 outcome-said Accepted new old = refl
 outcome-said (Refused f) new old = refl

@@ -73,7 +73,7 @@ made c s t v a ok h e kept done = go (told v (call-checks (record-of s) c) said)
 
 -- ---- calls on the ledger alone
 
-entered-verdict : (v : Verdict) (new old : Ledger) → entered v new old .verdict ≡ v
+pub entered-verdict : (v : Verdict) (new old : Ledger) → entered v new old .verdict ≡ v
 unfolding entered
 entered-verdict Accepted new old = refl
 entered-verdict (Refused f) new old = refl

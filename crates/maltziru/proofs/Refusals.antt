@@ -21,10 +21,12 @@ use Rattle.record_lines.specs.Calls.{clock-line-call, clear-line-call}
 use Rattle.caller.specs.declared.Caller.{Caller}
 use Rattle.caller.specs.declared.Identified.{Identified}
 use Rattle.caller.specs.Lines.{outcome, identified}
+use Rattle.caller.proofs.Identifying.{outcome-said}
 use Rattle.grant.specs.declared.Grant.{Grant}
 use Rattle.grant.proofs.Catalogues.{catalogue-length}
 use Rattle.grant_line.specs.Granting.{words-after, grants-after}
 use Rattle.history.specs.Fixtures.{Store, with-memory, with-grants, with-caller}
+use Rattle.history.proofs.Steps.{entered-verdict}
 use Rattle.maltziru.specs.declared.LedgerReply.{LedgerReply}
 use Rattle.maltziru.specs.declared.GrantReply.{GrantReply}
 use Rattle.maltziru.specs.declared.CallerReply.{CallerReply}
@@ -36,28 +38,18 @@ use Rattle.maltziru.proofs.Lists.{kept-after}
 
 -- ---- the number that is returned
 
-entered-says : (v : Verdict) (new old : Ledger) → entered v new old .verdict ≡ v
-unfolding entered
-entered-says Accepted new old = refl
-entered-says (Refused f) new old = refl
-
-outcome-says : (v : Verdict) (new old : Caller) → outcome v new old .verdict ≡ v
-unfolding outcome
-outcome-says Accepted new old = refl
-outcome-says (Refused f) new old = refl
-
 pub says-first : {e : Event} {s t : Store} {n : ℕ} → Called e s t n → (e ≡ query → ⊥) → n ≡ first-number (table-of e s)
 unfolding first-number table-of clock-call clear-call clock-line-call clear-line-call identified caller-said
 says-first (C.stream-called c) o = c .says ∙ ap said (c .call .said)
-says-first (C.clock-called {s} {t} {r} h) o = same-number (clock-call (s .memory .ledger) t) h ∙ ap said (entered-says _ _ _)
+says-first (C.clock-called {s} {t} {r} h) o = same-number (clock-call (s .memory .ledger) t) h ∙ ap said (entered-verdict _ _ _)
 says-first (C.row-called c) o = c .says ∙ ap said (c .call .said)
-says-first (C.clear-called {s} {r} h) o = same-number (clear-call (s .memory .ledger)) h ∙ ap said (entered-says _ _ _)
-says-first (C.clock-line-called {s} {bs} {r} h) o = same-number (clock-line-call (s .memory .ledger) bs) h ∙ ap said (entered-says _ _ _)
+says-first (C.clear-called {s} {r} h) o = same-number (clear-call (s .memory .ledger)) h ∙ ap said (entered-verdict _ _ _)
+says-first (C.clock-line-called {s} {bs} {r} h) o = same-number (clock-line-call (s .memory .ledger) bs) h ∙ ap said (entered-verdict _ _ _)
 says-first (C.row-line-called c) o = c .says ∙ ap said (c .call .said)
-says-first (C.clear-line-called {s} {bs} {r} h) o = same-number (clear-line-call (s .memory .ledger) bs) h ∙ ap said (entered-says _ _ _)
+says-first (C.clear-line-called {s} {bs} {r} h) o = same-number (clear-line-call (s .memory .ledger) bs) h ∙ ap said (entered-verdict _ _ _)
 says-first (C.grant-called {s} {bs} {ws} {r} c) o =
     ap (λ (x : GrantReply). x .refusal) (c .says) ∙ ap said (c .call .said _ (catalogue-length (s .memory .names) (s .grants) (s .words)))
-says-first (C.caller-called {s} {bs} {r} h) o = ap (λ (x : CallerReply). x .refusal) h ∙ ap said (outcome-says _ _ _)
+says-first (C.caller-called {s} {bs} {r} h) o = ap (λ (x : CallerReply). x .refusal) h ∙ ap said (outcome-said _ _ _)
 says-first (C.ask-called gs ws w bs cells h) o = absurd (o refl)
 says-first (C.line-called gs ws w n bs out h) o = absurd (o refl)
 
@@ -107,18 +99,18 @@ unfolding with-memory with-grants with-caller clock-call clear-call clock-line-c
 refused-stays (C.stream-called {s} c) ne = ap (λ ns. with-memory s (with-names (s .memory) ns)) (c .call .left ∙ same-names (c .verdict) _ _ (other (c .says) ne))
 refused-stays (C.clock-called {s} {t} {r} h) ne =
     let e = clock-call (s .memory .ledger) t in
-    ledger-stays s (sym (same-ledger e h) ∙ same-entered _ _ _ (other (same-number e h ∙ ap said (entered-says _ _ _)) ne))
+    ledger-stays s (sym (same-ledger e h) ∙ same-entered _ _ _ (other (same-number e h ∙ ap said (entered-verdict _ _ _)) ne))
 refused-stays (C.row-called {s} c) ne = ap (λ m. with-memory s m) (c .call .left ∙ same-memory (c .verdict) _ _ (other (c .says) ne))
 refused-stays (C.clear-called {s} {r} h) ne =
     let e = clear-call (s .memory .ledger) in
-    ledger-stays s (sym (same-ledger e h) ∙ same-entered _ _ _ (other (same-number e h ∙ ap said (entered-says _ _ _)) ne))
+    ledger-stays s (sym (same-ledger e h) ∙ same-entered _ _ _ (other (same-number e h ∙ ap said (entered-verdict _ _ _)) ne))
 refused-stays (C.clock-line-called {s} {bs} {r} h) ne =
     let e = clock-line-call (s .memory .ledger) bs in
-    ledger-stays s (sym (same-ledger e h) ∙ same-entered _ _ _ (other (same-number e h ∙ ap said (entered-says _ _ _)) ne))
+    ledger-stays s (sym (same-ledger e h) ∙ same-entered _ _ _ (other (same-number e h ∙ ap said (entered-verdict _ _ _)) ne))
 refused-stays (C.row-line-called {s} c) ne = ap (λ m. with-memory s m) (c .call .left ∙ same-memory (c .verdict) _ _ (other (c .says) ne))
 refused-stays (C.clear-line-called {s} {bs} {r} h) ne =
     let e = clear-line-call (s .memory .ledger) bs in
-    ledger-stays s (sym (same-ledger e h) ∙ same-entered _ _ _ (other (same-number e h ∙ ap said (entered-says _ _ _)) ne))
+    ledger-stays s (sym (same-ledger e h) ∙ same-entered _ _ _ (other (same-number e h ∙ ap said (entered-verdict _ _ _)) ne))
 refused-stays (C.grant-called {s} {bs} {ws} {r} c) ne =
     let v = c .granted .verdict in
     let ne′ : said v ≡ 0 → ⊥ = other (ap (λ (x : GrantReply). x .refusal) (c .says)) ne in
@@ -126,6 +118,6 @@ refused-stays (C.grant-called {s} {bs} {ws} {r} c) ne =
     ap (λ (x : GrantReply). grants-kept (x .refusal) (s .grants) (x .grant)) (c .says) ∙ kept-after v (s .grants) (c .granted .grant) ∙ same-grants v (s .grants) _ ne′ in
     ap (λ gs. with-grants s gs ws) k ∙ ap (λ l. with-grants s (s .grants) l) (c .call .left ∙ same-words v _ _ ne′)
 refused-stays (C.caller-called {s} {bs} {r} h) ne =
-    ap (λ w. with-caller s w) (ap (λ (x : CallerReply). x .caller) h ∙ same-outcome _ _ _ (other (ap (λ (x : CallerReply). x .refusal) h ∙ ap said (outcome-says _ _ _)) ne))
+    ap (λ w. with-caller s w) (ap (λ (x : CallerReply). x .caller) h ∙ same-outcome _ _ _ (other (ap (λ (x : CallerReply). x .refusal) h ∙ ap said (outcome-said _ _ _)) ne))
 refused-stays (C.ask-called gs ws w bs cells h) ne = refl
 refused-stays (C.line-called gs ws w n bs out h) ne = refl

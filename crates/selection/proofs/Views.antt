@@ -1,43 +1,26 @@
 -- The rows that conditions select, with the caller's values put into the conditions.
-use mathlib.Core.Path.{_≡_, refl, sym, ap, ap₂, _∙_}
+use mathlib.Core.Path.{_≡_, refl, sym, ap₂, _∙_}
 use mathlib.Core.List.{List, [], _∷_, map}
-use mathlib.Core.Bool.{Bool, true, false, _&&_, _||_, not, cond}
+use mathlib.Core.Bool.{Bool, true, false, _&&_, not}
 use Prim.Native.Nat.{ℕ}
 use lib.IntN.{ℤ}
 use borrow.Author.Tests.{not-true, not-false}
-use Rattle.lists.specs.Lists.{every, some?}
-use Rattle.syntax.specs.Grammar.{Cond, test, all, any, neg, Conds, last, more}
+use Rattle.lists.specs.Lists.{every}
+use Rattle.syntax.specs.Grammar.{Cond}
 use Rattle.model.specs.Queries.{Compare}
-use Rattle.model.specs.Conditions.{true-of, all-true, any-true, map-cond, map-conds}
+use Rattle.model.specs.Conditions.{true-of}
 use Rattle.model.specs.Meaning.{compare-holds, holds}
 use Rattle.model.specs.Grants.{fill, fill-compare}
+use Rattle.model.proofs.Conditions.{true-map}
 use Rattle.nodes.specs.Nodes.{conditions-of}
 use Rattle.rows.specs.declared.Rows.{Rows}
-use Rattle.rows.specs.Masks.{rows-of, no-rows}
+use Rattle.rows.specs.Masks.{no-rows}
 use Rattle.rows.proofs.Masks.{rows-alike}
 use Rattle.selection.specs.declared.Scope.{Scope}
 use Rattle.selection.specs.Scopes.{scope-fits, scope-columns, scope-row, profile-in, cond-at, holds-at, meets, selected, selected-all}
 use Rattle.selection.specs.Evaluating.{test-at, passing, all-passing, list-passing, list-at}
 
 -- ---- to put values into the comparisons of a condition is to put them in where each is tried
-
-module _ {A B : Type 0} (p : B → Bool) (f : A → B) where
-  mutual
-    unfolding true-of map-cond
-
-    pub true-map : (c : Cond A) → true-of p (map-cond f c) ≡ true-of (λ a. p (f a)) c
-    true-map (test a) = refl
-    true-map (all cs) = all-map cs
-    true-map (any cs) = any-map cs
-    true-map (neg c) = ap not (true-map c)
-
-    all-map : (cs : Conds A) → all-true p (map-conds f cs) ≡ all-true (λ a. p (f a)) cs
-    all-map (last c) = true-map c
-    all-map (more c cs) = ap₂ _&&_ (true-map c) (all-map cs)
-
-    any-map : (cs : Conds A) → any-true p (map-conds f cs) ≡ any-true (λ a. p (f a)) cs
-    any-map (last c) = true-map c
-    any-map (more c cs) = ap₂ _||_ (true-map c) (any-map cs)
 
 module _ (sc : Scope) (ts : List ℕ) (vs : List ℤ) (ps : List ℕ) where
   filled-holds : (i : ℕ) (c : Cond Compare) → true-of (test-at sc ts vs ps i) c ≡ holds-at sc ts vs (fill (profile-in ps) c) i
