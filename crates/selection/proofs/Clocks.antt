@@ -2,9 +2,10 @@
 use mathlib.Core.Path.{_≡_, refl, sym, ap, ap₂, _∙_}
 use mathlib.Core.List.{List}
 use mathlib.Core.Bool.{Bool, true, false, cond}
-use Prim.Native.Nat.{ℕ, _+_, _*_, _-_, _<_, min, max}
+use Prim.Native.Nat.{ℕ, _+_, _*_, _-_, _/_, _%_, _<_, min, max}
 use native.Mathlib.Decide.{decLt}
 use native.Mathlib.Omega.{arith}
+use lib.Bits.{bitAnd, bitOr, and-mask, or-zero-r, or-add-and}
 use lib.IntN.{ℤ, pos}
 use lib.Dec.{ltb}
 use lib.ListN.{getD, take, drop}
@@ -51,6 +52,22 @@ module _ (x y : ℤ) (w : ℕ) (fx : SFits w32 x) (fy : SFits w32 y) where
   less-nothing e = nothing ∙ weighed (compares lt x y) false (sym (less-test x y fx fy refl refl) ∙ e)
 
 pub ruleset pair-ends = (same-whole, same-nothing, less-whole, less-nothing)
+
+-- ---- at most the highest
+
+pub capped-is : (t : ℕ) → t < 4294967296 → bitAnd (bitOr t (t / 2147483648 * 4294967295)) 2147483647 ≡ min t top
+capped-is t h = and-mask (bitOr t (t / 2147483648 * 4294967295)) 31 ∙ go (decLt t 2147483648)
+  where
+    go : Dec (t < 2147483648) → bitOr t (t / 2147483648 * 4294967295) % 2147483648 ≡ min t top
+    go (yes k) =
+        let z : t / 2147483648 ≡ 0 = omega arith in
+        rw (z, or-zero-r t) (omega arith)
+    go (no k) =
+        let z : t / 2147483648 ≡ 1 = omega arith in
+        let m = and-mask t 32 in
+        let a = or-add-and t 4294967295 in
+        let o : bitOr t 4294967295 ≡ 4294967295 = omega arith in
+        rw (z, o) (omega arith)
 
 -- ---- the later of two
 

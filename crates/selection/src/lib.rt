@@ -180,14 +180,12 @@ fn settled(head: u32, x: Cell, y: Cell, n: u32) -> Rows
 
 // ---- two sides compared
 
-// A time, at most the highest.
+// A time, at most the highest. Without a branch, so that rows are taken four at once.
 fn capped(t: u32) -> u32
     ensures { λ r. ⌜ r ≡ min t top ⌝ }
 {
-    if Time::TOP < t {
-        return Time::TOP;
-    }
-    t
+    let bits = t / 2147483648 * 4294967295;
+    (t | bits) & Time::TOP
 }
 
 // The later of a row's time and another.
@@ -356,20 +354,20 @@ fn by_clock(head: u32, low: Cell, times: &[u32], from: u32, values: &[i32], p: u
     requires { ⌜ (from ≤ 384) × (places-size ≤ length (now times)) × (p < column-end) × (values-size ≤ length (now values)) ⌝ }
     ensures { λ r. ⌜ r ≡ rows-of (relate head (clocked (low .v) (now (times .entry)) from) (strip (now (values .entry)) p max-columns)) 0 n ⌝ }
 {
+    if head == 5 {
+        return above_times(low, times, from, values, p, n);
+    }
+    if head == 3 {
+        return below_times(low, times, from, values, p, n);
+    }
     if head == 1 {
         return same_times(low, times, from, values, p, n);
     }
     if head == 2 {
         return Rows::first(n).flip(same_times(low, times, from, values, p, n));
     }
-    if head == 3 {
-        return below_times(low, times, from, values, p, n);
-    }
     if head == 4 {
         return Rows::first(n).flip(above_times(low, times, from, values, p, n));
-    }
-    if head == 5 {
-        return above_times(low, times, from, values, p, n);
     }
     Rows::first(n).flip(below_times(low, times, from, values, p, n))
 }
