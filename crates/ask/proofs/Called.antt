@@ -25,9 +25,9 @@ use Rattle.ask.specs.declared.Told.{Told}
 use Rattle.ask.specs.Replies.{refused-with, Replies}
 use Rattle.ask.specs.Cells.{run-reply, Ready}
 use Rattle.ask.specs.Lines.{print-reply, Printable}
-use Rattle.ask.specs.Asking.{Prepared, Answers, Lines}
+use Rattle.ask.specs.Asking.{Prepared, Answers, Lines, RouteLines}
 use Rattle.ask.proofs.Passed.{with-lent}
-use Rattle.ask.proofs.Replied.{text-refused, text-ready, text-answered, line-refused, line-ready, line-answered}
+use Rattle.ask.proofs.Replied.{text-refused, text-ready, text-answered, line-refused, line-ready, line-answered, line-numbered}
 
 -- ---- what may be lent
 
@@ -96,3 +96,13 @@ module _ (m : Memory) (ws : List ℕ) (who : Caller) (t : Told) (x : Opened) {b 
           shown = λ spare bs form gs text opened. line-answered m ws who t spare bs form gs text opened may told number out e
               (subst (λ l. Replies (print-reply (record { names = m .names; own = t .words; granted = ws; profile = l; forms = query-forms (t .query) }) (x .opens) (t .needs) number out) out out′ r) g (rw (toZ-ofZ w64 number f) at h));
         }
+
+-- ---- and the number that the text has
+
+pub lines-numbered : (m : Memory) (ws : List ℕ) (who : Caller) (t : Told) (x : Opened) (out : Bytes) → SFits w64 (t .number) → {out′ : Bytes} {r : Reply} → Lines m ws who t x (toZ w64 (ofZ w64 (t .number))) out out′ r
+    → RouteLines m ws who t x out out′ r
+lines-numbered m ws who t x out f {out′} {r} h =
+    record {
+      shown = λ spare bs o gs read opened.
+          subst (λ y. Replies y out out′ r) (line-numbered m ws who t spare bs gs opened out o read) (subst (λ (n : ℤ). Lines m ws who t x n out out′ r) (toZ-ofZ w64 (t .number) f) h .shown spare bs _ gs (read .text) opened);
+    }

@@ -11,6 +11,7 @@ pub mod Evaluable
 pub mod Accepted
 pub mod Cells
 pub mod Passed
+pub mod Numbered
 pub mod Replied
 pub mod Called
 pub mod Outer

@@ -172,7 +172,7 @@ module _ (m : Memory) (ws : List ℕ) (who : Caller) (t : Told) (spare : ℕ) (b
     both : T (memory-sound m && x .sound)
     both = and-l (memory-sound m && x .sound) _ (subst T may sound)
 
-    front-passes : first front ≡ none
+    pub front-passes : first front ≡ none
     front-passes = not-first (not b) Lent front none-fails .1
 
     -- its text has a form

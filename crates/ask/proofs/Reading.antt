@@ -1,4 +1,4 @@
--- What `ask` and `line` do alike with the slice of grants: they read the text, take what it asks, and open the grants by it. All that is known of the functions they call is their contracts.
+-- What the calls do alike with the slice of grants: they read the text, take what it asks, and open the grants by it. All that is known of the functions they call is their contracts.
 use mathlib.Core.Path.{_≡_}
 use Prim.Native.Nat.{ℕ}
 use mathlib.Core.List.{List, [], _∷_}
@@ -38,16 +38,24 @@ use Rattle.catalogue.specs.Opened.{opened-in}
 use Rattle.catalogue.specs.declared.Opened.{Opened}
 use Rattle.catalogue.proofs.open_all as opens
 use Rattle.ask.specs.declared.Told.{Told}
-use Rattle.ask.specs.Texts.{QueryRead}
+use Rattle.ask.specs.Texts.{QueryRead, AskRead, LineRead}
 use Rattle.ask.proofs.Told as D
 use Rattle.ask.proofs.Told.Laws as D′
 use Rattle.ask.proofs.read_query as reads
+use Rattle.ask.proofs.read_ask as reads-ask
+use Rattle.ask.proofs.read_line as reads-line
 use Rattle.ask.proofs.asks as wants
 
 module _ {M : Type 1} (𝓤 : URA M) (H : Heap 𝓤) (A : Atoms 𝓤) (mem : Memory → SProp 𝓤) (run : Routine → Fun 𝓤) where
   -- the contracts that the proofs cite
   abbrev pub Read : Contract 𝓤
   Read = tripleOf 𝓤 H A reads.signature (reads.spec 𝓤 H A mem run)
+
+  abbrev pub ReadAsk : Contract 𝓤
+  ReadAsk = tripleOf 𝓤 H A reads-ask.signature (reads-ask.spec 𝓤 H A mem run)
+
+  abbrev pub ReadLine : Contract 𝓤
+  ReadLine = tripleOf 𝓤 H A reads-line.signature (reads-line.spec 𝓤 H A mem run)
 
   abbrev pub Wants : Contract 𝓤
   Wants = tripleOf 𝓤 H A wants.signature (wants.spec 𝓤 H A mem run)
@@ -82,21 +90,42 @@ module _ {M : Type 1} (𝓤 : URA M) (H : Heap 𝓤) (A : Atoms 𝓤) (W : Given
   abbrev O-bs : Fml
   O-bs = ShrSlice (named 5) κ₅ u8 .own bs (bsv ∷ [])
 
-  -- the call of `read_query`
-  abbrev pub to-read : Read 𝓤 H A mem run .Ghost
-  to-read = (((κ₅, (κ₂, tt)), (q₅, (q₂, tt)), tt, (bs, (ns, tt)), (bsv ∷ [], (nsv ∷ [], tt))), tt)
-
+  -- the call of a function that reads the text by the names
   abbrev pub read-toks : Item 𝓤
   read-toks = ‵ (flft κ₅ q₅) ⊛ ‵ (flft κ₂ q₂) ⊛ ‵ ftrue
 
-  asks-read : ent 𝓤 (⋆ 𝓤 H A (read-toks ∷ ‵ (owns (ShrSlice (named 0) κ₅ u8 ∷ ShrSlice (named 1) κ₂ u64 ∷ []) (bs, (ns, tt)) (bsv ∷ [], (nsv ∷ [], tt))) ∷ [])) (Read 𝓤 H A mem run .pre to-read)
-  asks-read = qed W (read-toks ∷ ‵ (owns (ShrSlice (named 0) κ₅ u8 ∷ ShrSlice (named 1) κ₂ u64 ∷ []) (bs, (ns, tt)) (bsv ∷ [], (nsv ∷ [], tt))) ∷ []) ∵ join ! $ frame ! $ done !
+  abbrev read-owns : Item 𝓤
+  read-owns = ‵ (owns (ShrSlice (named 0) κ₅ u8 ∷ ShrSlice (named 1) κ₂ u64 ∷ []) (bs, (ns, tt)) (bsv ∷ [], (nsv ∷ [], tt)))
+
+  goes-by : (Pre : SProp 𝓤) → ent 𝓤 (⋆ 𝓤 H A (read-toks ∷ read-owns ∷ [])) Pre → ent 𝓤 (⋆ 𝓤 H A (‵ (flft κ₅ q₅) ∷ ‵ (flft κ₂ q₂) ∷ ‵ O-bs ∷ ‵ O-ns ∷ [])) (⋆ 𝓤 H A (raw Pre ∷ ‵ O-bs ∷ ‵ O-ns ∷ []))
+  goes-by Pre asks = qed W (‵ (flft κ₅ q₅) ∷ ‵ (flft κ₂ q₂) ∷ ‵ O-bs ∷ ‵ O-ns ∷ []) ∵ move ! (2 ∷ []) $ use1 W (‵ O-bs ⊛ ‵ O-bs) (shr-slice-copy 𝓤 H A W (named 5) κ₅ u8 .twice bs (bsv ∷ [])) $ split ! $ move ! (4 ∷ []) $ use1 W (‵ O-ns ⊛ ‵ O-ns) (shr-slice-copy 𝓤 H A W (named 2) κ₂ u64 .twice ns (nsv ∷ [])) $ split ! $ nothing ! $ move ! (1 ∷ 0 ∷ []) $ fjoin ! $ move ! (2 ∷ 0 ∷ []) $ fjoin ! $ nothing ! $ move ! (5 ∷ 0 ∷ []) $ join ! $ move ! (4 ∷ 0 ∷ []) $ join ! $ use2 W (raw Pre) asks $ move ! (0 ∷ 2 ∷ 1 ∷ []) $ frame ! $ frame ! $ done !
+
+  abbrev pub to-read : Read 𝓤 H A mem run .Ghost
+  to-read = (((κ₅, (κ₂, tt)), (q₅, (q₂, tt)), tt, (bs, (ns, tt)), (bsv ∷ [], (nsv ∷ [], tt))), tt)
 
   pub goes-read : ent 𝓤 (⋆ 𝓤 H A (‵ (flft κ₅ q₅) ∷ ‵ (flft κ₂ q₂) ∷ ‵ O-bs ∷ ‵ O-ns ∷ [])) (⋆ 𝓤 H A (raw (Read 𝓤 H A mem run .pre to-read) ∷ ‵ O-bs ∷ ‵ O-ns ∷ []))
-  goes-read = qed W (‵ (flft κ₅ q₅) ∷ ‵ (flft κ₂ q₂) ∷ ‵ O-bs ∷ ‵ O-ns ∷ []) ∵ move ! (2 ∷ []) $ use1 W (‵ O-bs ⊛ ‵ O-bs) (shr-slice-copy 𝓤 H A W (named 5) κ₅ u8 .twice bs (bsv ∷ [])) $ split ! $ move ! (4 ∷ []) $ use1 W (‵ O-ns ⊛ ‵ O-ns) (shr-slice-copy 𝓤 H A W (named 2) κ₂ u64 .twice ns (nsv ∷ [])) $ split ! $ nothing ! $ move ! (1 ∷ 0 ∷ []) $ fjoin ! $ move ! (2 ∷ 0 ∷ []) $ fjoin ! $ nothing ! $ move ! (5 ∷ 0 ∷ []) $ join ! $ move ! (4 ∷ 0 ∷ []) $ join ! $ use2 W (raw (Read 𝓤 H A mem run .pre to-read)) asks-read $ move ! (0 ∷ 2 ∷ 1 ∷ []) $ frame ! $ frame ! $ done !
+  goes-read = goes-by (Read 𝓤 H A mem run .pre to-read) (qed W (read-toks ∷ read-owns ∷ []) ∵ join ! $ frame ! $ done !)
 
   pub read-said : (t : Told) → ent 𝓤 (ensured 𝓤 H A reads.ended (reads.clauses 𝓤 H A mem run) (κ₅, (κ₂, tt)) (bs, (ns, tt)) tt t) (fact 𝓤 (QueryRead (ns .now) (bs .now) t))
   read-said t = exE 𝓤 _ (λ zs. snd∗ 𝓤 (sem 𝓤 H A (lasts reads.ended (κ₅, (κ₂, tt)) (bs, (ns, tt)) zs)) (fact 𝓤 (QueryRead (ns .now) (bs .now) t)))
+
+  abbrev pub to-read-ask : ReadAsk 𝓤 H A mem run .Ghost
+  to-read-ask = (((κ₅, (κ₂, tt)), (q₅, (q₂, tt)), tt, (bs, (ns, tt)), (bsv ∷ [], (nsv ∷ [], tt))), tt)
+
+  pub goes-read-ask : ent 𝓤 (⋆ 𝓤 H A (‵ (flft κ₅ q₅) ∷ ‵ (flft κ₂ q₂) ∷ ‵ O-bs ∷ ‵ O-ns ∷ [])) (⋆ 𝓤 H A (raw (ReadAsk 𝓤 H A mem run .pre to-read-ask) ∷ ‵ O-bs ∷ ‵ O-ns ∷ []))
+  goes-read-ask = goes-by (ReadAsk 𝓤 H A mem run .pre to-read-ask) (qed W (read-toks ∷ read-owns ∷ []) ∵ join ! $ frame ! $ done !)
+
+  pub read-ask-said : (t : Told) → ent 𝓤 (ensured 𝓤 H A reads-ask.ended (reads-ask.clauses 𝓤 H A mem run) (κ₅, (κ₂, tt)) (bs, (ns, tt)) tt t) (fact 𝓤 (AskRead (ns .now) (bs .now) t))
+  read-ask-said t = exE 𝓤 _ (λ zs. snd∗ 𝓤 (sem 𝓤 H A (lasts reads-ask.ended (κ₅, (κ₂, tt)) (bs, (ns, tt)) zs)) (fact 𝓤 (AskRead (ns .now) (bs .now) t)))
+
+  abbrev pub to-read-line : ReadLine 𝓤 H A mem run .Ghost
+  to-read-line = (((κ₅, (κ₂, tt)), (q₅, (q₂, tt)), tt, (bs, (ns, tt)), (bsv ∷ [], (nsv ∷ [], tt))), tt)
+
+  pub goes-read-line : ent 𝓤 (⋆ 𝓤 H A (‵ (flft κ₅ q₅) ∷ ‵ (flft κ₂ q₂) ∷ ‵ O-bs ∷ ‵ O-ns ∷ [])) (⋆ 𝓤 H A (raw (ReadLine 𝓤 H A mem run .pre to-read-line) ∷ ‵ O-bs ∷ ‵ O-ns ∷ []))
+  goes-read-line = goes-by (ReadLine 𝓤 H A mem run .pre to-read-line) (qed W (read-toks ∷ read-owns ∷ []) ∵ join ! $ frame ! $ done !)
+
+  pub read-line-said : (t : Told) → ent 𝓤 (ensured 𝓤 H A reads-line.ended (reads-line.clauses 𝓤 H A mem run) (κ₅, (κ₂, tt)) (bs, (ns, tt)) tt t) (fact 𝓤 (LineRead (ns .now) (bs .now) t))
+  read-line-said t = exE 𝓤 _ (λ zs. snd∗ 𝓤 (sem 𝓤 H A (lasts reads-line.ended (κ₅, (κ₂, tt)) (bs, (ns, tt)) zs)) (fact 𝓤 (LineRead (ns .now) (bs .now) t)))
 
   -- the call of `asks`
   abbrev pub to-wants : Told → Val → Wants 𝓤 H A mem run .Ghost

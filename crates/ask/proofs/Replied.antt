@@ -20,7 +20,8 @@ use Rattle.calls.specs.Validity.{valid-caller}
 use Rattle.calls.specs.Replies.{written, reply, lent-after}
 use Rattle.calls.specs.Tables.{query-checks}
 use Rattle.calls.specs.Asking.{query-routes, answer, answer-checks, numbered-line, some-bytes, line-given, printed-line, line-checks, with-route}
-use Rattle.schema.specs.Schemas.{schema-of}
+use Rattle.text.specs.Words.{clamp}
+use Rattle.schema.specs.Schemas.{schema-of, schema-sound}
 use Rattle.schema.proofs.Valid as S
 use Rattle.ledger.specs.Records.{Memory, record-of, memory-sound}
 use Rattle.ledger.proofs.Soundness.{sound-parts}
@@ -47,7 +48,7 @@ use Rattle.evaluate.proofs.Meant.{Checked}
 use Rattle.ask.specs.declared.Reply.{Reply}
 use Rattle.ask.specs.declared.Told.{Told}
 use Rattle.ask.specs.Replies.{refused-with, reply-of, Replies}
-use Rattle.ask.specs.Texts.{TextRead}
+use Rattle.ask.specs.Texts.{TextRead, RouteRead}
 use Rattle.ask.specs.Cells.{Setting, run-reply, run-checks, run-cells, Ready}
 use Rattle.ask.specs.Lines.{Wording, text-at, print-checks, print-reply, Printable}
 use Rattle.ask.specs.Asking.{Lending, lent-sound, asked-table, asked, lined-table, lined}
@@ -55,7 +56,8 @@ use Rattle.ask.proofs.Accepted.{checked, asks-is, resolved-is}
 use Rattle.ask.proofs.Evaluable.{routes-ready}
 use Rattle.ask.proofs.Cells.{many, answer-is, checks-are}
 use Rattle.ask.proofs.Printed.{line-is, lines-short}
-use Rattle.ask.proofs.Passed.{with-lent, Passed, of-form, whole, whole-refused, whole-passed, passed}
+use Rattle.ask.proofs.Numbered.{clamp-twice, print-numbered}
+use Rattle.ask.proofs.Passed.{with-lent, Passed, of-form, whole, whole-refused, whole-passed, front-passes, passed}
 
 -- ---- where the checks of 12 and of the text hold off
 
@@ -246,3 +248,32 @@ module _ (m : Memory) (ws : List ℕ) (who : Caller) (t : Told) (spare : ℕ) (b
       pub line-answered : {out′ : Bytes} {r : Reply} → Replies (print-reply (record { names = m .names; own = t .words; granted = ws; profile = profile-of who; forms = query-forms (t .query) }) (x .opens) (t .needs) number out) out out′ r
           → Replies (lined spare (with-route number form) (record { memory = m; grants = gs; granted = ws; caller = who }) bs out) out out′ r
       line-answered {out′} {r} h = subst (λ y. Replies y out out′ r) (sym lined-run) h
+
+-- ---- a route's number in the text
+
+module _ (m : Memory) (ws : List ℕ) (who : Caller) (t : Told) (spare : ℕ) (bs : Bytes) (gs : List Grant) {x : Opened} (opened : x ≡ opened-in (t .needs) (m .names) gs ws (roles-of who) (profile-of who)) (out : Bytes) where
+  abbrev lends : Lending
+  lends = record { memory = m; grants = gs; granted = ws; caller = who }
+
+  abbrev may-lend : Bool
+  may-lend = memory-sound m && x .sound && caller-sound who
+
+  -- two numbers that are not told apart where the text passes
+  same-numbered : (form : Option Form) → TextRead spare form (m .names) bs t → (y z : ℤ) → (T (schema-sound (m .names)) → first (table (t .checks)) ≡ none → clamp y ≡ clamp z)
+      → lined spare (with-route y form) lends bs out ≡ lined spare (with-route z form) lends bs out
+  unfolding lined reply
+  same-numbered form text y z k = go (verdict-of (first (table (with-lent (not may-lend) (t .checks))))) refl
+    where
+      go : (v : Verdict) → v ≡ verdict-of (first (table (with-lent (not may-lend) (t .checks)))) → lined spare (with-route y form) lends bs out ≡ lined spare (with-route z form) lends bs out
+      go (Refused f) e = rw (line-stops m ws who t spare bs form gs text opened refl e y out refl, line-stops m ws who t spare bs form gs text opened refl e z out refl)
+      go Accepted e =
+          let p = passed m ws who t spare bs form gs text opened refl e refl in
+          let safe = sound-parts m (p .safe) .names in
+          lined-run m ws who t spare bs form gs text opened refl e y out refl
+          ∙ print-numbered _ (x .opens) (t .needs) y z (k safe (text .checks safe ∙ front-passes m ws who t spare bs form gs text opened refl e refl)) out
+          ∙ sym (lined-run m ws who t spare bs form gs text opened refl e z out refl)
+
+  pub line-numbered : (o : Option RouteLine) → RouteRead spare o (m .names) bs t → lined spare (with-route (t .number) (map-option (λ (l : RouteLine). l .query) o)) lends bs out ≡ lined spare o lends bs out
+  unfolding with-route map-option
+  line-numbered none r = refl
+  line-numbered (some l) r = same-numbered (some (l .query)) (r .text) (t .number) (l .route) (λ s f. ap clamp (r .number s l refl f) ∙ clamp-twice (l .route))

@@ -26,7 +26,7 @@ use Rattle.catalogue.specs.declared.Opened.{Opened}
 use Rattle.ask.specs.declared.Told.{Told}
 use Rattle.ask.specs.declared.Reply.{Reply}
 use Rattle.ask.specs.Replies.{Replies}
-use Rattle.ask.specs.Texts.{TextRead}
+use Rattle.ask.specs.Texts.{TextRead, RouteRead}
 
 -- what is lent to a query: the record, the grants with their words, and the caller
 pub record Lending : Type 0 where
@@ -81,3 +81,8 @@ pub record Answers (m : Memory) (granted : List ℕ) (who : Caller) (t : Told) (
 pub record Lines (m : Memory) (granted : List ℕ) (who : Caller) (t : Told) (x : Opened) (number : ℤ) (out out′ : Bytes) (r : Reply) : Type 0 where
   pub shown : (spare : ℕ) (bs : Bytes) (form : Option Form) (gs : List Grant) → TextRead spare form (m .names) bs t → x ≡ opened-in (t .needs) (m .names) gs granted (roles-of who) (profile-of who)
       → Replies (lined spare (with-route number form) (record { memory = m; grants = gs; granted = granted; caller = who }) bs out) out out′ r
+
+-- and with the number that the text has
+pub record RouteLines (m : Memory) (granted : List ℕ) (who : Caller) (t : Told) (x : Opened) (out out′ : Bytes) (r : Reply) : Type 0 where
+  pub shown : (spare : ℕ) (bs : Bytes) (o : Option RouteLine) (gs : List Grant) → RouteRead spare o (m .names) bs t → x ≡ opened-in (t .needs) (m .names) gs granted (roles-of who) (profile-of who)
+      → Replies (lined spare o (record { memory = m; grants = gs; granted = granted; caller = who }) bs out) out out′ r
