@@ -2,6 +2,7 @@ pub mod Ones
 pub mod Ends
 pub mod Plans
 pub mod Headers
+pub mod Keeping
 pub mod Routes
 pub mod Loops
 pub mod Most

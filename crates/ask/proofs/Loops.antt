@@ -5,15 +5,15 @@ use mathlib.Core.Bool.{Bool, true, false, true≢false}
 use Prim.Native.Nat.{ℕ, zero, suc, _+_, _*_, _-_, _^_, _≤_, _<_}
 use native.Mathlib.Nat.{sub-zero, suc-mul, mul-le-mul}
 use native.Mathlib.Numerals.{add-one}
-use native.Mathlib.Decide.{decLe}
+use native.Mathlib.Decide.{ℕ-discrete, decLe, decLt}
 use native.Mathlib.Omega.{arith}
 use mir.Syntax.{w32}
 use mir.Val.{Fits}
 use lib.IntN.{ℤ, pos}
-use lib.Dec.{leb}
+use lib.Dec.{leb, ltb}
 use lib.ListN.{length, length-append, length-set, take, drop, set, take-append-drop}
 use lib.Seq.{sets, length-sets, take-length}
-use borrow.Author.Tests.{le-leb, lt-leb}
+use borrow.Author.Tests.{le-leb, lt-leb, ltb-true}
 use Rattle.lists.specs.Lists.{All, all-nil, all-cons, gather, nth}
 use Rattle.lists.proofs.Laws.{gather-append, all-nth, all-weaken, append-nil}
 use Rattle.cells.proofs.Stored.{sets-append}
@@ -27,7 +27,8 @@ use Rattle.pairs.specs.Given.{Counted}
 use Rattle.evaluate.specs.Ways.{way-of}
 use Rattle.evaluate.specs.declared.Way.{Way}
 use Rattle.ask.proofs.Routes.{set-past}
-use Rattle.ask.specs.Cells.{Setting, way-cells, Enterable, Turns, routes-cells, Evaluable, Runnable}
+use Rattle.ask.specs.Kept.{kept-size, kept-at, Keepable, Keeping}
+use Rattle.ask.specs.Cells.{Setting, left-of, way-cells, Enterable, Turns, routes-cells, Evaluable, Runnable, Keeps}
 
 -- ---- the first of some items
 
@@ -121,6 +122,35 @@ module _ (s : Setting) (o : Open) (n : Needs) where
       next-cells : first-cells (i + 1) ≡ first-cells i ++ way-cells s y
       next-cells = ap first-cells (add-one i) ∙ first-more i inside ∙ ap (λ v. first-cells i ++ way-cells s v) (sym is)
 
+      -- ---- the rows that are kept
+
+      here : left-of s y ≡ left-of s (at-place i)
+      here = ap (left-of s) is
+
+      also : (c c′ : ℕ) → ((j : ℕ) → j < c′ → (j ≡ i → ⊥) → j < c) → {ks ks′ : List ℕ} → Keeps s o n c ks → Keeping (left-of s y) i ks ks′ → Keeps s o n c′ ks′
+      also c c′ g {ks} {ks′} u v = record { size = let a = u .size in let b = v .size in omega arith; first = λ j l. go j l (ℕ-discrete j i) }
+        where
+          go : (j : ℕ) → j < c′ → Dec (j ≡ i) → kept-at ks′ j ≡ left-of s (at-place j)
+          go j l (yes e) = rw e (v .here ∙ here)
+          go j l (no e) = v .elsewhere j e ∙ u .first j (g j l e)
+
+      pub keep-ready : {ks : List ℕ} → Keeps s o n i ks → Keepable (left-of s y) i false ks
+      keep-ready u = record { placed = let a = inside in let b = k .few in omega arith; lent = u .size; held = λ b. absurd (true≢false (sym b)) }
+
+      pub keep-more : {ks ks′ : List ℕ} → Keeps s o n i ks → Keeping (left-of s y) i ks ks′ → Keeps s o n (i + 1) ks′
+      keep-more u v = also i (i + 1) (λ j l e. below j l (decLt j i) e) u v
+        where
+          below : (j : ℕ) → j < i + 1 → Dec (j < i) → (j ≡ i → ⊥) → j < i
+          below j l (yes a) e = a
+          below j l (no a) e = absurd (e (omega arith))
+
+      module _ {c : ℕ} {ks : List ℕ} (u : Keeps s o n c ks) where
+        pub keep-known : Keepable (left-of s y) i (ltb i c) ks
+        keep-known = record { placed = let a = inside in let b = k .few in omega arith; lent = u .size; held = λ b. u .first i (ltb-true i c b) ∙ sym here }
+
+        pub keep-still : {ks′ : List ℕ} → Keeping (left-of s y) i ks ks′ → Keeps s o n c ks′
+        keep-still v = also c c (λ j l e. l) u v
+
       -- ---- counting
 
       module _ {at : ℕ} (g : Counted (suc (length (first-cells i))) room at) (l : at ≤ room) where
@@ -203,6 +233,9 @@ module _ (s : Setting) (o : Open) (n : Needs) where
 
     pub sum-fits : (i : ℕ) {at : ℕ} → at ≤ room → Fits w32 (at + (r .count - i) * (4 + most))
     sum-fits i l = let a = product i in let b = k .near in record { fits = omega arith }
+
+    pub keep-none : {ks : List ℕ} → kept-size ≤ length ks → Keeps s o n 0 ks
+    keep-none h = record { size = h; first = λ i l. absurd (omega arith) }
 
     -- ---- the ends of counting
 

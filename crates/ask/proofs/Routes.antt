@@ -1,5 +1,5 @@
 -- The cells of a route, counted or written.
-use mathlib.Core.Path.{_≡_, refl, sym, ap, _∙_}
+use mathlib.Core.Path.{_≡_, refl, sym, ap, _∙_, subst}
 use mathlib.Core.List.{List, [], _∷_, _++_}
 use mathlib.Core.Bool.{Bool, true, false, not, true≢false}
 use Prim.Native.Nat.{ℕ, suc, _+_, _*_, _/_, _≤_, _<_}
@@ -27,7 +27,8 @@ use Rattle.evaluate.specs.declared.Way.{Way}
 use Rattle.ask.specs.declared.Aim.{Aim}
 use Rattle.evaluate.specs.Suits.{Suits}
 use Rattle.ask.specs.Rows.{plan-width, Gives}
-use Rattle.ask.specs.Cells.{Setting, plan-of, way-rows, way-header, way-cells, Enterable, Turns}
+use Rattle.ask.specs.Kept.{Keepable, Keeping}
+use Rattle.ask.specs.Cells.{Setting, plan-of, left-of, way-rows, way-header, way-cells, Enterable, Turns}
 use Rattle.ask.proofs.Plans.{rows-long, width-is}
 
 module _ (s : Setting) (y : Way) where
@@ -66,6 +67,12 @@ module _ (m : Memory) (own gs ps : List ℕ) (fs : List Form) (y : Way) (write :
   pub rows-ready : {lefts rights : Rows} → lefts ≡ left-mask m (words-of own gs ps) q → rights ≡ right-mask m (words-of own gs ps) q
       → Suits m q × Masked m own gs ps q lefts rights
   rows-ready a b = (rw f (e .suits), record { left = a; right = λ j. b })
+
+  pub left-ready : {i : ℕ} {known : Bool} {ks : List ℕ} → Keepable (left-of (record { memory = m; own = own; granted = gs; profile = ps; forms = fs }) y) i known ks → Keepable (left-mask m (words-of own gs ps) q) i known ks
+  left-ready k = rw f k
+
+  pub left-kept : {lefts : Rows} → lefts ≡ left-mask m (words-of own gs ps) q → {i : ℕ} {ks ks′ : List ℕ} → Keeping lefts i ks ks′ → Keeping (left-of (record { memory = m; own = own; granted = gs; profile = ps; forms = fs }) y) i ks ks′
+  left-kept a {i} {ks} {ks′} k = subst (λ x. Keeping x i ks ks′) (a ∙ ap (left-mask m (words-of own gs ps)) f) k
 
   module _ {w n : ℕ} {cells₁ : List ℤ} (g : w ≡ plan-width q) (h : Gives (plan-width q) (plan-rows m own gs ps q) (record { write = write; at = at + 4; room = room }) cells cells₁ n) where
     wide : 1 ≤ w

@@ -2,14 +2,14 @@
 use mathlib.Core.Path.{_≡_}
 use mathlib.Core.List.{List, [], _∷_, _++_}
 use mathlib.Core.Bool.{Bool, true, false, _&&_, not, cond}
-use Prim.Native.Nat.{ℕ, suc, _+_, _*_, _/_, _≤_}
+use Prim.Native.Nat.{ℕ, suc, _+_, _*_, _/_, _≤_, _<_}
 use lib.IntN.{ℤ, pos}
 use lib.Dec.{eqb, leb, ltb}
 use lib.ListN.{length}
 use lib.Seq.{sets}
 use Rattle.refusal.specs.Checks.{Check, refuse, first}
 use Rattle.refusal.specs.declared.Refusal.the-variants.{NoRoute, ManyRoutes, NoRoom}
-use Rattle.lists.specs.Lists.{All, gather, empty?}
+use Rattle.lists.specs.Lists.{All, gather, empty?, nth}
 use Rattle.syntax.specs.Limits.{max-columns, max-routes}
 use Rattle.model.specs.Queries.{Row}
 use Rattle.model.specs.Answers.{row-cells}
@@ -24,13 +24,16 @@ use Rattle.needs.specs.declared.Needs.{Needs}
 use Rattle.routes.specs.declared.Open.{Open}
 use Rattle.routes.specs.declared.Route.{Route}
 use Rattle.routes.specs.declared.Routes.{Routes}
-use Rattle.routes.specs.Listing.{routes-in, routes-of}
+use Rattle.routes.specs.Listing.{routes-in, routes-of, no-route}
 use Rattle.plan.specs.declared.Plan.{Plan}
+use Rattle.rows.specs.declared.Rows.{Rows}
+use Rattle.sides.specs.Sides.{words-of, left-mask}
 use Rattle.pairs.specs.Given.{plan-rows, Counted}
 use Rattle.evaluate.specs.Ways.{way-of, way-plan}
 use Rattle.evaluate.specs.declared.Way.{Way}
 use Rattle.evaluate.specs.Suits.{Suits}
 use Rattle.ask.specs.Rows.{room-end, plan-width}
+use Rattle.ask.specs.Kept.{kept-size, kept-at}
 
 -- what routes are evaluated over: the record, the words of the query and of the grants, the profile, and the query's forms
 pub record Setting : Type 0 where
@@ -44,6 +47,10 @@ pub record Setting : Type 0 where
 
 abbrev pub plan-of : Setting → Way → Plan
 plan-of s y = way-plan (s .memory .names) y (s .forms)
+
+-- the rows of the only or the left stream that the plan asks for
+abbrev pub left-of : Setting → Way → Rows
+left-of s y = left-mask (s .memory) (words-of (s .own) (s .granted) (s .profile)) (plan-of s y)
 
 unfoldable pub way-rows : Setting → Way → List Row
 way-rows s y = plan-rows (s .memory) (s .own) (s .granted) (s .profile) (plan-of s y)
@@ -97,6 +104,11 @@ pub record Runnable (s : Setting) (o : Open) (n : Needs) (r : Routes) (most room
   pub limit : most ≤ room-end
   pub near : room ≤ room-end
   pub lent : room ≤ size
+
+-- the rows of the first routes are kept
+pub record Keeps (s : Setting) (o : Open) (n : Needs) (k : ℕ) (ks : List ℕ) : Type 0 where
+  pub size : kept-size ≤ length ks
+  pub first : (i : ℕ) → i < k → kept-at ks i ≡ left-of s (way-of o n (nth no-route (routes-in o n) i))
 
 -- the cells of an answer: the number of routes, then each route
 unfoldable pub run-cells : Setting → Open → Needs → List ℤ

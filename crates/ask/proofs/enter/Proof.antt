@@ -1,14 +1,14 @@
 use borrow.Author.Needs.{needs}
 use native.Mathlib.Omega.{arith}
-use Rattle.ask.proofs.Routes.{rows-ready, after-ready, route-counted, header-ready, header-fits, rows-fit, route-fits, route-written}
+use Rattle.ask.proofs.Routes.{left-ready, left-kept, rows-ready, after-ready, route-counted, header-ready, header-fits, rows-fit, route-fits, route-written}
 use Rattle.ask.proofs.enter.Statement.{statement}
 use Rattle.ask.proofs.enter.Tie as tie
 
 plan-requires : tie.Need-plan-requires
 plan-requires c κs = search needs
 
-left-requires : tie.Need-left-requires
-left-requires c κs = search needs
+left-rows-requires : tie.Need-left-rows-requires
+left-rows-requires c κs = left-ready _ _ _ _ _ _ _ _ _ (c .before .before .before .before .before .before .before .before .args .cells .now) (c .before .before .before .before .before .before .before .before .pre .0) (c .before .plan .ensures) (c .before .before .before .before .before .before .before .before .pre .1)
 
 right-requires : tie.Need-right-requires
 right-requires c κs = search needs
@@ -17,54 +17,62 @@ width-requires : tie.Need-width-requires
 width-requires c κs = search needs
 
 add-result : tie.Need-add-result
-add-result c = search needs
+add-result c = let a = c .before .before .before .before .before .before .before .before .before .before .before .before .before .pre .0 .from in let b = c .before .before .before .before .before .before .before .before .before .before .before .before .before .pre .0 .near in record { fits = omega arith }
 
 rows-requires : tie.Need-rows-requires
-rows-requires c κs = rows-ready _ _ _ _ _ _ _ _ _ (c .before .before .before .before .before .before .before .before .before .before .args .cells .now) (c .before .before .before .before .before .before .before .before .before .before .pre) (c .before .before .before .before .plan .ensures) (c .before .before .before .left .ensures) (c .before .before .right .ensures)
+rows-requires c κs = rows-ready _ _ _ _ _ _ _ _ _ (c .before .before .before .before .before .before .before .before .before .before .before .before .before .before .args .cells .now) (c .before .before .before .before .before .before .before .before .before .before .before .before .before .before .pre .0) (c .before .before .before .before .before .before .before .plan .ensures) (c .before .before .before .before .before .left-rows .ensures .0) (c .before .before .right .ensures)
 
 after-requires : tie.Need-after-requires
-after-requires c κs = after-ready _ _ _ _ _ _ _ _ _ _ (c .before .before .before .before .before .before .before .before .before .before .before .before .before .pre) (c .before .before .before .before .before .before .before .plan .ensures) (c .before .before .before .before .width .ensures) (c .before .before .rows .ensures)
+after-requires c κs = after-ready _ _ _ _ _ _ _ _ _ _ (c .before .before .before .before .before .before .before .before .before .before .before .before .before .before .before .before .before .pre .0) (c .before .before .before .before .before .before .before .before .before .before .plan .ensures) (c .before .before .before .before .width .ensures) (c .before .before .rows .ensures)
 
 same-length : tie.Need-same-length
-same-length c = search needs
-
-returns : tie.Need-returns
-returns c = route-counted _ _ _ _ _ _ _ _ _ _ (c .before .before .before .before .before .before .before .before .before .before .before .before .before .before .pre) (c .before .before .before .before .before .before .before .before .plan .ensures) (c .before .before .before .before .before .width .ensures) (c .before .before .before .rows .ensures) (c .before .if1 .taken) (c .after .ensures)
-
-put-header-requires : tie.Need-put-header-requires
-put-header-requires c κs = header-ready _ _ _ _ _ _ _ _ _ _ (c .before .before .before .before .before .before .before .before .before .before .before .before .before .before .pre) (c .before .before .before .before .before .before .before .before .plan .ensures) (c .before .before .before .before .before .width .ensures) (c .before .before .before .rows .ensures) (c .before .if1 .left)
-
-add-result-2 : tie.Need-add-result-2
-add-result-2 c = header-fits _ _ _ _ _ _ _ _ _ _ (c .before .before .before .before .before .before .before .before .before .before .before .before .before .before .before .before .pre) (c .before .before .before .before .before .before .before .before .before .before .plan .ensures) (c .before .before .before .before .before .before .before .width .ensures) (c .before .before .before .before .before .rows .ensures) (c .before .before .before .if1 .left)
-
-mul-result : tie.Need-mul-result
-mul-result c = rows-fit _ _ _ _ _ _ _ _ _ _ (c .before .before .before .before .before .before .before .before .before .before .before .before .before .before .before .before .pre) (c .before .before .before .before .before .before .before .before .before .before .plan .ensures) (c .before .before .before .before .before .before .before .width .ensures) (c .before .before .before .before .before .rows .ensures) (c .before .before .before .if1 .left)
-
-add-result-3 : tie.Need-add-result-3
-add-result-3 c = route-fits _ _ _ _ _ _ _ _ _ _ (c .before .before .before .before .before .before .before .before .before .before .before .before .before .before .before .before .pre) (c .before .before .before .before .before .before .before .before .before .before .plan .ensures) (c .before .before .before .before .before .before .before .width .ensures) (c .before .before .before .before .before .rows .ensures) (c .before .before .before .if1 .left)
+same-length c = c .before .before .before .before .before .before .before .before .before .left-rows .ensures .1 .size
 
 same-length-2 : tie.Need-same-length-2
 same-length-2 c = search needs
 
+returns : tie.Need-returns
+returns c = (route-counted _ _ _ _ _ _ _ _ _ _ (c .before .before .before .before .before .before .before .before .before .before .before .before .before .before .before .before .before .before .pre .0) (c .before .before .before .before .before .before .before .before .before .before .before .plan .ensures) (c .before .before .before .before .before .width .ensures) (c .before .before .before .rows .ensures) (c .before .if1 .taken) (c .after .ensures), left-kept _ _ _ _ _ _ _ _ _ (c .before .before .before .before .before .before .before .before .before .before .before .before .before .before .before .before .before .before .args .cells .now) (c .before .before .before .before .before .before .before .before .before .before .before .before .before .before .before .before .before .before .pre .0) (c .before .before .before .before .before .before .before .before .before .before .before .plan .ensures) (c .before .before .before .before .before .before .before .before .before .left-rows .ensures .0) (c .before .before .before .before .before .before .before .before .before .left-rows .ensures .1))
+
+put-header-requires : tie.Need-put-header-requires
+put-header-requires c κs = header-ready _ _ _ _ _ _ _ _ _ _ (c .before .before .before .before .before .before .before .before .before .before .before .before .before .before .before .before .before .before .pre .0) (c .before .before .before .before .before .before .before .before .before .before .before .plan .ensures) (c .before .before .before .before .before .width .ensures) (c .before .before .before .rows .ensures) (c .before .if1 .left)
+
+add-result-2 : tie.Need-add-result-2
+add-result-2 c = header-fits _ _ _ _ _ _ _ _ _ _ (c .before .before .before .before .before .before .before .before .before .before .before .before .before .before .before .before .before .before .before .before .pre .0) (c .before .before .before .before .before .before .before .before .before .before .before .before .before .plan .ensures) (c .before .before .before .before .before .before .before .width .ensures) (c .before .before .before .before .before .rows .ensures) (c .before .before .before .if1 .left)
+
+mul-result : tie.Need-mul-result
+mul-result c = rows-fit _ _ _ _ _ _ _ _ _ _ (c .before .before .before .before .before .before .before .before .before .before .before .before .before .before .before .before .before .before .before .before .pre .0) (c .before .before .before .before .before .before .before .before .before .before .before .before .before .plan .ensures) (c .before .before .before .before .before .before .before .width .ensures) (c .before .before .before .before .before .rows .ensures) (c .before .before .before .if1 .left)
+
+add-result-3 : tie.Need-add-result-3
+add-result-3 c = route-fits _ _ _ _ _ _ _ _ _ _ (c .before .before .before .before .before .before .before .before .before .before .before .before .before .before .before .before .before .before .before .before .pre .0) (c .before .before .before .before .before .before .before .before .before .before .before .before .before .plan .ensures) (c .before .before .before .before .before .before .before .width .ensures) (c .before .before .before .before .before .rows .ensures) (c .before .before .before .if1 .left)
+
+same-length-3 : tie.Need-same-length-3
+same-length-3 c = c .before .before .before .before .before .before .before .before .before .before .before .left-rows .ensures .1 .size
+
+same-length-4 : tie.Need-same-length-4
+same-length-4 c = search needs
+
 returns-2 : tie.Need-returns-2
-returns-2 c = route-written _ _ _ _ _ _ _ _ _ _ (c .before .before .before .before .before .before .before .before .before .before .before .before .before .before .before .before .pre) (c .before .before .before .before .before .before .before .before .before .before .plan .ensures) (c .before .before .before .before .before .before .before .width .ensures) (c .before .before .before .before .before .rows .ensures) (c .before .before .before .if1 .left) (c .before .put-header .ensures)
+returns-2 c = (route-written _ _ _ _ _ _ _ _ _ _ (c .before .before .before .before .before .before .before .before .before .before .before .before .before .before .before .before .before .before .before .before .pre .0) (c .before .before .before .before .before .before .before .before .before .before .before .before .before .plan .ensures) (c .before .before .before .before .before .before .before .width .ensures) (c .before .before .before .before .before .rows .ensures) (c .before .before .before .if1 .left) (c .before .put-header .ensures), left-kept _ _ _ _ _ _ _ _ _ (c .before .before .before .before .before .before .before .before .before .before .before .before .before .before .before .before .before .before .before .before .args .cells .now) (c .before .before .before .before .before .before .before .before .before .before .before .before .before .before .before .before .before .before .before .before .pre .0) (c .before .before .before .before .before .before .before .before .before .before .before .before .before .plan .ensures) (c .before .before .before .before .before .before .before .before .before .before .before .left-rows .ensures .0) (c .before .before .before .before .before .before .before .before .before .before .before .left-rows .ensures .1))
 
 pub enter-spec : {M : Type 1} → statement M
 enter-spec =
     tie.close
     (tie.spec
     plan-requires
-    left-requires
+    left-rows-requires
     right-requires
     width-requires
     add-result
     rows-requires
     after-requires
     same-length
+    same-length-2
     returns
     put-header-requires
     add-result-2
     mul-result
     add-result-3
-    same-length-2
+    same-length-3
+    same-length-4
     returns-2)

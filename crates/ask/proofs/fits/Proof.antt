@@ -5,25 +5,29 @@ use lib.ListN.{length}
 use borrow.Author.Needs.{needs}
 use Rattle.query.specs.Tables.{query-forms}
 use Rattle.pairs.specs.Given.{Counted}
-use Rattle.ask.proofs.Loops.{first-cells, count-ready, count-more, count-sure, count-start, count-past, count-end, sum-fits, product-fits}
+use Rattle.ask.specs.Cells.{Keeps}
+use Rattle.ask.proofs.Loops.{first-cells, keep-none, keep-ready, keep-more, count-ready, count-more, count-sure, count-start, count-past, count-end, sum-fits, product-fits}
 use Rattle.ask.proofs.fits.Statement.{statement}
 use Rattle.ask.proofs.fits.Tie as tie
 
 abbrev Inv-loop : tie.InvT-loop
-Inv-loop q n o r l names times values words granted profile most room cells₀ at₀ i₀ cells at i =
-    (i ≤ r .count) × (cells ≡ cells₀) × Counted (suc (length (first-cells (record { memory = record { ledger = l; names = names; times = times; values = values }; own = words; granted = granted; profile = profile; forms = query-forms q }) o n i))) room at
+Inv-loop q n o r l names times values words granted profile most room kept₀ cells₀ at₀ i₀ kept cells at i =
+    (i ≤ r .count) × (cells ≡ cells₀) × Counted (suc (length (first-cells (record { memory = record { ledger = l; names = names; times = times; values = values }; own = words; granted = granted; profile = profile; forms = query-forms q }) o n i))) room at × Keeps (record { memory = record { ledger = l; names = names; times = times; values = values }; own = words; granted = granted; profile = profile; forms = query-forms q }) o n i kept × (length kept ≡ length kept₀)
 
 abbrev μ-loop : tie.MeasureT-loop
-μ-loop q n o r l names times values words granted profile most room cells₀ at₀ i₀ cells at i = r .count - i
+μ-loop q n o r l names times values words granted profile most room kept₀ cells₀ at₀ i₀ kept cells at i = r .count - i
 
 loop-holds : tie.Need-loop-holds Inv-loop μ-loop
-loop-holds c = (omega arith, refl, count-start _ _ _ (c .before .before .before .before .before .pre))
+loop-holds c = (omega arith, refl, count-start _ _ _ (c .before .before .before .before .before .before .pre .0), keep-none _ _ _ (c .before .before .before .before .before .before .pre .0) (c .before .before .before .before .before .before .pre .1), refl)
 
 same-length : tie.Need-same-length Inv-loop μ-loop
-same-length c = ap length (c .before .before .before .loop .inv .1)
+same-length c = c .before .before .before .loop .inv .4
+
+same-length-2 : tie.Need-same-length-2 Inv-loop μ-loop
+same-length-2 c = ap length (c .before .before .before .loop .inv .1)
 
 returns : tie.Need-returns Inv-loop μ-loop
-returns c = (c .before .before .before .loop .inv .1, count-past _ _ _ (c .before .before .before .before .before .before .before .before .before .pre) (c .before .before .before .loop .i) (c .before .before .before .loop .inv .2) (c .if2 .taken))
+returns c = (c .before .before .before .loop .inv .1, count-past _ _ _ (c .before .before .before .before .before .before .before .before .before .before .pre .0) (c .before .before .before .loop .i) (c .before .before .before .loop .inv .2) (c .if2 .taken), c .before .before .before .loop .inv .3)
 
 sub-if3 : tie.Need-sub-if3 Inv-loop μ-loop
 sub-if3 c = search needs
@@ -32,16 +36,19 @@ add-if3 : tie.Need-add-if3 Inv-loop μ-loop
 add-if3 c = search needs
 
 mul-if3 : tie.Need-mul-if3 Inv-loop μ-loop
-mul-if3 c = product-fits _ _ _ (c .before .before .before .before .before .before .before .before .before .before .pre) (c .before .before .before .before .loop .i)
+mul-if3 c = product-fits _ _ _ (c .before .before .before .before .before .before .before .before .before .before .before .pre .0) (c .before .before .before .before .loop .i)
 
 add-if3-2 : tie.Need-add-if3-2 Inv-loop μ-loop
-add-if3-2 c = sum-fits _ _ _ (c .before .before .before .before .before .before .before .before .before .before .pre) (c .before .before .before .before .loop .i) (c .before .if2 .left)
+add-if3-2 c = sum-fits _ _ _ (c .before .before .before .before .before .before .before .before .before .before .before .pre .0) (c .before .before .before .before .loop .i) (c .before .if2 .left)
 
-same-length-2 : tie.Need-same-length-2 Inv-loop μ-loop
-same-length-2 c = ap length (c .before .before .before .before .before .loop .inv .1)
+same-length-3 : tie.Need-same-length-3 Inv-loop μ-loop
+same-length-3 c = c .before .before .before .before .before .loop .inv .4
+
+same-length-4 : tie.Need-same-length-4 Inv-loop μ-loop
+same-length-4 c = ap length (c .before .before .before .before .before .loop .inv .1)
 
 returns-2 : tie.Need-returns-2 Inv-loop μ-loop
-returns-2 c = (c .before .before .before .before .before .loop .inv .1, count-sure _ _ _ (c .before .before .before .before .before .before .before .before .before .before .before .pre) (c .before .before .before .if1 .taken) refl refl (c .before .before .before .before .before .loop .inv .2) (c .before .before .if2 .left) (c .if3 .taken))
+returns-2 c = (c .before .before .before .before .before .loop .inv .1, count-sure _ _ _ (c .before .before .before .before .before .before .before .before .before .before .before .before .pre .0) (c .before .before .before .if1 .taken) refl refl (c .before .before .before .before .before .loop .inv .2) (c .before .before .if2 .left) (c .if3 .taken), c .before .before .before .before .before .loop .inv .3)
 
 route-requires : tie.Need-route-requires Inv-loop μ-loop
 route-requires c κs = search needs
@@ -50,7 +57,7 @@ of-requires : tie.Need-of-requires Inv-loop μ-loop
 of-requires c κs = search needs
 
 enter-requires : tie.Need-enter-requires Inv-loop μ-loop
-enter-requires c κs = count-ready _ _ _ (c .before .before .before .before .before .before .before .before .before .before .before .before .before .before .pre) (c .before .before .before .before .before .before .if1 .taken) (c .before .before .route .ensures) (c .before .of .ensures) (c .before .before .before .before .before .before .before .before .loop .inv .2) (c .before .before .before .before .before .if2 .left) (c .before .before .before .before .before .before .before .before .loop .cells) (ap length (c .before .before .before .before .before .before .before .before .loop .inv .1))
+enter-requires c κs = (count-ready _ _ _ (c .before .before .before .before .before .before .before .before .before .before .before .before .before .before .before .before .pre .0) (c .before .before .before .before .before .before .before .if1 .taken) (c .before .before .before .route .ensures) (c .before .before .of .ensures) (c .before .before .before .before .before .before .before .before .before .loop .inv .2) (c .before .before .before .before .before .before .if2 .left) (c .before .before .before .before .before .before .before .before .before .loop .cells) (ap length (c .before .before .before .before .before .before .before .before .before .loop .inv .1)), keep-ready _ _ _ (c .before .before .before .before .before .before .before .before .before .before .before .before .before .before .before .before .pre .0) (c .before .before .before .before .before .before .before .if1 .taken) (c .before .before .before .route .ensures) (c .before .before .of .ensures) (c .before .before .before .before .before .before .before .before .before .loop .inv .3))
 
 add-i : tie.Need-add-i Inv-loop μ-loop
 add-i c = search needs
@@ -60,14 +67,17 @@ loop-less c = omega arith
 
 loop-again : tie.Need-loop-again Inv-loop μ-loop
 loop-again c =
-    let x = count-more _ _ _ (c .before .before .before .before .before .before .before .before .before .before .before .before .before .before .before .before .pre) (c .before .before .before .before .before .before .before .before .if1 .taken) (c .before .before .before .before .route .ensures) (c .before .before .before .of .ensures) (c .before .before .before .before .before .before .before .before .before .before .loop .inv .2) (c .before .before .before .before .before .before .before .if2 .left) (c .before .enter .ensures) in
-    (omega arith, x .0 ∙ c .before .before .before .before .before .before .before .before .before .before .loop .inv .1, x .1)
+    let x = count-more _ _ _ (c .before .before .before .before .before .before .before .before .before .before .before .before .before .before .before .before .before .before .before .before .pre .0) (c .before .before .before .before .before .before .before .before .before .before .before .if1 .taken) (c .before .before .before .before .before .before .before .route .ensures) (c .before .before .before .before .before .before .of .ensures) (c .before .before .before .before .before .before .before .before .before .before .before .before .before .loop .inv .2) (c .before .before .before .before .before .before .before .before .before .before .if2 .left) (c .before .before .before .enter .ensures .0) in
+    (omega arith, x .0 ∙ c .before .before .before .before .before .before .before .before .before .before .before .before .before .loop .inv .1, x .1, keep-more _ _ _ (c .before .before .before .before .before .before .before .before .before .before .before .before .before .before .before .before .before .before .before .before .pre .0) (c .before .before .before .before .before .before .before .before .before .before .before .if1 .taken) (c .before .before .before .before .before .before .before .route .ensures) (c .before .before .before .before .before .before .of .ensures) (c .before .before .before .before .before .before .before .before .before .before .before .before .before .loop .inv .3) (c .before .before .before .enter .ensures .1), c .before .before .before .enter .ensures .1 .size ∙ c .before .before .before .before .before .before .before .before .before .before .before .before .before .loop .inv .4)
 
-same-length-3 : tie.Need-same-length-3 Inv-loop μ-loop
-same-length-3 c = ap length (c .before .before .loop .inv .1)
+same-length-5 : tie.Need-same-length-5 Inv-loop μ-loop
+same-length-5 c = c .before .before .loop .inv .4
+
+same-length-6 : tie.Need-same-length-6 Inv-loop μ-loop
+same-length-6 c = ap length (c .before .before .loop .inv .1)
 
 returns-3 : tie.Need-returns-3 Inv-loop μ-loop
-returns-3 c = (c .before .before .loop .inv .1, count-end _ _ _ (c .before .before .before .before .before .before .before .before .pre) (c .before .before .loop .i) (c .if1 .left) (c .before .before .loop .inv .0) (c .before .before .loop .inv .2))
+returns-3 c = (c .before .before .loop .inv .1, count-end _ _ _ (c .before .before .before .before .before .before .before .before .before .pre .0) (c .before .before .loop .i) (c .if1 .left) (c .before .before .loop .inv .0) (c .before .before .loop .inv .2), c .before .before .loop .inv .3)
 
 pub fits-spec : {M : Type 1} → statement M
 fits-spec =
@@ -77,12 +87,14 @@ fits-spec =
     μ-loop
     loop-holds
     same-length
+    same-length-2
     returns
     sub-if3
     add-if3
     mul-if3
     add-if3-2
-    same-length-2
+    same-length-3
+    same-length-4
     returns-2
     route-requires
     of-requires
@@ -90,5 +102,6 @@ fits-spec =
     add-i
     loop-less
     loop-again
-    same-length-3
+    same-length-5
+    same-length-6
     returns-3)
