@@ -14,7 +14,7 @@ use Rattle.model.specs.Queries as M
 use Rattle.model.specs.Queries.{sources, columns-of}
 use Rattle.model.specs.Checks.{allowed, placed}
 use Rattle.model.specs.Routes.{single}
-use Rattle.schema.specs.Schemas.{schema-of}
+use Rattle.schema.specs.Schemas.{width-in, schema-of}
 use Rattle.ledger.specs.Records.{Memory, record-of, count-in, memory-sound}
 use Rattle.ledger.specs.declared.Ledger.{Ledger}
 use Rattle.grant.specs.declared.Grant as D
@@ -94,7 +94,7 @@ module _ (m : Memory) (safe : T (memory-sound m)) (ws own roles profile : List �
     small : length (way-cells s (way-of o n y)) ≤ most-a-route
     small = rw long (rows-small m own ws profile p (k .suits))
 
-    few : cells ≤ most-cells n l
+    few : cells ≤ most-cells n (m .names) l
     unfolding most-cells
     few = go (ℕ-discrete (n .right) no-stream)
       where
@@ -104,11 +104,11 @@ module _ (m : Memory) (safe : T (memory-sound m)) (ws own roles profile : List �
         alone : n .right ≡ no-stream → (p .joined ≡ false) × (p .left ≡ n .left)
         alone r = lone-plan p (n .left) (k .streams ∙ lone-source r)
 
-        plain : n .right ≡ no-stream → n .aggregate ≡ 0 → cells ≤ count-in l (n .left) * 7
+        plain : n .right ≡ no-stream → n .aggregate ≡ 0 → cells ≤ count-in l (n .left) * suc (width-in (m .names) (n .left))
         plain r a = by (ℕ-discrete (p .number) 0)
           where
-            by : Dec (p .number ≡ 0) → cells ≤ count-in l (n .left) * 7
-            by (yes b) = subst (λ i. cells ≤ count-in l i * 7) (alone r .1) (plain-few m own ws profile p (k .suits) b (alone r .0))
+            by : Dec (p .number ≡ 0) → cells ≤ count-in l (n .left) * suc (width-in (m .names) (n .left))
+            by (yes b) = subst (λ i. cells ≤ count-in l i * suc (width-in (m .names) i)) (alone r .1) (plain-few m own ws profile p (k .suits) b (alone r .0))
             by (no b) = absurd (k .figured b .0 a)
 
         windows : (n .aggregate ≡ 0 → ⊥) → cells ≤ suc (l .clock / n .offset) * 2
@@ -119,11 +119,11 @@ module _ (m : Memory) (safe : T (memory-sound m)) (ws own roles profile : List �
             by (no b) = subst (λ i. cells ≤ suc (l .clock / i) * 2) (k .figured b .1) (figures-few m own ws profile p (k .suits) b)
 
         go : Dec (n .right ≡ no-stream)
-            → cells ≤ cond (eqb (n .right) no-stream) (cond (eqb (n .aggregate) 0) (count-in l (n .left) * 7) (cond (leb 33554432 (l .clock / n .offset)) room-end (suc (l .clock / n .offset) * 2))) room-end
+            → cells ≤ cond (eqb (n .right) no-stream) (cond (eqb (n .aggregate) 0) (count-in l (n .left) * suc (width-in (m .names) (n .left))) (cond (leb 33554432 (l .clock / n .offset)) room-end (suc (l .clock / n .offset) * 2))) room-end
         go (no r) = let v = some in rw (ne-eqb (n .right) no-stream r) (omega arith)
         go (yes r) = rw (eq-eqb (n .right) no-stream r) (by (ℕ-discrete (n .aggregate) 0))
           where
-            by : Dec (n .aggregate ≡ 0) → cells ≤ cond (eqb (n .aggregate) 0) (count-in l (n .left) * 7) (cond (leb 33554432 (l .clock / n .offset)) room-end (suc (l .clock / n .offset) * 2))
+            by : Dec (n .aggregate ≡ 0) → cells ≤ cond (eqb (n .aggregate) 0) (count-in l (n .left) * suc (width-in (m .names) (n .left))) (cond (leb 33554432 (l .clock / n .offset)) room-end (suc (l .clock / n .offset) * 2))
             by (yes a) = rw (eq-eqb (n .aggregate) 0 a) (plain r a)
             by (no a) = rw (ne-eqb (n .aggregate) 0 a) (late (decLe 33554432 (l .clock / n .offset)))
               where
@@ -131,7 +131,7 @@ module _ (m : Memory) (safe : T (memory-sound m)) (ws own roles profile : List �
                 late (yes h) = let v = some in rw (le-leb 33554432 (l .clock / n .offset) h) (omega arith)
                 late (no h) = rw (lt-leb 33554432 (l .clock / n .offset) (omega arith)) (windows a)
 
-    evaluable : Evaluable s (most-cells n l) (way-of o n y)
+    evaluable : Evaluable s (most-cells n (m .names) l) (way-of o n y)
     evaluable = record { suits = k .suits; few = let a = few in let b = long in omega arith }
 
   pub routes-ready : Ready (record { memory = m; own = own; granted = ws; profile = profile; forms = fs }) (open-all (needs-of (m .names) (query-in (words-of own ws profile) fs)) ws roles profile gs) (needs-of (m .names) (query-in (words-of own ws profile) fs))

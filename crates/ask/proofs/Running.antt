@@ -81,7 +81,7 @@ module _ (s : Setting) (o : Open) (n : Needs) (k : Ready s o n) (cells : List �
             omega arith
 
         module _ {room : ℕ} (f : room ≡ min (length cells) room-end) where
-          pub run-ready : {most : ℕ} → (most ≡ most-cells n (s .memory .ledger)) × (most ≤ room-end) → Runnable s o n r most room (length cells)
+          pub run-ready : {most : ℕ} → (most ≡ most-cells n (s .memory .names) (s .memory .ledger)) × (most ≤ room-end) → Runnable s o n r most room (length cells)
           run-ready m = record { listed = e; few = few; each = rw (m .0) (k .each); limit = m .1; near = omega arith; lent = omega arith }
 
           pub run-full : {fit : Bool} → fit ≡ leb (suc (length all)) room → not fit ≡ true → {cells₁ : List ℤ} → cells₁ ≡ cells → {y : Reply} → y ≡ refused-with NoRoom → Replies (run-reply s o n cells) cells cells₁ y
@@ -95,7 +95,7 @@ module _ (s : Setting) (o : Open) (n : Needs) (k : Ready s o n) (cells : List �
             fitting : suc (length all) ≤ room
             fitting = leb-true (suc (length all)) room (sym h ∙ not-false fit i)
 
-            pub put-ready : {cells₁ : List ℤ} → cells₁ ≡ cells → {most : ℕ} → (most ≡ most-cells n (s .memory .ledger)) × (most ≤ room-end) → Runnable s o n r room-end room (length cells₁) × (suc (length all) ≤ room)
+            pub put-ready : {cells₁ : List ℤ} → cells₁ ≡ cells → {most : ℕ} → (most ≡ most-cells n (s .memory .names) (s .memory .ledger)) × (most ≤ room-end) → Runnable s o n r room-end room (length cells₁) × (suc (length all) ≤ room)
             put-ready c m =
                 let l = m .1 in
                 let w = run-ready m in

@@ -10,12 +10,13 @@ use lib.Seq.{sets}
 use Rattle.refusal.specs.Checks.{Check, refuse, first}
 use Rattle.refusal.specs.declared.Refusal.the-variants.{NoRoute, ManyRoutes, NoRoom}
 use Rattle.lists.specs.Lists.{All, gather, empty?, nth}
-use Rattle.syntax.specs.Limits.{max-columns, max-routes}
+use Rattle.syntax.specs.Limits.{max-routes}
 use Rattle.model.specs.Queries.{Row}
 use Rattle.model.specs.Answers.{row-cells}
 use Rattle.calls.specs.Replies as C
 use Rattle.calls.specs.Replies.{reply}
 use Rattle.openings.specs.Made.{sides-kind}
+use Rattle.schema.specs.Schemas.{width-in}
 use Rattle.ledger.specs.Records.{Memory, count-in}
 use Rattle.ledger.specs.declared.Ledger.{Ledger}
 use Rattle.query.specs.declared.Form.{Form}
@@ -85,10 +86,10 @@ unfoldable pub routes-cells : Setting → Open → Needs → List Route → List
 routes-cells s o n xs = gather (λ x. way-cells s (way-of o n x)) xs
 
 -- how many cells the rows of a route can have, where that is known without looking; of a joined query it is not
-unfoldable pub most-cells : Needs → Ledger → ℕ
-most-cells n l =
+unfoldable pub most-cells : Needs → List ℕ → Ledger → ℕ
+most-cells n ns l =
     cond (eqb (n .right) no-stream)
-    (cond (eqb (n .aggregate) 0) (count-in l (n .left) * suc max-columns) (cond (leb (room-end / 2) (l .clock / n .offset)) room-end (suc (l .clock / n .offset) * 2)))
+    (cond (eqb (n .aggregate) 0) (count-in l (n .left) * suc (width-in ns (n .left))) (cond (leb (room-end / 2) (l .clock / n .offset)) room-end (suc (l .clock / n .offset) * 2)))
     room-end
 
 -- a route that can be evaluated, and has no more cells than its header and so many
@@ -132,5 +133,5 @@ most-a-route = 4194303
 -- opened grants and a query whose routes can all be evaluated
 pub record Ready (s : Setting) (o : Open) (n : Needs) : Type 0 where
   pub spans : (n .aggregate ≡ 0 → ⊥) → 1 ≤ n .offset
-  pub each : All (λ (x : Route). Evaluable s (most-cells n (s .memory .ledger)) (way-of o n x)) (routes-in o n)
+  pub each : All (λ (x : Route). Evaluable s (most-cells n (s .memory .names) (s .memory .ledger)) (way-of o n x)) (routes-in o n)
   pub small : All (λ (x : Route). length (way-cells s (way-of o n x)) ≤ most-a-route) (routes-in o n)

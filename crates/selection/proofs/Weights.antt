@@ -57,9 +57,9 @@ bits-cut p a b (suc m) (suc k) h =
     ∙ ap₂ (λ (u v : ℕ). u * 2 + v) (ap₂ bitAnd (half (p a) x) (half true y) ∙ bits-cut p (suc a) (suc b) m k (omega arith)) (ap₂ min (digit (p a) x) (digit true y) ∙ one-min (p a))
     ∙ omega arith
 
--- four words of as many bits as the first has rows
-pub rows-cut : (p : ℕ → Bool) (from n : ℕ) {k i a b c d : ℕ} {x y z : Rows} → k ≡ part n 0 → i ≤ k → k ≤ i → a ≡ bits p from i → b ≡ bits p (from + 32) i → c ≡ bits p (from + 64) i → d ≡ bits p (from + 96) i
+-- four words of at least as many bits as the first has rows
+pub rows-cut : (p : ℕ → Bool) (from n : ℕ) {i a b c d : ℕ} {x y z : Rows} → part n 0 ≤ i → a ≡ bits p from i → b ≡ bits p (from + 32) i → c ≡ bits p (from + 64) i → d ≡ bits p (from + 96) i
     → x ≡ (record { a = a; b = b; c = c; d = d }) → y ≡ first-rows n → z ≡ both-of x y → z ≡ rows-of p from n
 unfolding rows-of first-rows
-rows-cut p from n {k} {i} ek g h ea eb ec ed ex ey ez =
+rows-cut p from n {i} h ea eb ec ed ex ey ez =
     ez ∙ rw (ex, ey, ea, eb, ec, ed, bits-cut p from 0 (part n 0) i (omega arith), bits-cut p (from + 32) 32 (part n 32) i (omega arith), bits-cut p (from + 64) 64 (part n 64) i (omega arith), bits-cut p (from + 96) 96 (part n 96) i (omega arith))

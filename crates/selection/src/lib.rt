@@ -235,13 +235,12 @@ fn same_times(low: Cell, times: &[u32], from: u32, values: &[i32], p: u32, n: u3
     ensures { λ r. ⌜ r ≡ rows-of (compared-at eq (clocked (low .v) (now (times .entry)) from) (strip (now (values .entry)) p max-columns)) 0 n ⌝ }
 {
     let v = &values[(p as usize)..(p as usize + COLUMN)];
-    let k = rows::part(n, 0);
     let mut a: u32 = 0;
     let mut b: u32 = 0;
     let mut c: u32 = 0;
     let mut d: u32 = 0;
     let mut i: u32 = 0;
-    while i < k {
+    while i < Rows::WORD {
         let w = 1 << i;
         let q = i * Scope::COLUMNS;
         a += same_at(low, times, from + i, v, q, w);
@@ -274,13 +273,12 @@ fn below_times(low: Cell, times: &[u32], from: u32, values: &[i32], p: u32, n: u
     ensures { λ r. ⌜ r ≡ rows-of (compared-at lt (clocked (low .v) (now (times .entry)) from) (strip (now (values .entry)) p max-columns)) 0 n ⌝ }
 {
     let v = &values[(p as usize)..(p as usize + COLUMN)];
-    let k = rows::part(n, 0);
     let mut a: u32 = 0;
     let mut b: u32 = 0;
     let mut c: u32 = 0;
     let mut d: u32 = 0;
     let mut i: u32 = 0;
-    while i < k {
+    while i < Rows::WORD {
         let w = 1 << i;
         let q = i * Scope::COLUMNS;
         a += below_at(low, times, from + i, v, q, w);
@@ -313,13 +311,12 @@ fn above_times(low: Cell, times: &[u32], from: u32, values: &[i32], p: u32, n: u
     ensures { λ r. ⌜ r ≡ rows-of (compared-at gt (clocked (low .v) (now (times .entry)) from) (strip (now (values .entry)) p max-columns)) 0 n ⌝ }
 {
     let v = &values[(p as usize)..(p as usize + COLUMN)];
-    let k = rows::part(n, 0);
     let mut a: u32 = 0;
     let mut b: u32 = 0;
     let mut c: u32 = 0;
     let mut d: u32 = 0;
     let mut i: u32 = 0;
-    while i < k {
+    while i < Rows::WORD {
         let w = 1 << i;
         let q = i * Scope::COLUMNS;
         a += above_at(low, times, from + i, v, q, w);

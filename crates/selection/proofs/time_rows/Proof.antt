@@ -91,4 +91,4 @@ time-rows-spec =
     {- both-requires -}
     (λ c κs. search needs)
     {- returns -}
-    (λ c. let l = c .before .before .before .loop in rows-cut _ _ _ (c .before .before .before .before .part .ensures) (l .inv .0) (let f = c .before .before .loop-test .left in omega arith) (l .inv .1) (l .inv .2) (l .inv .3) (l .inv .4) refl (c .before .first .ensures) (c .both .ensures)))
+    (λ c. let l = c .before .before .before .loop in rows-cut _ _ _ (let e = c .before .before .before .before .part .ensures in let f = c .before .before .loop-test .left in omega arith) (l .inv .1) (l .inv .2) (l .inv .3) (l .inv .4) refl (c .before .first .ensures) (c .both .ensures)))
