@@ -150,15 +150,15 @@ static inline const char *maltziru_refusal_text(uint32_t refusal) {
     case MALTZIRU_ACCEPTED: return "accepted";
     case MALTZIRU_MALFORMED: return "not a line of a known form";
     case MALTZIRU_UNDECLARED: return "a stream or column that is not declared";
-    case MALTZIRU_BOUND: return "a limit is exceeded";
-    case MALTZIRU_MISPLACED: return "something stands where it may not";
-    case MALTZIRU_WINDOW_SIZE: return "the window's size and offset do not fit each other";
+    case MALTZIRU_BOUND: return "too long, too many, too deep, or a number out of its range";
+    case MALTZIRU_MISPLACED: return "a part, a column or a number of values that does not fit its place";
+    case MALTZIRU_WINDOW_SIZE: return "a window's size or offset is below 1, or its size above 64 offsets";
     case MALTZIRU_REPEATED: return "a name is there twice";
     case MALTZIRU_CLOCK_BACK: return "the time is before the clock";
     case MALTZIRU_STREAM_FULL: return "the stream has all its rows";
-    case MALTZIRU_NO_ROUTE: return "no grant opens this query for the caller";
+    case MALTZIRU_NO_ROUTE: return "no grant opens this for the caller, or no route has that number";
     case MALTZIRU_MANY_ROUTES: return "too many routes";
-    case MALTZIRU_NO_ROOM: return "the answer is longer than the room for it";
+    case MALTZIRU_NO_ROOM: return "the answer or line is longer than the room for it";
     case MALTZIRU_LENT: return "what was lent is not what calls made";
     default: return "no refusal of this number";
     }
