@@ -2,19 +2,19 @@
 use mathlib.Core.Path.{_≡_, refl, sym, ap, ap₂, _∙_, subst}
 use mathlib.Core.List.{List, [], _∷_, _++_, append-assoc}
 use mathlib.Core.Bool.{Bool, true, false, _&&_, _||_, not, cond}
-use Prim.Native.Nat.{ℕ, zero, suc, _+_, _*_, _-_, _≤_, _<_}
+use Prim.Native.Nat.{ℕ, zero, suc, _+_, _*_, _-_, _≤_, _<_, min}
 use native.Mathlib.Decide.{decLt}
 use native.Mathlib.Omega.{arith}
 use lib.Dec.{T, eqb, leb, ltb, leb→le, ltb→lt, eqb→eq}
-use lib.ListN.{length}
-use borrow.Author.Tests.{lt-ltb, le-ltb}
+use lib.ListN.{length, getD}
+use borrow.Author.Tests.{lt-ltb, le-ltb, ne-eqb}
 use Rattle.lists.specs.Lists.{gather}
 use Rattle.lists.proofs.Laws.{and-l, and-r, parts, true-T, T-true, append-nil, gather-append}
 use Rattle.syntax.specs.Grammar.{Cond}
 use Rattle.model.specs.Conditions.{tests}
 use Rattle.model.specs.Queries.{Compare}
 use Rattle.nodes.specs.declared.Node.{Node}
-use Rattle.nodes.specs.Nodes.{node-at, node-words, node-compare, link, headed, conditions-of, comparing, reaches, linked}
+use Rattle.nodes.specs.Nodes.{node-of, node-at, node-words, node-compare, link, headed, conditions-of, comparing, reaches, linked}
 use Rattle.nodes.proofs.Puts.{words-some}
 use Rattle.nodes.proofs.Reaching.{link-falls, reaches-step, reaches-stop, reaches-fuel, cond-of, list-before, list-off, cond-on, list-last}
 use Rattle.grant.specs.Grants.{linked-from, laid-out}
@@ -53,6 +53,44 @@ module _ (ws : List ℕ) where
     pub compared-off : (k : ℕ) → k ≤ stop → compared ws stop k ≡ []
     unfolding compared
     compared-off k h = in-stop (suc k) k h
+
+  -- ---- places that are not lent
+
+  no-word : (vs : List ℕ) (i : ℕ) → length vs ≤ i → getD vs i 0 ≡ 0
+  no-word [] i h = refl
+  no-word (v ∷ vs) zero h = absurd (omega arith)
+  no-word (v ∷ vs) (suc i) h = no-word vs i (omega arith)
+
+  module _ (k : ℕ) (h : length ws < k) where
+    no-head : getD ws (k - 1) 0 ≡ 0
+    no-head = no-word ws (k - 1) (omega arith)
+
+    no-compare : own-compare (node-at ws k) ≡ []
+    unfolding own-compare comparing node-at node-of
+    no-compare = rw (ne-eqb k 0 (λ z. omega arith), no-head) refl
+
+    no-words : node-words (node-at ws k) ≡ 1
+    unfolding node-words node-at node-of
+    no-words = rw (ne-eqb k 0 (λ z. omega arith), no-head) refl
+
+  past : (d : ℕ) → compared ws 0 (length ws + d) ≡ compared ws 0 (length ws)
+  past zero = let z : length ws + 0 ≡ length ws = omega arith in ap (compared ws 0) z
+  past (suc d) =
+      let h : length ws < length ws + suc d = omega arith in
+      let w = no-words (length ws + suc d) h in
+      let z : prior ws (length ws + suc d) ≡ length ws + d = omega arith in
+      compared-on 0 (length ws + suc d) (omega arith) ∙ ap₂ (λ j l. compared ws 0 j ++ l) z (no-compare (length ws + suc d) h) ∙ append-nil (compared ws 0 (length ws + d)) ∙ past d
+
+  -- they compare nothing
+  pub compared-lent : (n : ℕ) → compared ws 0 n ≡ compared ws 0 (min n (length ws))
+  compared-lent n = go (decLt n (length ws))
+    where
+      go : Dec (n < length ws) → compared ws 0 n ≡ compared ws 0 (min n (length ws))
+      go (yes h) = let z : n ≡ min n (length ws) = omega arith in ap (compared ws 0) z
+      go (no h) =
+          let y : n ≡ length ws + (n - length ws) = omega arith in
+          let z : length ws ≡ min n (length ws) = omega arith in
+          ap (compared ws 0) y ∙ past (n - length ws) ∙ ap (compared ws 0) z
 
   -- ---- what stands between two places
 

@@ -1,6 +1,7 @@
 // What the comparisons of stored conditions name: columns, the time, profile entries, and the equality of two columns.
 ghost use mathlib.Core.Path.{_≡_};
 ghost use mathlib.Core.Bool.{_&&_};
+ghost use Prim.Native.Nat.{min};
 ghost use lib.Bits.{bitOr};
 ghost use lib.Dec.{eqb};
 ghost use lib.ListN.{getD};
@@ -65,11 +66,21 @@ fn node_known(n: Node, profile: &[u64]) -> bool
     term_known(n.right, n.value, profile)
 }
 
-// Returns whether a profile has every entry that a comparison of the first n words names.
+// The lower of two numbers.
+fn least(a: usize, b: usize) -> usize
+    ensures { λ r. ⌜ r ≡ min a b ⌝ }
+{
+    if b < a {
+        return b;
+    }
+    a
+}
+
+// Returns whether a profile has every entry that a comparison of the first n words names. Words that are not lent name none.
 pub fn all_known(words: &[u32], n: usize, profile: &[u64]) -> bool
     ensures { λ r. ⌜ r ≡ every (compare-known (profile-in (now (profile .entry)))) (compared (now (words .entry)) 0 n) ⌝ }
 {
-    let mut k = n;
+    let mut k = least(n, words.len());
     while 0 < k {
         let node = nodes::node_at(words, k);
         if !node_known(node, profile) {

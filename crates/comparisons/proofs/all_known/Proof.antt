@@ -1,8 +1,9 @@
 -- `all_known`: every node passed names entries that are there.
 use borrow.Author.Needs.{needs}
-use mathlib.Core.Path.{_≡_, refl}
+use mathlib.Core.Path.{_≡_, sym, ap, _∙_}
 use Rattle.lists.specs.Lists.{every}
 use Rattle.comparisons.specs.Compared.{compared, profile-in, compare-known}
+use Rattle.comparisons.proofs.Walked.{compared-lent}
 use Rattle.comparisons.proofs.Entries.{known-ends}
 use Rattle.comparisons.proofs.all_known.Statement.{statement}
 use Rattle.comparisons.proofs.all_known.Tie as tie
@@ -17,8 +18,10 @@ pub all-known-spec : {M : Type 1} → statement M
 all-known-spec =
     tie.close
     (tie.spec Inv-loop μ-loop
+    {- least-requires -}
+    (λ c κs. search needs)
     {- loop-holds -}
-    (λ c. refl)
+    (λ c. let a = c .before .before .before .args in ap (every (compare-known (profile-in (a .profile .now)))) (compared-lent (a .words .now) (a .n) ∙ ap (compared (a .words .now) 0) (sym (c .least .ensures))))
     {- node-at-requires -}
     (λ c κs. search needs)
     {- node-known-requires -}
