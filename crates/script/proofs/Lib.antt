@@ -1,2 +1,5 @@
 pub mod Taken
 pub mod Lending
+pub mod Verbs
+pub mod Returns
+pub mod Lines

@@ -3,7 +3,7 @@ use mathlib.Core.Path.{_≡_}
 use mathlib.Core.List.{List, []}
 use mathlib.Core.Bool.{cond}
 use mathlib.Core.Option.{Option, none, some}
-use Prim.Native.Nat.{ℕ, zero, suc, min}
+use Prim.Native.Nat.{ℕ, zero, suc}
 use lib.IntN.{ℤ}
 use lib.Dec.{eqb, ltb}
 use lib.ListN.{length, take}
@@ -13,7 +13,7 @@ use Rattle.refusal.specs.declared.Verdict.the-variants.{Accepted, Refused}
 use Rattle.refusal.specs.declared.Refusal.the-variants.{Malformed, Bound}
 use Rattle.syntax.specs.Grammar as G
 use Rattle.syntax.specs.Grammar.{Bytes}
-use Rattle.syntax.specs.Limits.{max-line, max-grants}
+use Rattle.syntax.specs.Limits.{max-line}
 use Rattle.syntax.specs.Readers.{parse-as, verb-of}
 use Rattle.calls.specs.Scripts.{Outcome, quiet, refusal, cells, text}
 use Rattle.stream_line.specs.Declaring.{Declares}
@@ -76,7 +76,7 @@ lending s = record { memory = s .memory; grants = s .grants; granted = s .words;
 -- the grant line, by the state
 pub record Granting (s : State) (ns : List ℕ) (bs : Bytes) (ws ws′ : List ℕ) (r : Stepped) : Type 0 where
   pub granted : Granted
-  pub call : Grants ns (min (s .count) max-grants) bs ws ws′ granted
+  pub call : Grants ns (length (take (s .count) (s .grants))) bs ws ws′ granted
   pub ledger : r .state .ledger ≡ s .ledger
   pub grants : take (r .state .count) (r .state .grants) ≡ grants-after (granted .verdict) (take (s .count) (s .grants)) (granted .grant)
   pub caller : r .state .caller ≡ s .caller
