@@ -3,3 +3,4 @@ pub mod Lending
 pub mod Verbs
 pub mod Returns
 pub mod Lines
+pub mod Running

@@ -1,6 +1,6 @@
 -- One line: what it says, and what it leaves of the store and of lent cells and bytes, by the contract of its verb's call.
 use mathlib.Core.Path.{_≡_}
-use mathlib.Core.List.{List, []}
+use mathlib.Core.List.{List}
 use mathlib.Core.Bool.{cond}
 use mathlib.Core.Option.{Option, none, some}
 use Prim.Native.Nat.{ℕ, zero, suc}
@@ -14,7 +14,7 @@ use Rattle.refusal.specs.declared.Refusal.the-variants.{Malformed, Bound}
 use Rattle.syntax.specs.Grammar as G
 use Rattle.syntax.specs.Grammar.{Bytes}
 use Rattle.syntax.specs.Limits.{max-line}
-use Rattle.syntax.specs.Readers.{parse-as, verb-of}
+use Rattle.syntax.specs.Readers.{parse-as}
 use Rattle.calls.specs.Scripts.{Outcome, quiet, refusal, cells, text}
 use Rattle.stream_line.specs.Declaring.{Declares}
 use Rattle.ledger.specs.declared.Entered.{Entered}
@@ -32,7 +32,7 @@ use Rattle.script.specs.declared.State.{State}
 use Rattle.script.specs.declared.Stepped.{Stepped}
 use Rattle.script.specs.declared.Verb.{Verb}
 use Rattle.script.specs.declared.Verb.the-variants.{Stream, Grant, Clock, Row, Clear, Caller, Ask, Line, Other}
-use Rattle.script.specs.States.{Saying, store-of, stepped-with}
+use Rattle.script.specs.States.{Saying, stepped-with}
 
 -- the verb of the grammar
 unfoldable pub verb-in : Verb → Option G.Verb

@@ -1,7 +1,7 @@
 // One line of a script: what its verb's call does, with the record, the grants and the caller that the lines before it left.
 ghost use mathlib.Core.Path.{_≡_};
 ghost use Prim.Native.Nat.{_≤_, _<_, min};
-ghost use lib.ListN.{length, take, set};
+ghost use lib.ListN.{take};
 ghost use Rattle.syntax.specs.Grammar as G;
 ghost use Rattle.syntax.specs.Limits.{max-grants};
 ghost use Rattle.syntax.specs.Readers.{parse-as, verb-of};
@@ -102,12 +102,12 @@ impl State {
         ensures { λ r. ⌜ r ≡ with-ledger-in self l ⌝ }
     {
         let grants = self.grants;
-        let who = self.caller;
+        let caller = self.caller;
         State {
             ledger: l,
             grants: grants,
             count: self.count,
-            caller: who,
+            caller: caller,
         }
     }
 
