@@ -2,18 +2,17 @@
 use mathlib.Core.Path.{_≡_, refl, sym, ap, _∙_}
 use mathlib.Core.List.{List, [], _∷_, _++_, map}
 use mathlib.Core.Bool.{Bool, true, false, cond}
-use mathlib.Core.Option.{Option, none, some}
+use mathlib.Core.Option.{none, some}
 use Prim.Native.Nat.{ℕ, zero, suc, _*_, _-_, _≤_, _<_, min}
 use native.Mathlib.Omega.{arith}
 use lib.IntN.{ℤ, pos, negsuc, negℤ}
 use lib.Dec.{ltb}
 use lib.ListN.{length, length-append, length-map}
-use borrow.Author.Tests.{ltb-true, ltb-false, lt-ltb, le-ltb}
+use borrow.Author.Tests.{ltb-true, ltb-false, le-ltb}
 use Rattle.lists.specs.Lists.{gather, count-from}
 use Rattle.lists.proofs.Gathers.{select-fewer}
 use Rattle.lists.proofs.Counting.{count-length}
 use Rattle.syntax.specs.Grammar.{Bytes}
-use Rattle.calls.specs.Names.{map-option}
 use Rattle.text.specs.Words.{far, clamp}
 use Rattle.masks.specs.Masks.{bit?}
 use Rattle.rows.specs.Masks.{bits-from}
