@@ -1,0 +1,5 @@
+pub mod Dues
+pub mod Numbers
+pub mod Writing
+pub mod Answers
+pub mod Samples
