@@ -6,7 +6,6 @@ use lib.IntN.{ℤ, pos}
 use lib.ListN.{length}
 use Rattle.lists.specs.Lists.{All, all-nil, all-cons, gather, nth}
 use Rattle.syntax.specs.Grammar.{Bytes, bytes, put-nat, put-int, put-items}
-use Rattle.syntax.specs.Limits.{natural}
 use Rattle.model.specs.Queries.{Row, Table, Record, Caller}
 use Rattle.model.specs.Routes.{Route}
 use Rattle.model.specs.Answers.{route-table, row-cells, grant-cells, table-cells, answer-cells}
@@ -35,7 +34,7 @@ rows-printed c (x ∷ rs) (all-cons e es) more r =
 
 -- a route's numbers and rows
 table-printed : (ns : List ℕ) (t : Table) → Wide t → (more : List ℤ) (r : Bytes) → put-cells Grant (table-cells ns t ++ more) r ≡ put-table ns t (put-cells Grant more r)
-unfolding table-cells grant-cells put-cells put-cell due-after front-of end-of natural put-int put-table put-header put-items
+unfolding table-cells grant-cells put-cells put-cell due-after front-of end-of put-int put-table put-header put-items
 table-printed ns t w more r =
     ap (put-header (bytes "route") (nth 0 ns 0 ∷ nth 0 ns 1 ∷ suc (length (t .cols)) ∷ length (t .rows) ∷ [])) (rows-printed (length (t .cols)) (t .rows) w more r)
 

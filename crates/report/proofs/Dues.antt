@@ -3,8 +3,7 @@ use mathlib.Core.Path.{_≡_, refl, sym, ap, _∙_}
 use mathlib.Core.List.{List, [], _∷_}
 use Prim.Native.Nat.{ℕ, zero, suc, _-_}
 use native.Mathlib.Omega.{arith}
-use lib.IntN.{ℤ}
-use Rattle.syntax.specs.Limits.{natural}
+use lib.IntN.{ℤ, natAbs}
 use Rattle.text.specs.Words.{name-of, bytes-from}
 use Rattle.report.specs.declared.Due.{Due}
 use Rattle.report.specs.declared.Due.the-variants.{Routes, Grant, Partner, Width, Rows, Cell}
@@ -60,11 +59,11 @@ module _ (d : Due) (z : ℤ) where
   unfolding due-after
   after-partner e = rw e
 
-  pub after-width : {n : ℕ} → d ≡ Width → n ≡ natural z → Rows n ≡ due-after d z
+  pub after-width : {n : ℕ} → d ≡ Width → n ≡ natAbs z → Rows n ≡ due-after d z
   unfolding due-after
   after-width e f = rw (e, f)
 
-  pub after-rows : {w n : ℕ} {r : Due} → d ≡ Rows w → n ≡ natural z → r ≡ rows-due w n → r ≡ due-after d z
+  pub after-rows : {w n : ℕ} {r : Due} → d ≡ Rows w → n ≡ natAbs z → r ≡ rows-due w n → r ≡ due-after d z
   unfolding due-after
   after-rows e f g = rw e (g ∙ ap (rows-due _) f)
 

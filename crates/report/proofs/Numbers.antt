@@ -14,44 +14,9 @@ use mir.ValLaws.{toZ-ofZ}
 use borrow.Author.Needs.{sfits-of}
 use borrow.Author.Tests.{le-leb, le-ltb, ltb-true}
 use Rattle.syntax.specs.Grammar.{Bytes, put-nat, put-int}
-use Rattle.syntax.specs.Limits.{natural}
 use Rattle.nodes.specs.Nodes.{unbiased}
 use Rattle.print.specs.Writing.{Put, byte-text}
 use Rattle.print.proofs.Putting.{put-as, put-then}
-
--- ---- a number that is not below 0
-
-low : (z : ℤ) → ltZ z (pos 0) ≡ true → 0 ≡ natural z
-unfolding natural
-low (pos n) e = absurd (let h = ltb-true n 0 e in omega arith)
-low (negsuc n) e = refl
-
-high : (z : ℤ) → ltZ z (pos 0) ≡ false → T (nonNeg z) × (natAbs z ≡ natural z)
-unfolding natural
-high (pos n) e = (tt, refl)
-high (negsuc n) e = absurd (let k : _≡_ {A = ℕ} 0 1 = cc in omega arith)
-
-module _ (z : ℤ) (fits : SFits w64 z) where
-  pub back : toZ w64 (ofZ w64 z) ≡ z
-  back = toZ-ofZ w64 z fits
-
-  pub natural-low : ltZ (toZ w64 (ofZ w64 z)) (pos 0) ≡ true → 0 ≡ natural z
-  natural-low e = low z (rw back at e)
-
-  pub natural-sign : ltZ (toZ w64 (ofZ w64 z)) (pos 0) ≡ false → T (nonNeg (toZ w64 (ofZ w64 z)))
-  natural-sign e = high (toZ w64 (ofZ w64 z)) e .0
-
-  pub natural-fits : Fits w64 (natAbs (toZ w64 (ofZ w64 z)))
-  natural-fits = rw back (fits-natAbs tt fits)
-
-  pub natural-here : ltZ (toZ w64 (ofZ w64 z)) (pos 0) ≡ false → natAbs (toZ w64 (ofZ w64 z)) ≡ natural z
-  natural-here e = rw back (high z (rw back at e) .1)
-
-  -- of a number that was handed on
-  pub natural-read : {v : ℕ} → v ≡ natural (toZ w64 (ofZ w64 z)) → v ≡ natural z
-  natural-read e = e ∙ ap natural back
-
-pub ruleset natural-ends = (natural-low, natural-sign, natural-fits, natural-here, sfits-of)
 
 -- ---- a number without its sign
 
@@ -65,15 +30,18 @@ not-low (pos n) e = (tt, refl)
 not-low (negsuc n) e = absurd (let k : _≡_ {A = ℕ} 0 1 = cc in omega arith)
 
 module _ (z : ℤ) (fits : SFits w64 z) where
+  pub back : toZ w64 (ofZ w64 z) ≡ z
+  back = toZ-ofZ w64 z fits
+
   module _ (e : ltZ (toZ w64 (ofZ w64 z)) (pos 0) ≡ true) where
     less-is : negsuc 0 -ℤ toZ w64 (ofZ w64 z) ≡ pos (natAbs z - 1)
-    less-is = ap (λ (y : ℤ). negsuc 0 -ℤ y) (back z fits) ∙ less-one z (rw (back z fits) at e) .0
+    less-is = ap (λ (y : ℤ). negsuc 0 -ℤ y) back ∙ less-one z (rw back at e) .0
 
     small : natAbs z - 1 < 9223372036854775808
-    small = let a : natAbs z - 1 ≡ mag z = less-one z (rw (back z fits) at e) .1 in let b : mag z < 9223372036854775808 = fits .sfits in omega arith
+    small = let a : natAbs z - 1 ≡ mag z = less-one z (rw back at e) .1 in let b : mag z < 9223372036854775808 = fits .sfits in omega arith
 
     some : 1 ≤ natAbs z
-    some = less-one z (rw (back z fits) at e) .2
+    some = less-one z (rw back at e) .2
 
     pub less-fits : SFits w64 (negsuc 0 -ℤ toZ w64 (ofZ w64 z))
     less-fits = subst (λ (y : ℤ). SFits w64 y) (sym less-is) (sfits-of small)
@@ -96,16 +64,26 @@ module _ (z : ℤ) (fits : SFits w64 z) where
     pub less-top : natAbs (toZ w64 (ofZ w64 (negsuc 0 -ℤ toZ w64 (ofZ w64 z)))) + 1 ≤ 9223372036854775808
     less-top = subst (λ (y : ℤ). natAbs y + 1 ≤ 9223372036854775808) (sym again) (omega (arith, small))
 
+  pub plain-sign : ltZ (toZ w64 (ofZ w64 z)) (pos 0) ≡ false → T (nonNeg (toZ w64 (ofZ w64 z)))
+  plain-sign e = not-low (toZ w64 (ofZ w64 z)) e .0
+
+  pub plain-fits : Fits w64 (natAbs (toZ w64 (ofZ w64 z)))
+  plain-fits = rw back (fits-natAbs tt fits)
+
   pub plain-same : natAbs (toZ w64 (ofZ w64 z)) ≡ natAbs z
-  plain-same = ap natAbs (back z fits)
+  plain-same = ap natAbs back
 
   pub plain-top : ltZ (toZ w64 (ofZ w64 z)) (pos 0) ≡ false → natAbs (toZ w64 (ofZ w64 z)) ≤ 9223372036854775808
   plain-top e =
-      let a : natAbs z ≡ mag z = not-low z (rw (back z fits) at e) .1 in
+      let a : natAbs z ≡ mag z = not-low z (rw back at e) .1 in
       let b : mag z < 9223372036854775808 = fits .sfits in
-      subst (λ (y : ℤ). natAbs y ≤ 9223372036854775808) (sym (back z fits)) (omega arith)
+      subst (λ (y : ℤ). natAbs y ≤ 9223372036854775808) (sym back) (omega arith)
 
-pub ruleset magnitude-ends = (less-fits, less-sign, less-whole, less-add, less-same, less-top, natural-sign, natural-fits, plain-same, plain-top, sfits-of)
+  -- of a number that was handed on
+  pub size-read : {v : ℕ} → v ≡ natAbs (toZ w64 (ofZ w64 z)) → v ≡ natAbs z
+  size-read e = e ∙ plain-same
+
+pub ruleset magnitude-ends = (less-fits, less-sign, less-whole, less-add, less-same, less-top, plain-sign, plain-fits, plain-same, plain-top, sfits-of)
 
 -- ---- written
 

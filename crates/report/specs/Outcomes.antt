@@ -1,11 +1,10 @@
 -- What an outcome of a script's line prints. Texts stand in front of what follows; a line feed ends each line.
 use mathlib.Core.List.{List, [], _∷_, _++_}
 use Prim.Native.Nat.{ℕ, zero, suc}
-use lib.IntN.{ℤ, pos}
+use lib.IntN.{ℤ, natAbs}
 use lib.ListN.{length}
 use Rattle.lists.specs.Lists.{nth}
 use Rattle.syntax.specs.Grammar.{Bytes, bytes, put-nat, put-int, put-items, grammar-computes}
-use Rattle.syntax.specs.Limits.{natural}
 use Rattle.model.specs.Queries.{Row, Table, Record, Caller}
 use Rattle.model.specs.Routes.{Route}
 use Rattle.model.specs.Answers.{route-table}
@@ -31,8 +30,8 @@ unfoldable pub due-after : Due → ℤ → Due
 due-after Routes z = Grant
 due-after Grant z = Partner
 due-after Partner z = Width
-due-after Width z = Rows (natural z)
-due-after (Rows w) z = rows-due w (natural z)
+due-after Width z = Rows (natAbs z)
+due-after (Rows w) z = rows-due w (natAbs z)
 due-after (Cell k w n) z = row-due k w n
 
 -- the word in front of a cell
@@ -60,7 +59,7 @@ end-of (Cell k w n) = cell-end k
 unfoldable pub put-cell : Due → ℤ → Bytes → Bytes
 put-cell d z rest = front-of d ++ put-int z (end-of d ∷ rest)
 
--- Cells that are no answer's are read the same way, as far as they go.
+-- Cells that are no answer's are read the same way, as far as they go; a width or a row count below 0 goes by its size.
 unfoldable pub put-cells : Due → List ℤ → Bytes → Bytes
 put-cells d [] rest = rest
 put-cells d (z ∷ zs) rest = put-cell d z (put-cells (due-after d z) zs rest)
@@ -110,5 +109,5 @@ put-answer x who rs rest = put-header (bytes "routes") (length rs ∷ []) (put-e
 
 -- To unfold this is to unfold every definition above.
 unfoldable pub outcomes-compute : Unit {0}
-unfolding grammar-computes natural rows-due row-due due-after front-of cell-end end-of put-cell put-cells put-refusal put-text put-outcome outcome-text put-outcomes put-each put-header put-row put-table put-answer
+unfolding grammar-computes rows-due row-due due-after front-of cell-end end-of put-cell put-cells put-refusal put-text put-outcome outcome-text put-outcomes put-each put-header put-row put-table put-answer
 outcomes-compute = tt

@@ -3,7 +3,6 @@ ghost use mathlib.Core.Path.{_≡_};
 ghost use Prim.Native.Nat.{_≤_};
 ghost use lib.IntN.{natAbs};
 ghost use Rattle.syntax.specs.Grammar.{put-int};
-ghost use Rattle.syntax.specs.Limits.{natural};
 ghost use Rattle.text.specs.Words.{name-of};
 ghost use Rattle.calls.specs.Scripts.{refusal, cells, text};
 ghost use Rattle.print.specs.Writing.{Put};
@@ -33,12 +32,12 @@ const ZERO: u64 = 2147483648;
 
 // ---- a cell
 
-// A number, 0 where it is below.
-fn natural(z: i64) -> u64
-    ensures { λ r. ⌜ r ≡ natural z ⌝ }
+// A number without its sign.
+fn magnitude(z: i64) -> u64
+    ensures { λ r. ⌜ (r ≡ natAbs z) × (r ≤ 9223372036854775808) ⌝ }
 {
     if z < 0 {
-        return 0;
+        return (-1 - z) as u64 + 1;
     }
     z as u64
 }
@@ -74,8 +73,8 @@ fn due_after(d: Due, z: i64) -> Due
         Due::Routes => Due::Grant,
         Due::Grant => Due::Partner,
         Due::Partner => Due::Width,
-        Due::Width => Due::Rows(natural(z)),
-        Due::Rows(w) => rows_due(w, natural(z)),
+        Due::Width => Due::Rows(magnitude(z)),
+        Due::Rows(w) => rows_due(w, magnitude(z)),
         Due::Cell(k, w, n) => in_row(k, w, n),
     }
 }
@@ -116,16 +115,6 @@ fn end_of(d: Due) -> u8
         Due::Rows(_) => b'\n',
         Due::Cell(k, _, _) => cell_end(k),
     }
-}
-
-// A number without its sign.
-fn magnitude(z: i64) -> u64
-    ensures { λ r. ⌜ (r ≡ natAbs z) × (r ≤ 9223372036854775808) ⌝ }
-{
-    if z < 0 {
-        return (-1 - z) as u64 + 1;
-    }
-    z as u64
 }
 
 // The place after a number, which is written.

@@ -1,6 +1,6 @@
 use borrow.Author.Needs.{needs}
 use Rattle.report.proofs.Dues.{after-ends}
-use Rattle.report.proofs.Numbers.{natural-read}
+use Rattle.report.proofs.Numbers.{size-read}
 use Rattle.report.proofs.due_after.Statement.{statement}
 use Rattle.report.proofs.due_after.Tie as tie
 
@@ -16,11 +16,11 @@ due-after-spec =
     (λ c. search needs)
     {- enum-told-4 -}
     (λ c. search needs)
-    {- natural-requires -}
+    {- magnitude-requires -}
     (λ c κs. search needs)
     {- enum-known-d -}
     (λ c. search needs)
-    {- natural-requires-2 -}
+    {- magnitude-requires-2 -}
     (λ c κs. search needs)
     {- rows-due-requires -}
     (λ c κs. search needs)
@@ -35,8 +35,8 @@ due-after-spec =
     {- returns-3 -}
     (λ c. search (after-ends, needs))
     {- returns-4 -}
-    (λ c. search (after-ends, natural-read, needs))
+    (λ c. search (after-ends, size-read, needs))
     {- returns-5 -}
-    (λ c. search (after-ends, natural-read, needs))
+    (λ c. search (after-ends, size-read, needs))
     {- returns-6 -}
     (λ c. search (after-ends, needs)))
