@@ -1,7 +1,7 @@
 -- Texts written from the first place on, part by part.
 use mathlib.Core.Path.{_≡_, refl, sym, ap, ap₂, _∙_}
 use mathlib.Core.List.{List, [], _∷_, _++_}
-use Prim.Native.Nat.{ℕ, zero, suc, _+_, _<_, _≤_, min}
+use Prim.Native.Nat.{ℕ, zero, suc, _+_, _*_, _<_, _≤_, min}
 use native.Mathlib.Omega.{arith}
 use lib.IntN.{ℤ, pos}
 use lib.ListN.{length, take, drop, getD, set, length-take, length-drop, take-append-drop, drop-of-length-le}
@@ -20,6 +20,7 @@ use Rattle.report.specs.declared.Due.the-variants.{Routes}
 use Rattle.report.specs.Outcomes.{due-after, front-of, end-of, put-cell, put-cells, put-refusal, put-text, put-outcome, outcome-text}
 use Rattle.report.specs.Written.{Written}
 use Rattle.report.proofs.Numbers.{back}
+use Rattle.report.proofs.Lengths.{refusal-short, text-short}
 
 -- ---- what is written in the end
 
@@ -43,12 +44,13 @@ over-cut m t h k =
     let f : after 0 a ≡ length m = let g = after-is 0 a (omega arith) in omega arith in
     ap (over m 0) (sym (take-append-drop (length m) t)) ∙ over-append m 0 a b ∙ ap₂ (λ (w : Bytes) (q : ℕ). over w q b) e f ∙ over-out a (length m) b (omega arith) k
 
-pub written-of : {t : Bytes → Bytes} {m m′ : Bytes} {n : ℕ} → Put t m 0 m′ n → Written (t []) m m′ n
+pub written-of : {t : Bytes → Bytes} {m m′ : Bytes} {n : ℕ} (most : ℕ) → Put t m 0 m′ n → n ≤ most → Written (t []) most m m′ n
 unfolding over
-written-of {t} {m} {m′} {n} x =
+written-of {t} {m} {m′} {n} most x f =
     record {
       count = counted x;
       whole = λ h k. written x (omega (arith, counted x)) (omega (arith, counted x));
+      few = f;
       cut = λ h k. sym (x .bytes []) ∙ over-cut m (t []) (omega arith) (omega arith);
     }
 
@@ -102,15 +104,18 @@ refused-word : (r : Bytes) → bytes "refused " ++ r ≡ put-name (name-of 82431
 unfolding put-name name-of bytes-from
 refused-word r = refl
 
-pub refusal-written : (n : ℕ) {m m₁ m₂ m₃ : Bytes} {p₁ p₂ p₃ : ℕ} → Put (put-name (name-of 8243107347604792352)) m 0 m₁ p₁ → Put (put-nat n) m₁ p₁ m₂ p₂ → Put (byte-text 10) m₂ p₂ m₃ p₃
-    → Written (outcome-text (refusal n)) m m₃ p₃
+pub refusal-written : (n : ℕ) {m m₁ m₂ m₃ : Bytes} {p₁ p₂ p₃ : ℕ} → n < 4294967296 → Put (put-name (name-of 8243107347604792352)) m 0 m₁ p₁ → Put (put-nat n) m₁ p₁ m₂ p₂ → Put (byte-text 10) m₂ p₂ m₃ p₃
+    → Written (outcome-text (refusal n)) 20 m m₃ p₃
 unfolding outcome-text put-outcome put-refusal byte-text
-refusal-written n x y b = written-of (put-as (λ r. refused-word (put-nat n (10 ∷ r))) (put-then x (put-then y b)))
+refusal-written n {m} {m₁} {m₂} {m₃} {p₃ = p₃} h x y b = written-of 20 all (omega (arith, counted all, refusal-short n h))
+  where
+    all : Put (put-refusal n) m 0 m₃ p₃
+    all = put-as (λ r. refused-word (put-nat n (10 ∷ r))) (put-then x (put-then y b))
 
-pub cells-written : (zs : List ℤ) {m m′ : Bytes} {n : ℕ} → Put (put-cells Routes zs) m 0 m′ n → Written (outcome-text (cells zs)) m m′ n
+pub cells-written : (zs : List ℤ) {m m′ : Bytes} {n : ℕ} → Put (put-cells Routes zs) m 0 m′ n → n ≤ 28 * length zs → Written (outcome-text (cells zs)) (28 * length zs) m m′ n
 unfolding outcome-text put-outcome
-cells-written zs x = written-of x
+cells-written zs x h = written-of (28 * length zs) x h
 
-pub text-written : (bs : Bytes) {m m′ : Bytes} {n : ℕ} → Put (put-text bs) m 0 m′ n → Written (outcome-text (text bs)) m m′ n
+pub text-written : (bs : Bytes) {m m′ : Bytes} {n : ℕ} → Put (put-text bs) m 0 m′ n → Written (outcome-text (text bs)) (length bs + 1) m m′ n
 unfolding outcome-text put-outcome
-text-written bs x = written-of x
+text-written bs x = written-of (length bs + 1) x (omega (arith, counted x, text-short bs))

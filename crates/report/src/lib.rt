@@ -1,7 +1,8 @@
 // The text that an outcome of a script's line prints, written into lent bytes from the first on.
 ghost use mathlib.Core.Path.{_≡_};
-ghost use Prim.Native.Nat.{_≤_};
+ghost use Prim.Native.Nat.{_+_, _*_, _≤_};
 ghost use lib.IntN.{natAbs};
+ghost use lib.ListN.{length};
 ghost use Rattle.syntax.specs.Grammar.{put-int};
 ghost use Rattle.text.specs.Words.{name-of};
 ghost use Rattle.calls.specs.Scripts.{refusal, cells, text};
@@ -142,7 +143,7 @@ fn put_cell(out: &mut [u8], p: u32, d: Due, z: i64) -> u32
 // Returns how many bytes the text of a refusal takes, `refused N` and a line feed.
 // Leaves the text in front and all else as it was; the text's start where there is no room.
 pub fn write_refusal(out: &mut [u8], n: u32) -> u32
-    ensures { λ r. ⌜ Written (outcome-text (refusal n)) (now (out .entry)) (now (out .exit)) r ⌝ }
+    ensures { λ r. ⌜ Written (outcome-text (refusal n)) 20 (now (out .entry)) (now (out .exit)) r ⌝ }
 {
     let a = print::put_word(out, 0, REFUSED);
     let b = print::put_nat(out, a, n);
@@ -152,7 +153,7 @@ pub fn write_refusal(out: &mut [u8], n: u32) -> u32
 // Returns how many bytes the text of an answer's cells takes: `routes R`, and for each route `route G G WIDTH ROWS` and its rows, a line each.
 // Leaves the text in front and all else as it was; the text's start where there is no room.
 pub fn write_cells(out: &mut [u8], zs: &[i64]) -> u32
-    ensures { λ r. ⌜ Written (outcome-text (cells (now (zs .entry)))) (now (out .entry)) (now (out .exit)) r ⌝ }
+    ensures { λ r. ⌜ Written (outcome-text (cells (now (zs .entry)))) (28 * length (now (zs .entry))) (now (out .entry)) (now (out .exit)) r ⌝ }
 {
     let mut d = Due::Routes;
     let mut p: u32 = 0;
@@ -169,7 +170,7 @@ pub fn write_cells(out: &mut [u8], zs: &[i64]) -> u32
 // Returns how many bytes a text takes with a line feed after it.
 // Leaves them in front and all else as it was; their start where there is no room.
 pub fn write_text(out: &mut [u8], bs: &[u8]) -> u32
-    ensures { λ r. ⌜ Written (outcome-text (text (now (bs .entry)))) (now (out .entry)) (now (out .exit)) r ⌝ }
+    ensures { λ r. ⌜ Written (outcome-text (text (now (bs .entry)))) (length (now (bs .entry)) + 1) (now (out .entry)) (now (out .exit)) r ⌝ }
 {
     let mut p: u32 = 0;
     let mut i: usize = 0;
