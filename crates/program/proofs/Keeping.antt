@@ -19,7 +19,7 @@ pub record Keeping (m₀ : Bytes) (kept : ℕ) (part m : Bytes) (k i : ℕ) : Ty
   pub all : i ≤ length part
   pub bytes : take k m ≡ take kept m₀ ++ take i part
 
-take-min : (m : Bytes) (k : ℕ) → take (min k (length m)) m ≡ take k m
+pub take-min : {A : Type 0} (m : List A) (k : ℕ) → take (min k (length m)) m ≡ take k m
 take-min m k = go (leb k (length m)) refl
   where
     go : (b : Bool) → leb k (length m) ≡ b → take (min k (length m)) m ≡ take k m

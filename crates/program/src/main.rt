@@ -1,9 +1,13 @@
 // Reads a script from standard input, does its lines one after another, and writes what they print to standard output.
 // With the argument `--explain` it also says on standard error which line is refused, and why.
 ghost use mathlib.Core.Path.{_≡_};
-ghost use Prim.Native.Nat.{_+_, _-_, _≤_, min};
+ghost use Prim.Native.Nat.{_+_, _*_, _-_, _≤_, min};
 ghost use lib.ListN.{length};
+ghost use Rattle.report.specs.Outcomes.{outcome-text};
+ghost use Rattle.report.specs.Written.{Written};
+ghost use Rattle.script.specs.Steps.{outcome-of};
 ghost use Rattle.program.specs.Lines.{Ends, Keeps};
+ghost use Rattle.program.specs.Output.{Room, Adds};
 use grant::Grant;
 use ledger::Ledger;
 use libc::STDERR_FILENO;
@@ -21,10 +25,10 @@ const CELLS: usize = 4096;
 
 const BYTES: usize = 4096;
 
-// Bytes of output that are kept until they are written, and how many of them any text fits in: 28 a cell.
+// Bytes of output that are kept until they are written, and how many of them any text fits in: 28 a cell, and more than a line has.
 const OUT: usize = 262144;
 
-const MOST: usize = 28 * CELLS;
+const MOST: usize = 131072;
 
 // What goes from line to line: the state of the script, how many lines were done, how many bytes of the next one are kept, how many bytes of output, whether refusals are explained, and whether the input ended.
 struct Run {
@@ -93,7 +97,7 @@ fn keep(line: &mut [u8], kept: usize, part: &[u8]) -> usize
 
 // Writes what is kept of the output where less room is left than any text takes. Returns how much is kept.
 fn made_room(out: &[u8], used: usize) -> usize
-    ensures { λ r. ⌜ r ≤ length (now (out .entry)) ⌝ }
+    ensures { λ r. ⌜ Room (now (out .entry)) used r ⌝ }
 {
     let n = least(used, out.len());
     if out.len() - n < MOST {
@@ -103,8 +107,13 @@ fn made_room(out: &[u8], used: usize) -> usize
     n
 }
 
-// The text of an outcome. Returns how many bytes it has.
-fn print(out: &mut [u8], kind: u32, number: u32, cells: &[i64], bytes: &[u8]) -> usize {
+// The text of an outcome, by its kind and number and the cells and bytes that it left. Returns how many bytes it has.
+fn print(out: &mut [u8], kind: u32, number: u32, cells: &[i64], bytes: &[u8]) -> usize
+    ensures { λ r. ⌜ Written (outcome-text (outcome-of kind number (now (cells .entry)) (now (bytes .entry)))) (28 * length (now (cells .entry)) + length (now (bytes .entry)) + 20) (now (out .entry)) (now (out .exit)) r ⌝ }
+{
+    if kind == Stepped::QUIET {
+        return 0;
+    }
     if kind == Stepped::REFUSED {
         return report::write_refusal(out, number) as usize;
     }
@@ -112,15 +121,14 @@ fn print(out: &mut [u8], kind: u32, number: u32, cells: &[i64], bytes: &[u8]) ->
         let n = least(number as usize, cells.len());
         return report::write_cells(out, &cells[0..n]) as usize;
     }
-    if kind == Stepped::TEXT {
-        let n = least(number as usize, bytes.len());
-        return report::write_text(out, &bytes[0..n]) as usize;
-    }
-    0
+    let n = least(number as usize, bytes.len());
+    report::write_text(out, &bytes[0..n]) as usize
 }
 
 // The text of an outcome after what is kept of the output. Returns how much is kept then.
-fn add(out: &mut [u8], used: usize, kind: u32, number: u32, cells: &[i64], bytes: &[u8]) -> usize {
+fn add(out: &mut [u8], used: usize, kind: u32, number: u32, cells: &[i64], bytes: &[u8]) -> usize
+    ensures { λ r. ⌜ Adds (outcome-text (outcome-of kind number (now (cells .entry)) (now (bytes .entry)))) (28 * length (now (cells .entry)) + length (now (bytes .entry)) + 20) (now (out .entry)) used (now (out .exit)) r ⌝ }
+{
     let at = made_room(out, used);
     let n = print(&mut out[at..], kind, number, cells, bytes);
     at + least(n, out.len() - at)

@@ -19,8 +19,13 @@ do-all-spec =
     (tie.spec
     Inv-loop
     μ-loop
-    {- loop-holds -}
-    (λ c. search needs)
+    {-
+    loop-holds
+    -}
+    (λ
+    c.
+    search
+    needs)
     {- do-some-requires -}
     (λ c κs. search needs)
     {- turns-left-requires -}

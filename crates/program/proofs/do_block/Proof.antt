@@ -20,8 +20,13 @@ do-block-spec =
     (tie.spec
     Inv-loop
     μ-loop
-    {- loop-holds -}
-    (λ c. search needs)
+    {-
+    loop-holds
+    -}
+    (λ
+    c.
+    search
+    needs)
     {- line-end-requires -}
     (λ c κs. search needs)
     {- after-requires -}

@@ -6,8 +6,14 @@ pub do-some-spec : {M : Type 1} → statement M
 do-some-spec =
     tie.close
     (tie.spec
-    {- read-full-requires -}
-    (λ c κs. search needs)
+    {-
+    read-full-requires
+    -}
+    (λ
+    c
+    κs.
+    search
+    needs)
     {- same-length -}
     (λ c. search needs)
     {- returns -}

@@ -17,8 +17,14 @@ keep-spec =
     (tie.spec
     Inv-loop
     μ-loop
-    {- least-requires -}
-    (λ c κs. search needs)
+    {-
+    least-requires
+    -}
+    (λ
+    c
+    κs.
+    search
+    needs)
     {- loop-holds -}
     (λ c. search (keep-ends, needs))
     {- same-length -}

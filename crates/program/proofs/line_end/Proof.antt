@@ -17,8 +17,15 @@ line-end-spec =
     (tie.spec
     Inv-loop
     μ-loop
-    {- loop-holds -}
-    (λ c. search (ahead-ends, needs))
+    {-
+    loop-holds
+    -}
+    (λ
+    c.
+    search (
+      ahead-ends,
+      needs,
+    ))
     {- shared-slice-read-if1 -}
     (λ c. search needs)
     {- returns -}
