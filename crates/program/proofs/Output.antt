@@ -10,8 +10,11 @@ use Rattle.syntax.specs.Grammar.{Bytes}
 use Rattle.calls.specs.Scripts.{quiet, refusal, cells, text}
 use Rattle.report.specs.Outcomes.{put-outcome, outcome-text}
 use Rattle.report.specs.Written.{Written}
-use Rattle.script.specs.Steps.{outcome-of}
-use Rattle.program.specs.Output.{most-text, Room, Adds}
+use Rattle.syntax.specs.Readers.{verb-of}
+use Rattle.history.specs.Fixtures.{Store}
+use Rattle.script.specs.States.{Saying}
+use Rattle.script.specs.Steps.{outcome-of, Does}
+use Rattle.program.specs.Output.{most-text, Room, Adds, Done}
 use Rattle.program.proofs.Keeping.{take-min}
 
 -- ---- outcomes by kind
@@ -84,3 +87,12 @@ module _ (t : Bytes) (most used : ℕ) (m : Bytes) {at : ℕ} (x : Room m used a
           ap (λ (z : Bytes). take (at + k) (take at m ++ (z ++ drop (e - at) (drop at m)))) w
           ∙ ap (λ (z : Bytes). take (at + k) (take at m ++ z)) (append-assoc t (drop (length t) (take (e - at) (drop at m))) (drop (e - at) (drop at m)))
           ∙ take-more (take at m) t (at + k) (omega arith) (drop (length t) (take (e - at) (drop at m)) ++ drop (e - at) (drop at m))
+
+-- ---- a line
+
+pub line-done : (l : Bytes) (kept n : ℕ) {s s′ : Store} {zs : List ℤ} {ys : Bytes} {zs′ : List ℤ} {ys′ m : Bytes} {used : ℕ} {m′ : Bytes} {used′ : ℕ} (y : Saying) → n ≡ min kept (length l)
+    → Does (take (n - 0) l) zs ys (verb-of (take (n - 0) l)) s s′ zs′ ys′ y → Adds (outcome-text (outcome-of (y .kind) (y .number) zs′ ys′)) (28 * length zs′ + length ys′ + 20) m used m′ used′
+    → Done (take kept l) s s′ zs ys zs′ ys′ m used m′ used′
+line-done l kept n {s} {s′} {zs} {ys} {zs′} {ys′} y e d a =
+    let f : n - 0 ≡ n = omega arith in
+    record { said = y; does = subst (λ (w : Bytes). Does w zs ys (verb-of w) s s′ zs′ ys′ y) (ap (λ (j : ℕ). take j l) (f ∙ e) ∙ take-min l kept) d; adds = a }

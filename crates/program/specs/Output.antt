@@ -1,9 +1,15 @@
 -- Output that is kept until it is written.
 use mathlib.Core.Path.{_≡_}
-use mathlib.Core.List.{_++_}
-use Prim.Native.Nat.{ℕ, _+_, _≤_}
+use mathlib.Core.List.{List, _++_}
+use Prim.Native.Nat.{ℕ, _+_, _*_, _≤_}
+use lib.IntN.{ℤ}
 use lib.ListN.{length, take}
 use Rattle.syntax.specs.Grammar.{Bytes}
+use Rattle.syntax.specs.Readers.{verb-of}
+use Rattle.history.specs.Fixtures.{Store}
+use Rattle.report.specs.Outcomes.{outcome-text}
+use Rattle.script.specs.States.{Saying}
+use Rattle.script.specs.Steps.{outcome-of, Does}
 
 -- how many bytes any text takes at most
 abbrev pub most-text : ℕ
@@ -21,3 +27,9 @@ pub record Adds (text : Bytes) (n : ℕ) (m : Bytes) (used : ℕ) (m′ : Bytes)
   pub start : Room m used from
   pub inside : r ≤ length m′
   pub bytes : n ≤ most-text → most-text ≤ length m → take r m′ ≡ take from m ++ text
+
+-- A line is done: from one store and from cells and bytes lent to others, by what the script's step does of its text; and the text of its outcome goes behind the output.
+pub record Done (bs : Bytes) (s s′ : Store) (zs : List ℤ) (ys : Bytes) (zs′ : List ℤ) (ys′ m : Bytes) (used : ℕ) (m′ : Bytes) (used′ : ℕ) : Type 0 where
+  pub said : Saying
+  pub does : Does bs zs ys (verb-of bs) s s′ zs′ ys′ said
+  pub adds : Adds (outcome-text (outcome-of (said .kind) (said .number) zs′ ys′)) (28 * length zs′ + length ys′ + 20) m used m′ used′

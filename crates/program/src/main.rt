@@ -2,12 +2,13 @@
 // With the argument `--explain` it also says on standard error which line is refused, and why.
 ghost use mathlib.Core.Path.{_≡_};
 ghost use Prim.Native.Nat.{_+_, _*_, _-_, _≤_, min};
-ghost use lib.ListN.{length};
+ghost use lib.ListN.{length, take};
 ghost use Rattle.report.specs.Outcomes.{outcome-text};
 ghost use Rattle.report.specs.Written.{Written};
+ghost use Rattle.script.specs.States.{store-of};
 ghost use Rattle.script.specs.Steps.{outcome-of};
 ghost use Rattle.program.specs.Lines.{Ends, Keeps};
-ghost use Rattle.program.specs.Output.{Room, Adds};
+ghost use Rattle.program.specs.Output.{Room, Adds, Done};
 use grant::Grant;
 use ledger::Ledger;
 use libc::STDERR_FILENO;
@@ -193,6 +194,16 @@ fn explain(line: u64, number: u32) {
     io::write_all(STDERR_FILENO, b"\n");
 }
 
+// Explains a refusal where that is asked for.
+fn tell(explains: bool, line: u64, kind: u32, number: u32) {
+    if !explains {
+        return;
+    }
+    if kind == Stepped::REFUSED {
+        explain(line, number);
+    }
+}
+
 // ---- the script
 
 // Does the line that is kept.
@@ -206,7 +217,9 @@ fn do_line(
     cells: &mut [i64],
     bytes: &mut [u8],
     out: &mut [u8],
-) -> Run {
+) -> Run
+    ensures { λ r. ⌜ Done (take (run .kept) (now (line .entry))) (store-of (run .state) (now (names .entry)) (now (times .entry)) (now (values .entry)) (now (words .entry))) (store-of (r .state) (now (names .exit)) (now (times .exit)) (now (values .exit)) (now (words .exit))) (now (cells .entry)) (now (bytes .entry)) (now (cells .exit)) (now (bytes .exit)) (now (out .entry)) (run .used) (now (out .exit)) (r .used) × (r .kept ≡ 0) ⌝ }
+{
     let n = least(run.kept, line.len());
     let r = script::step(
         run.state,
@@ -219,11 +232,7 @@ fn do_line(
         bytes,
     );
     let lines = std::num::wrapping_add_u64(run.lines, 1);
-    if run.explains {
-        if r.kind == Stepped::REFUSED {
-            explain(lines, r.number);
-        }
-    }
+    tell(run.explains, lines, r.kind, r.number);
     let used = add(out, run.used, r.kind, r.number, cells, bytes);
     let state = r.state;
     Run {

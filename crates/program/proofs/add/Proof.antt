@@ -9,8 +9,14 @@ pub add-spec : {M : Type 1} → statement M
 add-spec =
     tie.close
     (tie.spec
-    {- made-room-requires -}
-    (λ c κs. search needs)
+    {-
+    made-room-requires
+    -}
+    (λ
+    c
+    κs.
+    search
+    needs)
     {- sub-print -}
     (λ c. search needs)
     {- part-print-start -}

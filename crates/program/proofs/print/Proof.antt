@@ -7,8 +7,15 @@ pub print-spec : {M : Type 1} → statement M
 print-spec =
     tie.close
     (tie.spec
-    {- returns -}
-    (λ c. search (print-ends, needs))
+    {-
+    returns
+    -}
+    (λ
+    c.
+    search (
+      print-ends,
+      needs,
+    ))
     {- write-refusal-requires -}
     (λ c κs. search needs)
     {- cast-result -}
