@@ -17,9 +17,10 @@ use libc::STDOUT_FILENO;
 use schema::Stream;
 use script::State;
 use script::Stepped;
+use text::Line;
 
 // How much is kept of a line: one byte more than a line may have, so that any longer one is refused for its length.
-const KEPT: usize = 513;
+const KEPT: usize = Line::BYTES + 1;
 
 // Cells and bytes that are lent to a line.
 const CELLS: usize = 4096;
