@@ -1,0 +1,98 @@
+-- The text of an outcome, and output that is kept.
+use mathlib.Core.Path.{_≡_, refl, sym, ap, ap₂, _∙_, subst}
+use mathlib.Core.List.{List, [], _∷_, _++_, append-assoc}
+use Prim.Native.Nat.{ℕ, zero, suc, _+_, _*_, _-_, _≤_, _<_, min}
+use native.Mathlib.Omega.{arith}
+use lib.IntN.{ℤ}
+use lib.ListN.{length, take, drop, length-take, length-drop, length-append}
+use lib.Seq.{take-append-seam}
+use Rattle.syntax.specs.Grammar.{Bytes}
+use Rattle.calls.specs.Scripts.{quiet, refusal, cells, text}
+use Rattle.report.specs.Outcomes.{put-outcome, outcome-text}
+use Rattle.report.specs.Written.{Written}
+use Rattle.syntax.specs.Readers.{verb-of}
+use Rattle.history.specs.Fixtures.{Store}
+use Rattle.script.specs.States.{Saying}
+use Rattle.script.specs.Steps.{outcome-of, Does}
+use Rattle.program.specs.Output.{most-text, Room, Adds, Done}
+use Rattle.program.proofs.Keeping.{take-min}
+
+-- ---- outcomes by kind
+
+more-room : {t : Bytes} {a b : ℕ} {m m′ : Bytes} {n : ℕ} → Written t a m m′ n → a ≤ b → Written t b m m′ n
+more-room x h = record { count = x .count; whole = x .whole; cut = x .cut; few = omega (arith, x .few) }
+
+module _ (k n : ℕ) (zs : List ℤ) (ys m : Bytes) where
+  abbrev all : ℕ
+  all = 28 * length zs + length ys + 20
+
+  pub quiet-printed : k ≡ 0 → Written (outcome-text (outcome-of k n zs ys)) all m m 0
+  unfolding outcome-text put-outcome outcome-of
+  quiet-printed e =
+      subst (λ (j : ℕ). Written (outcome-text (outcome-of j n zs ys)) (28 * length zs + length ys + 20) m m 0) (sym e)
+      (record { count = refl; whole = λ h l. refl; cut = λ h l. absurd (omega arith); few = omega arith })
+
+  pub refusal-printed : {m′ : Bytes} {r : ℕ} → k ≡ 1 → Written (outcome-text (refusal n)) 20 m m′ r → Written (outcome-text (outcome-of k n zs ys)) all m m′ r
+  unfolding outcome-of
+  refusal-printed {m′} {r} e x = subst (λ (j : ℕ). Written (outcome-text (outcome-of j n zs ys)) (28 * length zs + length ys + 20) m m′ r) (sym e) (more-room x (omega arith))
+
+  pub cells-printed : {m′ : Bytes} {r : ℕ} (i : ℕ) → k ≡ 2 → i ≡ min n (length zs) → Written (outcome-text (cells (take (i - 0) zs))) (28 * length (take (i - 0) zs)) m m′ r → Written (outcome-text (outcome-of k n zs ys)) all m m′ r
+  unfolding outcome-of
+  cells-printed {m′} {r} i e f x =
+      let g : i - 0 ≡ i = omega arith in
+      let l : length (take (i - 0) zs) ≡ min (i - 0) (length zs) = length-take (i - 0) zs in
+      subst (λ (j : ℕ). Written (outcome-text (outcome-of j n zs ys)) (28 * length zs + length ys + 20) m m′ r) (sym e)
+      (subst (λ (w : List ℤ). Written (outcome-text (cells w)) (28 * length zs + length ys + 20) m m′ r) (ap (λ (j : ℕ). take j zs) (g ∙ f) ∙ take-min zs n) (more-room x (omega arith)))
+
+  pub text-printed : {m′ : Bytes} {r : ℕ} (i : ℕ) → (k ≡ 0 → ⊥) → (k ≡ 1 → ⊥) → (k ≡ 2 → ⊥) → i ≡ min n (length ys) → Written (outcome-text (text (take (i - 0) ys))) (length (take (i - 0) ys) + 1) m m′ r
+      → Written (outcome-text (outcome-of k n zs ys)) all m m′ r
+  unfolding outcome-of
+  text-printed {m′} {r} i a b c f x =
+      let g : i - 0 ≡ i = omega arith in
+      let l : length (take (i - 0) ys) ≡ min (i - 0) (length ys) = length-take (i - 0) ys in
+      go k a b c
+      (subst (λ (w : Bytes). Written (outcome-text (text w)) (28 * length zs + length ys + 20) m m′ r) (ap (λ (j : ℕ). take j ys) (g ∙ f) ∙ take-min ys n) (more-room x (omega arith)))
+    where
+      go : (j : ℕ) → (j ≡ 0 → ⊥) → (j ≡ 1 → ⊥) → (j ≡ 2 → ⊥) → Written (outcome-text (text (take n ys))) (28 * length zs + length ys + 20) m m′ r
+          → Written (outcome-text (outcome-of j n zs ys)) (28 * length zs + length ys + 20) m m′ r
+      go zero a b c y = absurd (a refl)
+      go (suc zero) a b c y = absurd (b refl)
+      go (suc (suc zero)) a b c y = absurd (c refl)
+      go (suc (suc (suc j))) a b c y = y
+
+pub ruleset print-ends = (quiet-printed, refusal-printed, cells-printed, text-printed)
+
+-- ---- behind what is kept
+
+take-more : (a b : Bytes) (n : ℕ) → n ≡ length a + length b → (c : Bytes) → take n (a ++ (b ++ c)) ≡ a ++ b
+take-more a b n e c = ap (λ (w : Bytes). take n w) (sym (append-assoc a b c)) ∙ ap (λ (j : ℕ). take j ((a ++ b) ++ c)) (e ∙ sym (length-append a b)) ∙ take-append-seam (a ++ b) c
+
+module _ (t : Bytes) (most used : ℕ) (m : Bytes) {at : ℕ} (x : Room m used at) where
+  -- the text is written into the part of m from `at` on, which leaves q
+  pub text-added : {q : Bytes} {n k : ℕ} (e : ℕ) → e ≡ length m → Written t most (take (e - at) (drop at m)) q n → k ≡ min n (length m - at) → length (take at m ++ (q ++ drop (e - at) (drop at m))) ≡ length m
+      → Adds t most m used (take at m ++ (q ++ drop (e - at) (drop at m))) (at + k)
+  text-added {q} {n} {k} e f y g l =
+      record { from = at; start = x; inside = let a = x .inside in omega arith; bytes = fits }
+    where
+      fits : most ≤ most-text → most-text ≤ length m → take (at + k) (take at m ++ (q ++ drop (e - at) (drop at m))) ≡ take at m ++ t
+      fits h i =
+          let a : at + most-text ≤ length m = x .room i in
+          let p : length (take (e - at) (drop at m)) ≡ length m - at = length-take (e - at) (drop at m) ∙ (let b = length-drop at m in omega arith) in
+          let c = y .count in
+          let d = y .few in
+          let long : length t ≤ length m - at = omega arith in
+          let w = y .whole (omega arith) (omega arith) in
+          let o = length-take at m in
+          let v = x .inside in
+          ap (λ (z : Bytes). take (at + k) (take at m ++ (z ++ drop (e - at) (drop at m)))) w
+          ∙ ap (λ (z : Bytes). take (at + k) (take at m ++ z)) (append-assoc t (drop (length t) (take (e - at) (drop at m))) (drop (e - at) (drop at m)))
+          ∙ take-more (take at m) t (at + k) (omega arith) (drop (length t) (take (e - at) (drop at m)) ++ drop (e - at) (drop at m))
+
+-- ---- a line
+
+pub line-done : (l : Bytes) (kept n : ℕ) {s s′ : Store} {zs : List ℤ} {ys : Bytes} {zs′ : List ℤ} {ys′ m : Bytes} {used : ℕ} {m′ : Bytes} {used′ : ℕ} (y : Saying) → n ≡ min kept (length l)
+    → Does (take (n - 0) l) zs ys (verb-of (take (n - 0) l)) s s′ zs′ ys′ y → Adds (outcome-text (outcome-of (y .kind) (y .number) zs′ ys′)) (28 * length zs′ + length ys′ + 20) m used m′ used′
+    → Done (take kept l) s s′ zs ys zs′ ys′ m used m′ used′
+line-done l kept n {s} {s′} {zs} {ys} {zs′} {ys′} y e d a =
+    let f : n - 0 ≡ n = omega arith in
+    record { said = y; does = subst (λ (w : Bytes). Does w zs ys (verb-of w) s s′ zs′ ys′ y) (ap (λ (j : ℕ). take j l) (f ∙ e) ∙ take-min l kept) d; adds = a }
