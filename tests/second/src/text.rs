@@ -186,11 +186,9 @@ fn query(tree: &Tree) -> Option<Query> {
         (b"keep", [columns @ .., below]) => {
             Some(Query::Keep(some(columns, reference)?, boxed(below)?))
         }
-        (b"join", [equality, left, right]) => Some(Query::Join(
-            equal(equality)?,
-            boxed(left)?,
-            boxed(right)?,
-        )),
+        (b"join", [equality, left, right]) => {
+            Some(Query::Join(equal(equality)?, boxed(left)?, boxed(right)?))
+        }
         (head, [column, size, offset, below]) => {
             let aggregate = Aggregate {
                 function: function(head)?,
