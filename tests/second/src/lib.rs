@@ -3,6 +3,7 @@
 pub mod answering;
 pub mod checks;
 pub mod forms;
+pub mod lent;
 pub mod limits;
 pub mod making;
 pub mod meaning;
