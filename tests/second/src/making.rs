@@ -68,11 +68,55 @@ struct Habits {
     spread: i64,
     /// How far the clock goes at a time.
     stride: i64,
-    /// Rows that the first two streams are given before anything is asked.
+    /// Lines of rows and clocks before anything is asked.
     filling: usize,
     grants: usize,
     /// How many grants of a hundred give the right to read.
     reading: usize,
+}
+
+/// How most scripts are made.
+const COMMON: Habits = Habits {
+    slip: 200,
+    damage: 40,
+    roles: 2,
+    spread: 4,
+    stride: 8,
+    filling: 20,
+    grants: 9,
+    reading: 50,
+};
+
+impl Habits {
+    fn any(random: &mut Random) -> Habits {
+        match random.below(10) {
+            0 | 1 => Habits {
+                filling: 175,
+                spread: 1,
+                stride: 3,
+                slip: 500,
+                ..COMMON
+            },
+            2 | 3 => Habits {
+                roles: 1,
+                grants: 25,
+                reading: 80,
+                slip: 500,
+                ..COMMON
+            },
+            4 => Habits {
+                slip: 30,
+                damage: 8,
+                ..COMMON
+            },
+            5 => Habits {
+                stride: 90_000_000,
+                ..COMMON
+            },
+            6 => Habits { slip: 60, ..COMMON },
+            _ => COMMON,
+        }
+    }
 }
 
 pub struct Maker {
@@ -89,43 +133,7 @@ struct Part {
 impl Maker {
     pub fn new(seed: u64) -> Maker {
         let mut random = Random::new(seed);
-        let common = Habits {
-            slip: 200,
-            damage: 40,
-            roles: 2,
-            spread: 4,
-            stride: 8,
-            filling: 6,
-            grants: 9,
-            reading: 50,
-        };
-        let habits = match random.below(10) {
-            0 | 1 => Habits {
-                filling: 175,
-                spread: 1,
-                stride: 3,
-                slip: 500,
-                ..common
-            },
-            2 | 3 => Habits {
-                roles: 1,
-                grants: 25,
-                reading: 80,
-                slip: 500,
-                ..common
-            },
-            4 => Habits {
-                slip: 30,
-                damage: 8,
-                ..common
-            },
-            5 => Habits {
-                stride: 90_000_000,
-                ..common
-            },
-            6 => Habits { slip: 60, ..common },
-            _ => common,
-        };
+        let habits = Habits::any(&mut random);
         Maker { random, habits }
     }
 
@@ -380,8 +388,11 @@ impl Maker {
         let Some(first) = self.some_stream(state) else {
             return vec![];
         };
-        if self.random.one_in(80) {
-            return vec![first, &state.streams[0], &state.streams[0]];
+        if self.random.one_in(60) {
+            return state.streams.iter().take(3).collect();
+        }
+        if self.random.one_in(100) {
+            return vec![first, first];
         }
         match self.random.one_in(2) {
             true => self.pair(state).map_or(vec![], Vec::from),
@@ -530,6 +541,7 @@ impl Maker {
         let pair = self.pair(state).filter(|_| self.random.one_in(2));
         let bare = self.random.one_in(4);
         let part = match pair {
+            Some([left, right]) if self.random.one_in(20) => return self.bushy(left, right).text,
             Some([left, right]) if bare => self.bare_join(left, right),
             Some([left, right]) => self.join(left, right),
             None if bare => self.bare(first),
@@ -589,6 +601,28 @@ impl Maker {
             true => self.keep(joined),
             false => joined,
         }
+    }
+
+    /// A join of about as many forms as a query may have, within the bound of brackets.
+    fn bushy(&mut self, left: &Stream, right: &Stream) -> Part {
+        let (left, right) = (self.bare(left), self.bare(right));
+        let left = self.thinly_layered(left, 4);
+        let right = self.thinly_layered(right, 4);
+        let joined = self.joined(left, right);
+        self.thinly_layered(joined, 1)
+    }
+
+    /// So many layers or one more, each of two brackets at the most.
+    fn thinly_layered(&mut self, mut part: Part, count: usize) -> Part {
+        for _ in 0..count + self.random.below(2) {
+            if self.random.one_in(2) {
+                part = self.keep(part);
+                continue;
+            }
+            let condition = self.comparison(&part.columns, false, false);
+            part.text = format!("(pick {condition} {})", part.text);
+        }
+        part
     }
 
     fn joined(&mut self, left: Part, right: Part) -> Part {

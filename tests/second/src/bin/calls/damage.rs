@@ -90,7 +90,7 @@ fn times(lent: &mut Lent, random: &mut Random) {
     if random.one_in(5) {
         return length(&mut lent.times, random);
     }
-    let stream = random.below(2);
+    let stream = random.below(lent.ledger.rows.len());
     let rows = lent.ledger.rows[stream] as usize;
     let place = stream * 128 + random.below(rows + 1).min(127);
     let time = &mut lent.times.places[place];
@@ -137,6 +137,14 @@ fn grants(lent: &mut Lent, random: &mut Random) {
     }
 }
 
+fn word_count(random: &mut Random) -> u32 {
+    match random.below(40) {
+        0 => number(random),
+        1..10 => random.bits() as u32 >> 12,
+        _ => random.below(110) as u32,
+    }
+}
+
 fn field(grant: &mut Grant, random: &mut Random) {
     let place = random.below(grant.streams.len());
     match random.below(11) {
@@ -146,7 +154,7 @@ fn field(grant: &mut Grant, random: &mut Random) {
         3 => grant.streams[place] = random.below(5) as u32,
         4 => grant.shown ^= 1 << random.below(26),
         5 => grant.shown = random.bits() as u32 >> random.below(33).min(31),
-        6 => grant.words = number(random),
+        6 => grant.words = word_count(random),
         7 => grant.from = number(random),
         8 => grant.to = number(random),
         9 => grant.size = number(random),

@@ -9,8 +9,9 @@ mod library;
 mod world;
 
 use std::process::ExitCode;
+use std::time::{Duration, Instant};
 
-use second::lent::{Caller, GRANT_WORDS, Grant};
+use second::lent::GRANT_WORDS;
 
 use lending::Lent;
 use library::{Call, FUNCTIONS, Outcome};
@@ -25,10 +26,12 @@ struct Tally {
     accepted: [usize; FUNCTIONS.len()],
     refusals: [usize; 12],
     untold: usize,
+    longest: Duration,
 }
 
 impl Tally {
-    fn add(&mut self, call: Call, refusal: u32) {
+    fn add(&mut self, call: Call, refusal: u32, time: Duration) {
+        self.longest = self.longest.max(time);
         self.functions[call.function()] += 1;
         match refusal {
             0 => self.accepted[call.function()] += 1,
@@ -40,7 +43,7 @@ impl Tally {
         let mut counts = vec![];
         for (at, name) in FUNCTIONS.iter().enumerate() {
             counts.push((format!("calls of {name}"), self.functions[at]));
-            counts.push((format!("  accepted"), self.accepted[at]));
+            counts.push(("  accepted".to_string(), self.accepted[at]));
         }
         for (at, count) in self.refusals.iter().enumerate() {
             counts.push((format!("refused {}", at + 1), *count));
@@ -54,7 +57,9 @@ impl Tally {
 fn step(world: &mut World, tally: &mut Tally) -> Result<(), String> {
     let mut attempt = world.attempt();
     let before = attempt.lent.clone();
+    let start = Instant::now();
     let outcome = library::make(attempt.call, &mut attempt.lent);
+    let time = start.elapsed();
     let mut expected_lent = before.clone();
     let expected = expecting::expect(attempt.call, &mut expected_lent, &world.stored);
     let fault = match expected {
@@ -70,7 +75,7 @@ fn step(world: &mut World, tally: &mut Tally) -> Result<(), String> {
     if let Some(fault) = fault {
         return Err(told(&attempt, &before, &fault));
     }
-    tally.add(attempt.call, outcome.refusal());
+    tally.add(attempt.call, outcome.refusal(), time);
     world.adopt(attempt, outcome)
 }
 
@@ -97,7 +102,7 @@ fn plain(outcome: Outcome) -> Outcome {
         Outcome::Grant(0, mut grant) => {
             let used = grant.streams.len().min(grant.count as usize);
             grant.streams[used..].fill(0);
-            Outcome::Grant(0, Grant { ..grant })
+            Outcome::Grant(0, grant)
         }
         Outcome::Caller(0, mut caller) => {
             let roles = caller.role.len().min(caller.roles as usize);
@@ -105,7 +110,7 @@ fn plain(outcome: Outcome) -> Outcome {
             caller.role[roles..].fill(0);
             caller.name[entries..].fill(0);
             caller.value[entries..].fill(0);
-            Outcome::Caller(0, Caller { ..caller })
+            Outcome::Caller(0, caller)
         }
         other => other,
     }
@@ -204,6 +209,7 @@ fn main() -> ExitCode {
     } else {
         "no difference"
     };
+    println!("longest call: {} ms", tally.longest.as_millis());
     println!("{count} calls: {end}");
     match missing {
         true => ExitCode::FAILURE,

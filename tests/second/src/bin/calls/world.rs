@@ -53,6 +53,7 @@ impl World {
         let mut lent = self.lent.clone();
         lent.text = Slice::of(&self.text(call));
         lent.row = Slice::of(&self.row_values(call));
+        (lent.text.null, lent.row.null) = (self.random.one_in(2), self.random.one_in(2));
         let clean = !self.random.one_in(4);
         if !clean {
             damage(call, &mut lent, &mut self.random);
@@ -78,8 +79,10 @@ impl World {
             2 => *self.random.choose(&[Call::Fresh, Call::Nobody]),
             3..15 => Call::Clock(self.time()),
             15..22 => Call::ClockLine,
-            22 => *self.random.choose(&[Call::Clear, Call::ClearLine]),
-            23..40 => Call::Grant(self.grant_count()),
+            22 if self.random.below(60) > self.rows => {
+                *self.random.choose(&[Call::Clear, Call::ClearLine])
+            }
+            22..40 => Call::Grant(self.grant_count()),
             40..50 => Call::Caller,
             50..80 => Call::Ask,
             _ => Call::Line(self.route()),
@@ -90,6 +93,7 @@ impl World {
         match self.random.below(40) {
             0 => self.random.bits(),
             1 => self.random.below(6) as u64,
+            2..30 if self.rows > 50 => 0,
             _ => self.random.below(self.state.streams.len()) as u64,
         }
     }
