@@ -7,7 +7,7 @@ use std::io;
 use std::path::PathBuf;
 use std::process::{Command, ExitCode};
 
-use second::making::Maker;
+use second::making::{self, Maker};
 use second::routes::Kind;
 use second::script::{self, Reply};
 use second::state::State;
@@ -56,27 +56,56 @@ fn kind_place(kind: Kind) -> usize {
     }
 }
 
-/// A script and what the second implementation prints of it.
-fn made(seed: u64, tally: &mut Tally) -> (Vec<u8>, Vec<String>) {
-    let mut maker = Maker::new(seed);
-    let length = maker.opening() + 5 + maker.random.below(40);
-    let (mut text, mut printed) = (vec![], vec![]);
-    let mut state = State::default();
-    for at in 0..length {
-        let start = text.len();
-        text.extend(maker.line(at, &state));
-        text.push(b'\n');
-        for line in script::lines(&text[start..]) {
-            let reply = script::step(&mut state, line);
+/// The script of a seed.
+struct Script {
+    text: Vec<u8>,
+    /// What the second implementation prints of it.
+    printed: Vec<String>,
+    state: State,
+}
+
+impl Script {
+    /// Adds a line, which may hold line feeds.
+    fn add(&mut self, line: &[u8], tally: &mut Tally) {
+        let start = self.text.len();
+        self.text.extend(line);
+        self.text.push(b'\n');
+        for line in script::lines(&self.text[start..]) {
+            let reply = script::step(&mut self.state, line);
             tally.add(&reply);
-            printed.extend(reply.printed());
+            self.printed.extend(reply.printed());
         }
     }
-    let ends_empty = text.ends_with(b"\n\n");
-    if !ends_empty && maker.random.one_in(2) {
-        text.pop();
+
+    /// A last line may stand without a line feed, unless it is empty.
+    fn cut(&mut self) {
+        if !self.text.ends_with(b"\n\n") {
+            self.text.pop();
+        }
     }
-    (text, printed)
+}
+
+fn made(seed: u64, tally: &mut Tally) -> Script {
+    let mut made = Script {
+        text: vec![],
+        printed: vec![],
+        state: State::default(),
+    };
+    let mut maker = Maker::new(seed);
+    if maker.random.one_in(60) {
+        for line in making::full_script(&mut maker.random) {
+            made.add(&line, tally);
+        }
+        return made;
+    }
+    for at in 0..maker.opening() + 5 + maker.random.below(40) {
+        let line = maker.line(at, &made.state);
+        made.add(&line, tally);
+    }
+    if maker.random.one_in(2) {
+        made.cut();
+    }
+    made
 }
 
 /// The first line that differs, from 1, with what the program and the second implementation print there.
@@ -112,9 +141,9 @@ fn compare(program: &str, seed: u64, count: u64) -> io::Result<bool> {
     let mut tally = Tally::default();
     let file = std::env::temp_dir().join(format!("maltziru-script-{}.txt", std::process::id()));
     for number in 0..count {
-        let (text, expected) = made(seed.wrapping_add(number), &mut tally);
-        fs::write(&file, text)?;
-        if !agrees(program, &file, &expected)? {
+        let script = made(seed.wrapping_add(number), &mut tally);
+        fs::write(&file, script.text)?;
+        if !agrees(program, &file, &script.printed)? {
             println!("seed {}", seed.wrapping_add(number));
             return Ok(false);
         }

@@ -131,11 +131,15 @@ impl World {
                 .choose(&[Call::Stream, Call::RowLine, Call::Ask, Call::Caller]),
             false => call,
         };
+        let long = self.random.one_in(20);
+        let length = self.random.between(500, 514) as usize;
         let text = match call {
             Call::Stream => self.maker.stream(&self.state),
             Call::ClockLine => self.maker.clock(&self.state),
             Call::RowLine => self.maker.row(&self.state),
             Call::ClearLine => "(clear)".to_string(),
+            Call::Grant(_) if long => self.maker.long_grant(&self.state, length),
+            Call::Ask | Call::Line(_) if long => self.maker.long_query(&self.state, length),
             Call::Grant(_) => self.maker.grant(&self.state),
             Call::Caller => self.maker.caller(),
             Call::Ask | Call::Line(_) => self.maker.query(&self.state),
