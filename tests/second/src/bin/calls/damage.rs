@@ -126,8 +126,7 @@ fn words(lent: &mut Lent, random: &mut Random) {
 fn grants(lent: &mut Lent, random: &mut Random) {
     let count = lent.grants.len;
     if count == 0 || random.one_in(8) {
-        lent.grants.len = random.below(GRANTS + 4);
-        return;
+        return other_count(lent, random);
     }
     let (one, other) = (random.below(count), random.below(count));
     match random.below(6) {
@@ -135,6 +134,21 @@ fn grants(lent: &mut Lent, random: &mut Random) {
         1 => lent.grants.places[one] = any_grant(random),
         _ => field(&mut lent.grants.places[one], random),
     }
+}
+
+/// Fewer grants, or more: what stands behind those accepted, or grants with no condition.
+fn other_count(lent: &mut Lent, random: &mut Random) {
+    let count = lent.grants.len;
+    lent.grants.len = random.below(GRANTS + 4);
+    if count == 0 || random.one_in(3) {
+        return;
+    }
+    let free = Grant {
+        words: 0,
+        ..lent.grants.places[0]
+    };
+    let longer = count.max(lent.grants.len);
+    lent.grants.places[count..longer].fill(free);
 }
 
 fn word_count(random: &mut Random) -> u32 {
