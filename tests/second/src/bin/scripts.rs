@@ -92,7 +92,7 @@ fn made(seed: u64, tally: &mut Tally) -> Script {
         state: State::default(),
     };
     let mut maker = Maker::new(seed);
-    if maker.random.one_in(60) {
+    if maker.random.one_in(25) {
         for line in making::full_script(&mut maker.random) {
             made.add(&line, tally);
         }

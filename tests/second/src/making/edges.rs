@@ -56,14 +56,13 @@ impl Maker {
 
 /// A script whose one answer has 4,096 or 4,097 cells, give or take a row, or 17 routes.
 pub fn full_script(random: &mut Random) -> Vec<Vec<u8>> {
-    let (grants, columns, rows) = *random.choose(&[
-        (7, 6, 83),
-        (16, 3, 63),
-        (16, 6, 36),
-        (16, 1, 126),
-        (17, 1, 1),
-    ]);
-    let rows = rows + random.between(-1, 1) as usize;
+    const FULL: (usize, usize, usize) = (7, 6, 83);
+    const OVER: [(usize, usize, usize); 4] = [(16, 3, 63), (16, 6, 36), (16, 1, 126), (17, 1, 2)];
+    let (grants, columns, rows) = match random.one_in(2) {
+        true => FULL,
+        false => *random.choose(&OVER),
+    };
+    let rows = rows + random.below(3) - 1;
     let stream = format!("(stream s {})", COLUMNS[..columns].join(" "));
     let row = format!("(row s{})", " 1".repeat(columns));
     let mut lines = vec![stream];

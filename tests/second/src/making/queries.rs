@@ -13,6 +13,10 @@ impl Maker {
         let Some(first) = self.some_stream(state) else {
             return "(in nosuch)".to_string();
         };
+        if self.random.one_in(25) {
+            let depth = 1 + self.random.below(4);
+            return self.wild(state, first, depth).text;
+        }
         let pair = self.pair(state).filter(|_| self.random.one_in(2));
         let bare = self.random.one_in(4);
         let part = match pair {
@@ -26,6 +30,27 @@ impl Maker {
         match bare || self.random.one_in(4) {
             true => self.aggregate(part).text,
             false => part.text,
+        }
+    }
+
+    /// Forms put together with no regard to where they may stand.
+    fn wild(&mut self, state: &State, stream: &Stream, depth: usize) -> Part {
+        if depth == 0 {
+            return self.bare(stream);
+        }
+        let part = self.wild(state, stream, depth - 1);
+        match self.random.below(4) {
+            0 => self.layer(part),
+            1 => self.aggregate(part),
+            _ => {
+                let other = self.random.choose(&state.streams);
+                let below = self.random.below(depth);
+                let side = self.wild(state, other, below);
+                match self.random.one_in(2) {
+                    true => self.joined(part, side),
+                    false => self.joined(side, part),
+                }
+            }
         }
     }
 
