@@ -55,9 +55,11 @@ pub fn check(line: &Written<Line>, state: &State) -> Result<(), Refusal> {
     }
 }
 
+type Check = fn(&Line, &State) -> bool;
+
 /// Refusals 2, 6, 4 and 5: no bound is tried, as for a rewritten line.
 pub fn check_form(line: &Line, state: &State) -> Result<(), Refusal> {
-    let tries: [(Refusal, fn(&Line, &State) -> bool); 4] = [
+    let tries: [(Refusal, Check); 4] = [
         (Refusal::Undeclared, declared),
         (Refusal::Repeated, listed_once),
         (Refusal::Misplaced, placed),
@@ -142,12 +144,13 @@ fn names(line: &Line) -> Vec<&Name> {
 }
 
 fn ref_names(refs: Vec<&Ref>) -> Vec<&Name> {
-    let names = |reference| match reference {
-        &Ref::Column(ref stream, ref column) => vec![stream, column],
-        Ref::Own(name) => vec![name],
-        Ref::Time | Ref::Figure => vec![],
-    };
-    refs.into_iter().flat_map(names).collect()
+    refs.into_iter()
+        .flat_map(|reference| match reference {
+            Ref::Column(stream, column) => vec![stream, column],
+            Ref::Own(name) => vec![name],
+            Ref::Time | Ref::Figure => vec![],
+        })
+        .collect()
 }
 
 fn declared(line: &Line, state: &State) -> bool {

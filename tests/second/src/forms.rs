@@ -120,11 +120,13 @@ impl Condition {
     }
 
     pub fn refs(&self) -> Vec<&Ref> {
-        let both = |(a, b)| match b {
-            &Operand::Ref(ref b) => vec![a, b],
-            Operand::Number(_) => vec![a],
-        };
-        self.tests().into_iter().flat_map(both).collect()
+        let tests = self.tests().into_iter();
+        tests
+            .flat_map(|(a, b)| match b {
+                Operand::Ref(b) => vec![a, b],
+                Operand::Number(_) => vec![a],
+            })
+            .collect()
     }
 }
 
@@ -162,11 +164,13 @@ impl<L> Query<L> {
     }
 
     pub fn conditions(&self) -> Vec<&Condition> {
-        let picked = |form| match form {
-            &Query::Pick(ref condition, _) => Some(condition),
-            _ => None,
-        };
-        self.forms().into_iter().filter_map(picked).collect()
+        let forms = self.forms().into_iter();
+        forms
+            .filter_map(|form| match form {
+                Query::Pick(condition, _) => Some(condition),
+                _ => None,
+            })
+            .collect()
     }
 
     /// All that a form names where a column may stand.
@@ -188,11 +192,13 @@ impl<L> Query<L> {
 impl Query {
     /// The streams read, in the order of their `in` forms.
     pub fn streams(&self) -> Vec<&Name> {
-        let stream = |form| match form {
-            &Query::In(ref name) => Some(name),
-            _ => None,
-        };
-        self.forms().into_iter().filter_map(stream).collect()
+        let forms = self.forms().into_iter();
+        forms
+            .filter_map(|form| match form {
+                Query::In(name) => Some(name),
+                _ => None,
+            })
+            .collect()
     }
 }
 

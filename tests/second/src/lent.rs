@@ -203,11 +203,12 @@ fn shown_of(bits: u32, of: &[usize], streams: &[Stream]) -> Option<Vec<Ref>> {
 /// The bits of shown columns.
 pub fn shown_bits(shown: &[Ref], streams: &[Stream]) -> u32 {
     let place = |column: &Ref| {
-        let headers = streams.iter().map(Stream::header).enumerate();
-        let found = headers.filter_map(|(at, header)| {
-            Some(at * COLUMNS + header.iter().position(|c| c == column)?)
+        let mut headers = streams.iter().map(Stream::header).enumerate();
+        let found = headers.find_map(|(at, header)| {
+            let place = header.iter().position(|shown| shown == column)?;
+            Some(at * COLUMNS + place)
         });
-        found.last().expect("a declared column")
+        found.expect("a declared column")
     };
     shown
         .iter()

@@ -64,12 +64,12 @@ fn step(world: &mut World, tally: &mut Tally) -> Result<(), String> {
     let expected = expecting::expect(attempt.call, &mut expected_lent, &world.stored);
     let fault = match expected {
         Some(expected) => {
-            settle(&outcome, &attempt, &mut expected_lent);
+            settle(&expected, &attempt, &mut expected_lent);
             compared(&outcome, &expected, &attempt.lent, &expected_lent)
         }
         None => {
             tally.untold += 1;
-            kept_within(&outcome, &attempt.lent, &before)
+            kept_within(&outcome, &attempt, &before)
         }
     };
     if let Some(fault) = fault {
@@ -79,13 +79,13 @@ fn step(world: &mut World, tally: &mut Tally) -> Result<(), String> {
     world.adopt(attempt, outcome)
 }
 
-/// An accepted grant's own words may hold anything.
-fn settle(outcome: &Outcome, attempt: &Attempt, expected: &mut Lent) {
-    if let (Call::Grant(count), Outcome::Grant(0, grant)) = (attempt.call, outcome) {
+/// The words of a grant that is to be accepted may hold anything.
+fn settle(expected: &Outcome, attempt: &Attempt, after: &mut Lent) {
+    if let (Call::Grant(count), Outcome::Grant(0, grant)) = (attempt.call, expected) {
         let start = count as usize * GRANT_WORDS;
-        let own = start..start + (grant.words as usize).min(GRANT_WORDS);
+        let own = start..start + grant.words as usize;
         let written = &attempt.lent.words.places[own.clone()];
-        expected.words.places[own].copy_from_slice(written);
+        after.words.places[own].copy_from_slice(written);
     }
 }
 
@@ -117,25 +117,25 @@ fn plain(outcome: Outcome) -> Outcome {
 }
 
 /// What holds of a query whatever its grants' words say: refused, nothing is changed; answered, nothing past the answer.
-fn kept_within(outcome: &Outcome, lent: &Lent, before: &Lent) -> Option<String> {
-    let Outcome::Count(refusal, count) = *outcome else {
+fn kept_within(outcome: &Outcome, attempt: &Attempt, before: &Lent) -> Option<String> {
+    let Outcome::Count(refusal @ 0..=12, count) = *outcome else {
         return Some(format!("returned {outcome:?}"));
     };
-    let count = count as usize;
-    let mut expected = before.clone();
-    if refusal == 0 {
-        if count > before.cells.len.max(before.bytes.len) {
-            return Some(format!("{count} is beyond the room"));
-        }
-        let cells = count.min(before.cells.len);
-        let bytes = count.min(before.bytes.len);
-        expected.cells.places[..cells].copy_from_slice(&lent.cells.places[..cells]);
-        expected.bytes.places[..bytes].copy_from_slice(&lent.bytes.places[..bytes]);
+    let (lent, count) = (&attempt.lent, count as usize);
+    let room = match (refusal, attempt.call) {
+        (0, Call::Ask) => before.cells.len,
+        (0, _) => before.bytes.len,
+        _ => 0,
+    };
+    if count > room {
+        return Some(format!("{count} is beyond the room"));
     }
-    if refusal > 12 || refusal != 0 && count != 0 {
-        return Some(format!("returned {outcome:?}"));
+    let mut after = before.clone();
+    match attempt.call {
+        Call::Ask => after.cells.places[..count].copy_from_slice(&lent.cells.places[..count]),
+        _ => after.bytes.places[..count].copy_from_slice(&lent.bytes.places[..count]),
     }
-    (*lent != expected).then(|| format!("lent memory differs: {}", where_differs(lent, &expected)))
+    (*lent != after).then(|| format!("lent memory differs: {}", where_differs(lent, &after)))
 }
 
 fn where_differs(lent: &Lent, expected: &Lent) -> String {
