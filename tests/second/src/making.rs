@@ -78,6 +78,8 @@ struct Habits {
     grants: usize,
     /// How many grants of a hundred give the right to read.
     reading: usize,
+    /// How many of the aggregate functions are in use.
+    functions: usize,
 }
 
 /// How most scripts are made.
@@ -90,6 +92,7 @@ const COMMON: Habits = Habits {
     filling: 20,
     grants: 9,
     reading: 50,
+    functions: 5,
 };
 
 impl Habits {
@@ -119,6 +122,12 @@ impl Habits {
                 ..COMMON
             },
             6 => Habits { slip: 60, ..COMMON },
+            7 => Habits {
+                grants: 15,
+                reading: 20,
+                functions: 2,
+                ..COMMON
+            },
             _ => COMMON,
         }
     }

@@ -29,7 +29,8 @@ impl Maker {
 
     /// The first ones most often, so that grants and queries meet.
     pub(super) fn function(&mut self) -> &'static str {
-        let (one, other) = (self.random.below(5), self.random.below(5));
+        let count = self.habits.functions;
+        let (one, other) = (self.random.below(count), self.random.below(count));
         FUNCTIONS[one.min(other)]
     }
 
