@@ -89,7 +89,7 @@ const COMMON: Habits = Habits {
     roles: 2,
     spread: 4,
     stride: 8,
-    filling: 20,
+    filling: 36,
     grants: 9,
     reading: 50,
     functions: 5,
@@ -99,7 +99,7 @@ impl Habits {
     fn any(random: &mut Random) -> Habits {
         match random.below(10) {
             0 | 1 => Habits {
-                filling: 175,
+                filling: 215,
                 spread: 1,
                 stride: 3,
                 slip: 500,
@@ -155,7 +155,7 @@ impl Maker {
         let filled = 3 + self.habits.filling;
         let text = match at {
             0..3 => self.stream(state),
-            _ if at < filled && self.random.one_in(6) => self.clock(state),
+            _ if at < filled && self.random.one_in(4) => self.clock(state),
             _ if at < filled => self.row(state),
             _ if at < self.opening() => self.grant(state),
             _ if at == self.opening() => self.caller(),
