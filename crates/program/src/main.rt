@@ -146,15 +146,21 @@ fn say_first(number: u32) {
         io::write_all(STDERR_FILENO, b"a stream or column that is not declared");
     }
     if number == 3 {
-        io::write_all(STDERR_FILENO, b"a limit is exceeded");
+        io::write_all(
+            STDERR_FILENO,
+            b"too long, too many, too deep, or a number out of its range",
+        );
     }
     if number == 4 {
-        io::write_all(STDERR_FILENO, b"something stands where it may not");
+        io::write_all(
+            STDERR_FILENO,
+            b"a part, a column or a number of values that does not fit its place",
+        );
     }
     if number == 5 {
         io::write_all(
             STDERR_FILENO,
-            b"the window's size and offset do not fit each other",
+            b"a window's size or offset is below 1, or its size above 64 offsets",
         );
     }
     if number == 6 {
@@ -170,13 +176,19 @@ fn say_last(number: u32) {
         io::write_all(STDERR_FILENO, b"the stream has all its rows");
     }
     if number == 9 {
-        io::write_all(STDERR_FILENO, b"no grant opens this query for the caller");
+        io::write_all(
+            STDERR_FILENO,
+            b"no grant opens this for the caller, or no route has that number",
+        );
     }
     if number == 10 {
         io::write_all(STDERR_FILENO, b"too many routes");
     }
     if number == 11 {
-        io::write_all(STDERR_FILENO, b"the answer is longer than the room for it");
+        io::write_all(
+            STDERR_FILENO,
+            b"the answer or line is longer than the room for it",
+        );
     }
     if number == 12 {
         io::write_all(STDERR_FILENO, b"what was lent is not what calls made");
