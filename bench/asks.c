@@ -47,6 +47,7 @@ static void far_gaps(void) { overlapping(); ledger.clock = 2000000000; rows(0, 1
 static void tumbling(void) { one_grant(); ledger.clock = 2700; rows(0, 128, 960, 27, 2, measure); set("(sum test.volts 64 64 (in test))"); }
 static void refused(void) { one_grant(); caller("(caller (roles))"); set("(in test)"); }
 static void refused_pick(void) { one_grant(); caller("(caller (roles))"); set("(pick (and (< test.volts 64) (>= test.unit 0) (/= test.lot 200)) (in test))"); }
+static void damaged(void) { one_grant(); grants[0].words = UINT32_MAX; set("(in test)"); }
 static void sixteen(void) {
     fixture();
     for (int i = 0; i < 8; i++) grant("(grant seller avg (of test) (show test.volts) (window 60 60))");
@@ -115,6 +116,7 @@ static const struct sample samples[] = {
     { "sums in tumbling windows, 27 answers", tumbling, 0 },
     { "query refused 9", refused, 0 },
     { "the scan refused 9", refused_pick, 0 },
+    { "query refused 12: a grant of too many words", damaged, 0 },
     { "24 grants, sixteen routes", sixteen, 0 },
     { "seven nested picks", nested_picks, 0 },
     { "seven nested keeps", many_forms, 0 },
