@@ -1,3 +1,4 @@
 pub mod Lines
 pub mod Keeping
 pub mod Output
+pub mod Cut
