@@ -20,7 +20,7 @@ add-result : tie.Need-add-result
 add-result c = let a = c .before .before .before .before .before .before .before .before .before .before .before .before .before .pre .0 .from in let b = c .before .before .before .before .before .before .before .before .before .before .before .before .before .pre .0 .near in record { fits = omega arith }
 
 rows-requires : tie.Need-rows-requires
-rows-requires c κs = rows-ready _ _ _ _ _ _ _ _ _ (c .before .before .before .before .before .before .before .before .before .before .before .before .before .before .args .cells .now) (c .before .before .before .before .before .before .before .before .before .before .before .before .before .before .pre .0) (c .before .before .before .before .before .before .before .plan .ensures) (c .before .before .before .before .before .left-rows .ensures .0) (c .before .before .right .ensures)
+rows-requires c κs = let x = rows-ready _ _ _ _ _ _ _ _ _ (c .before .before .before .before .before .before .before .before .before .before .before .before .before .before .args .cells .now) (c .before .before .before .before .before .before .before .before .before .before .before .before .before .before .pre .0) (c .before .before .before .before .before .before .before .plan .ensures) (c .before .before .before .before .before .left-rows .ensures .0) (c .before .before .right .ensures) in (x .0, x .1, c .before .width .ensures)
 
 after-requires : tie.Need-after-requires
 after-requires c κs = after-ready _ _ _ _ _ _ _ _ _ _ (c .before .before .before .before .before .before .before .before .before .before .before .before .before .before .before .before .before .pre .0) (c .before .before .before .before .before .before .before .before .before .before .plan .ensures) (c .before .before .before .before .width .ensures) (c .before .before .rows .ensures)
