@@ -59,10 +59,14 @@ static void prepare(int k) {
     find(k);
     if (on) on->make(point);
 }
-__attribute__((noinline)) uint32_t measured(int k) {
-    if (k == 0) return 0;
+static __attribute__((noinline)) uint32_t ask(void) {
     struct maltziru_reply r = maltziru_ask(grants, granted, words, WORDS, ledger, names, NAMES, times, PLACES, values, VALUES, who, text(), size, cells, CELLS);
     return r.refusal ? r.refusal : r.count;
+}
+/* from the same place of the stack whatever is below it: copies there cost a little more or less by their place */
+__attribute__((noipa)) uint32_t measured(int k) {
+    _Alignas(64) volatile uint32_t r = k ? ask() : 0;
+    return r;
 }
 static uint32_t left(int k) { (void)k; return sum(1, cells, sizeof cells); }
 static const char *label(int k) {
