@@ -41,7 +41,7 @@ def line(x1, y1, x2, y2, kind):
 
 
 def marks(curves):
-    """where the axes have numbers: the points of x themselves where they double, else round numbers"""
+    """where the axes have numbers: across at the points, where these do not crowd; up at round numbers"""
     xs = sorted({x for points in curves.values() for x, _ in points})
     wide = xs[-1]
     kept = [x for i, x in enumerate(xs) if x == wide or (x * 12 >= wide and xs[i + 1] - x >= wide / 12)]
