@@ -53,11 +53,6 @@ module _ (count words : ℕ) {o : Open} (e : o ≡ none-open) where
 
 pub ruleset none-ends = (none-many, none-few)
 
-pub words-end : (o : Opened) (n : Needs) (place : ℕ) (g : Grant) (ns ws roles profile : List ℕ) {b : ℕ} {p : Open} {s : Bool} → b ≡ caller-bits n g ws roles profile
-    → p ≡ with-opened (o .opens) place b g → s ≡ (o .sound && grant-sound ns g ws) → _≡_ {A = Opened} (record { opens = p; sound = s }) (with-words o n place g ns ws roles profile)
-unfolding with-words
-words-end o n place g ns ws roles profile e f h = rw (f, h, e)
-
 -- ---- the words of a place are a part of all, cut to what is there
 
 module _ (ws : List ℕ) (i : ℕ) {a b : ℕ} (e : a ≡ min (i * grant-words) (length ws)) (f : b ≡ min (a + grant-words) (length ws)) where
@@ -76,10 +71,11 @@ module _ (ws : List ℕ) (i : ℕ) {a b : ℕ} (e : a ≡ min (i * grant-words) 
       go (yes h) z = let y : b - a ≡ grant-words = omega arith in ap (λ (k : ℕ). take k (drop a ws)) y
       go (no h) z = take-all (b - a) (drop a ws) (omega arith) ∙ sym (take-all grant-words (drop a ws) (omega arith))
 
-pub with-end : (o : Opened) (n : Needs) (place : ℕ) (g : Grant) (ns ws roles profile : List ℕ) {a b : ℕ} {r : Opened} → a ≡ min (place * 95) (length ws) → b ≡ min (a + 95) (length ws)
-    → r ≡ with-words o n place g ns (take (b - a) (drop a ws)) roles profile → r ≡ opened-with o n place g ns ws roles profile
-unfolding opened-with
-with-end o n place g ns ws roles profile e f h = h ∙ ap (λ vs. with-words o n place g ns vs roles profile) (words-cut ws place e f)
+pub with-end : (o : Opened) (n : Needs) (place : ℕ) (g : Grant) (ns ws roles profile : List ℕ) {a b k : ℕ} {p : Open} {s : Bool} → a ≡ min (place * 95) (length ws) → b ≡ min (a + 95) (length ws)
+    → k ≡ caller-bits n g (take (b - a) (drop a ws)) roles profile → p ≡ with-opened (o .opens) place k g → s ≡ (o .sound && grant-sound ns g (take (b - a) (drop a ws)))
+    → _≡_ {A = Opened} (record { opens = p; sound = s }) (opened-with o n place g ns ws roles profile)
+unfolding opened-with with-words
+with-end o n place g ns ws roles profile e f h i j = rw (i, j, h, words-cut ws place e f)
 
 -- ---- one after the other
 

@@ -10,7 +10,7 @@ ghost use Rattle.terms.specs.Terms.{biased};
 ghost use Rattle.grant.specs.Grants.{grant-sound};
 ghost use Rattle.routes.specs.Listing.{caller-bits};
 ghost use Rattle.catalogue.specs.Callers.{roles-of, numbers-of, profile-of};
-ghost use Rattle.catalogue.specs.Opened.{blank, none-opened, with-words, opened-with, opened-in};
+ghost use Rattle.catalogue.specs.Opened.{blank, none-opened, opened-with, opened-in};
 use caller::Caller;
 use grant::Grant;
 use needs::Needs;
@@ -106,29 +106,6 @@ impl Opened {
         }
     }
 
-    // It with one grant more in a place, by the words of the grant.
-    fn with_words(
-        self,
-        n: Needs,
-        place: u32,
-        g: Grant,
-        names: &[u64],
-        words: &[u32],
-        roles: &[u64],
-        profile: &[u64],
-    ) -> Self
-        ensures { λ r. ⌜ r ≡ with-words self n place g (now (names .entry)) (now (words .entry)) (now (roles .entry)) (now (profile .entry)) ⌝ }
-    {
-        let bits = caller_bits(n, g, words, roles, profile);
-        let o = self.opens;
-        let opens = o.with_grant(place, bits, g);
-        let sound = also_sound(self.sound, g, names, words);
-        Opened {
-            opens: opens,
-            sound: sound,
-        }
-    }
-
     // Returns it with one grant more in a place: its words are those of its place, as far as they are lent.
     pub fn with(
         self,
@@ -145,7 +122,13 @@ impl Opened {
         let k = granted.len();
         let a = least(place as usize * Grant::PLACE, k);
         let b = least(a + Grant::PLACE, k);
-        self.with_words(n, place, g, names, &granted[a..b], roles, profile)
+        let bits = caller_bits(n, g, &granted[a..b], roles, profile);
+        let sound = also_sound(self.sound, g, names, &granted[a..b]);
+        let o = self.opens;
+        Opened {
+            opens: o.with_grant(place, bits, g),
+            sound: sound,
+        }
     }
 
     // Returns it with one grant more in a place, for a caller by value.

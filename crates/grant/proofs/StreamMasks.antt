@@ -1,19 +1,19 @@
 -- The mask of the columns of some streams, as the code makes it.
 use mathlib.Core.Path.{_≡_, refl, sym, ap, _∙_}
 use mathlib.Core.List.{List, [], _∷_, _++_, map}
-use Prim.Native.Nat.{ℕ, _+_, _*_, _-_, _^_, _≤_, _<_, min}
+use Prim.Native.Nat.{ℕ, _+_, _*_, _-_, _^_, _%_, _≤_, _<_, min}
 use native.Mathlib.Omega.{arith}
 use lib.Bits.{bitOr, or-zero-r}
 use lib.ListN.{getD}
-use borrow.Author.Tests.{lt-ltb}
-use Rattle.lists.specs.Lists.{gather, count-from}
+use lib.Dec.{T, eqb, leb, leb→le, eqb→eq}
+use Rattle.lists.specs.Lists.{every, gather, count-from}
 use Rattle.lists.proofs.Laws.{append-nil}
-use Rattle.lists.proofs.Counting.{count-left, count-done}
-use Rattle.lists.proofs.Gathers.{gather-map, map-ones}
+use Rattle.lists.proofs.Counting.{every-at, count-left, count-done}
+use Rattle.lists.proofs.Gathers.{gather-map}
 use Rattle.schema.specs.Schemas.{width-in}
 use Rattle.schema.proofs.Soundness.{width-most}
 use Rattle.schema.proofs.Tests.{width-none}
-use Rattle.masks.specs.Masks.{with-bit, mask-of}
+use Rattle.masks.specs.Masks.{mask-of}
 use Rattle.masks.proofs.Lists.{mask-append, or-assoc}
 use Rattle.grant.specs.Grants.{places-of, column-codes, streams-mask}
 
@@ -38,10 +38,6 @@ module _ (f : ℕ → List ℕ) where
 
 -- ---- the columns of one stream
 
--- the bit of a column
-abbrev pub column-bit : ℕ → ℕ → List ℕ
-column-bit s c = (s * 6 + c) ∷ []
-
 abbrev pub stream-bits : List ℕ → ℕ → List ℕ
 stream-bits ns s = map (λ c. s * 6 + c) (count-from 0 (width-in ns s))
 
@@ -49,33 +45,42 @@ pub one-stream : (ns : List ℕ) (s : ℕ) → streams-mask ns (s ∷ []) ≡ ma
 unfolding streams-mask column-codes gather
 one-stream ns s = ap mask-of (append-nil (stream-bits ns s))
 
-pub stream-past : (mask : ℕ) (ns : List ℕ) (s : ℕ) → 4 ≤ s → mask ≡ bitOr mask (streams-mask ns (s ∷ []))
+pub stream-past : (ns : List ℕ) (s : ℕ) → 4 ≤ s → 0 ≡ streams-mask ns (s ∷ [])
 unfolding count-from mask-of
-stream-past mask ns s h =
+stream-past ns s h =
     let z : width-in ns s ≡ 0 = sym (width-none ns s h) in
     let e : mask-of (stream-bits ns s) ≡ 0 = rw z in
-    sym (rw (one-stream ns s, e) (or-zero-r mask))
+    sym (one-stream ns s ∙ e)
 
-module _ (mask : ℕ) (ns : List ℕ) (s n : ℕ) (e : n ≡ width-in ns s) where
+-- the lowest n bits, as the code makes them, and these moved to the place of a stream
+abbrev lowest : ℕ → ℕ
+lowest n = (1 * 2 ^ n) % 2 ^ 32 - 1
+
+abbrev moved : ℕ → ℕ → ℕ
+moved s n = (lowest n * 2 ^ (s * 6)) % 2 ^ 32
+
+-- of every stream and every width
+one-table : T (every (λ n. leb 1 ((1 * 2 ^ n) % 2 ^ 32)) (count-from 0 7))
+unfolding every count-from
+one-table = tt
+
+bits-table : T (every (λ s. every (λ n. eqb (moved s n) (mask-of (map (λ c. s * 6 + c) (count-from 0 n)))) (count-from 0 7)) (count-from 0 4))
+unfolding every count-from mask-of
+bits-table = tt
+
+module _ (ns : List ℕ) (s : ℕ) {n : ℕ} (e : n ≡ width-in ns s) where
   pub narrow : n ≤ 6
   narrow = let h = width-most ns s in omega arith
 
-  pub columns-start : joined (column-bit s) mask 0 n ≡ joined (column-bit s) mask 0 n
-  columns-start = refl
+  pub some-lowest : 1 ≤ (1 * 2 ^ n) % 2 ^ 32
+  some-lowest = let h = narrow in leb→le 1 ((1 * 2 ^ n) % 2 ^ 32) (every-at (λ n. leb 1 ((1 * 2 ^ n) % 2 ^ 32)) 0 7 one-table n (omega arith) (omega arith))
 
-  module _ (m c : ℕ) (inv : joined (column-bit s) mask 0 n ≡ joined (column-bit s) m c n) where
-    pub column-on : {k : ℕ} → c < n → s < 4 → k ≡ with-bit m (s * 6 + c) → joined (column-bit s) mask 0 n ≡ joined (column-bit s) k (c + 1) n
-    unfolding with-bit mask-of
-    column-on h l w =
-        let r = narrow in
-        join-on (column-bit s) _ m c n inv h (w ∙ rw (lt-ltb (s * 6 + c) 32 (omega arith), or-zero-r (2 ^ (s * 6 + c))))
-
-    pub column-end : n ≤ c → m ≡ bitOr mask (streams-mask ns (s ∷ []))
-    column-end h =
-        let z : n - 0 ≡ width-in ns s = omega arith in
-        join-end (column-bit s) _ m c n inv h ∙ rw (z, one-stream ns s, map-ones (λ c. s * 6 + c) (count-from 0 (width-in ns s)))
-
-pub ruleset column-ends = (stream-past, narrow, columns-start, column-on, column-end)
+  pub stream-moved : s < 4 → moved s n ≡ streams-mask ns (s ∷ [])
+  stream-moved l =
+      let h = narrow in
+      let row = every-at (λ s. every (λ n. eqb (moved s n) (mask-of (map (λ c. s * 6 + c) (count-from 0 n)))) (count-from 0 7)) 0 4 bits-table s (omega arith) (omega arith) in
+      let here = every-at (λ n. eqb (moved s n) (mask-of (map (λ c. s * 6 + c) (count-from 0 n)))) 0 7 row n (omega arith) (omega arith) in
+      eqb→eq (moved s n) (mask-of (map (λ c. s * 6 + c) (count-from 0 n))) here ∙ ap (λ k. mask-of (map (λ c. s * 6 + c) (count-from 0 k))) e ∙ sym (one-stream ns s)
 
 -- ---- the streams of some places
 
@@ -89,8 +94,8 @@ places-start ns count ss n e =
     rw z (ap mask-of (gather-map (stream-bits ns) (λ i. getD ss i 0) (count-from 0 (min count 4))))
 
 module _ (ns : List ℕ) (count : ℕ) (ss : List ℕ) (m i n : ℕ) (inv : streams-mask ns (places-of count ss) ≡ joined (place-bits ns ss) m i n) where
-  pub places-on : {k : ℕ} → i < n → k ≡ bitOr m (streams-mask ns (getD ss i 0 ∷ [])) → streams-mask ns (places-of count ss) ≡ joined (place-bits ns ss) k (i + 1) n
-  places-on h e = join-on (place-bits ns ss) _ m i n inv h (e ∙ ap (bitOr m) (one-stream ns (getD ss i 0)))
+  pub places-on : {k l : ℕ} → i < n → l ≡ streams-mask ns (getD ss i 0 ∷ []) → k ≡ bitOr m l → streams-mask ns (places-of count ss) ≡ joined (place-bits ns ss) k (i + 1) n
+  places-on h d e = join-on (place-bits ns ss) _ m i n inv h (e ∙ ap (bitOr m) (d ∙ one-stream ns (getD ss i 0)))
 
   pub places-end : n ≤ i → m ≡ streams-mask ns (places-of count ss)
   places-end h = join-end (place-bits ns ss) _ m i n inv h

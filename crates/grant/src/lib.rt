@@ -23,21 +23,17 @@ fn places(count: u32) -> usize
     Stream::MOST
 }
 
-// A mask with the columns of one stream more; a number of 4 or more is no stream.
-fn with_columns(mask: u32, names: &[u64], s: usize) -> u32
-    ensures { λ r. ⌜ r ≡ bitOr mask (streams-mask (now (names .entry)) (s ∷ [])) ⌝ }
+const COLUMNS: u32 = Stream::COLUMNS as u32;
+
+// Returns the columns of a stream, as bits; a number of 4 or more is no stream.
+pub fn stream_columns(names: &[u64], s: u32) -> u32
+    ensures { λ r. ⌜ r ≡ streams-mask (now (names .entry)) (s ∷ []) ⌝ }
 {
-    let n = schema::width(names, s);
-    let mut m = mask;
-    if Stream::MOST <= s {
-        return m;
+    if Stream::MOST <= s as usize {
+        return 0;
     }
-    let mut c: usize = 0;
-    while c < n {
-        m = masks::with(m, (s * Stream::COLUMNS + c) as u32);
-        c += 1;
-    }
-    m
+    let n = schema::width(names, s as usize) as u32;
+    ((1 << n) - 1) << (s * COLUMNS)
 }
 
 // Returns the columns of the first `count` streams of four places, as bits.
@@ -48,7 +44,7 @@ pub fn columns_mask(names: &[u64], count: u32, streams: [u32; Stream::MOST]) -> 
     let mut m: u32 = 0;
     let mut i: usize = 0;
     while i < n {
-        m = with_columns(m, names, streams[i] as usize);
+        m = masks::either(m, stream_columns(names, streams[i]));
         i += 1;
     }
     m

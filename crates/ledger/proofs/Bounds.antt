@@ -1,12 +1,12 @@
 -- Bounds of the ledger, and times that do not fall, as the code tests them.
-use mathlib.Core.Path.{_≡_, sym, ap, _∙_}
-use mathlib.Core.Bool.{Bool, false, _&&_}
+use mathlib.Core.Path.{_≡_, refl, sym, ap, _∙_}
+use mathlib.Core.Bool.{Bool, true, false, _&&_, not}
 use Prim.Native.Nat.{ℕ, suc, _+_, _*_, _-_, _<_, _≤_}
 use native.Mathlib.Numerals.{add-one}
 use native.Mathlib.Omega.{arith}
 use lib.Dec.{leb}
 use lib.ListN.{getD}
-use borrow.Author.Tests.{le-leb, lt-leb}
+use borrow.Author.Tests.{le-leb, lt-leb, not-true, not-false}
 use mathlib.Core.List.{List}
 use Rattle.lists.specs.Lists.{every}
 use Rattle.syntax.specs.Limits.{max-rows, top}
@@ -47,6 +47,62 @@ module _ (times : List ℕ) (low k i end : ℕ) where
   steady-done h =
       let e : end - i ≡ 0 = omega arith in
       rw e
+
+-- ---- four times at once
+
+module _ (times : List ℕ) (low i : ℕ) where
+  abbrev here : ℕ → ℕ
+  here j = getD times (i + j) 0
+
+  abbrev four : Bool → Bool
+  four b = leb low (getD times i 0) && (leb (getD times i 0) (here 1) && (leb (here 1) (here 2) && (leb (here 2) (here 3) && b)))
+
+  rising-is : times-steady times low (here 3) i 4 ≡ four true
+  unfolding times-steady
+  rising-is =
+      let b : i + 2 ≡ suc (suc i) = omega arith in
+      let c : i + 3 ≡ suc (suc (suc i)) = omega arith in
+      rw (add-one i, b, c, le-leb (getD times (suc (suc (suc i))) 0) (getD times (suc (suc (suc i))) 0) (omega arith))
+
+  pub rising-first : getD times i 0 < low → false ≡ times-steady times low (here 3) i 4
+  rising-first h = sym (rising-is ∙ rw (lt-leb low (getD times i 0) h))
+
+  module _ (g : low ≤ getD times i 0) where
+    pub rising-second : here 1 < getD times i 0 → false ≡ times-steady times low (here 3) i 4
+    rising-second h = sym (rising-is ∙ rw (le-leb low (getD times i 0) g, lt-leb (getD times i 0) (here 1) h))
+
+    module _ (k : getD times i 0 ≤ here 1) where
+      pub rising-third : here 2 < here 1 → false ≡ times-steady times low (here 3) i 4
+      rising-third h = sym (rising-is ∙ rw (le-leb low (getD times i 0) g, le-leb (getD times i 0) (here 1) k, lt-leb (here 1) (here 2) h))
+
+      pub rising-last : here 1 ≤ here 2 → leb (here 2) (here 3) ≡ times-steady times low (here 3) i 4
+      rising-last h = sym (rising-is ∙ rw (le-leb low (getD times i 0) g, le-leb (getD times i 0) (here 1) k, le-leb (here 1) (here 2) h) (both (leb (here 2) (here 3))))
+        where
+          both : (b : Bool) → (b && true) ≡ b
+          both true = refl
+          both false = refl
+
+  steady-four : (k end : ℕ) → i + 4 ≤ end → times-steady times low k i (end - i) ≡ (times-steady times low (here 3) i 4 && times-steady times (here 3) k (i + 4) (end - (i + 4)))
+  unfolding times-steady
+  steady-four k end h =
+      let n : end - i ≡ suc (suc (suc (suc (end - (i + 4))))) = omega arith in
+      let b : i + 2 ≡ suc (suc i) = omega arith in
+      let c : i + 3 ≡ suc (suc (suc i)) = omega arith in
+      let d : i + 4 ≡ suc (suc (suc (suc i))) = omega arith in
+      ap (times-steady times low k i) n ∙ (rw (add-one i, b, c, d) (apart (leb low (getD times i 0)) (leb (getD times i 0) (getD times (suc i) 0)) (leb (getD times (suc i) 0) (getD times (suc (suc i)) 0)) (leb (getD times (suc (suc i)) 0) (getD times (suc (suc (suc i))) 0)) _)) ∙ ap (λ x. x && times-steady times (here 3) k (i + 4) (end - (i + 4))) (sym rising-is)
+    where
+      apart : (p q r s x : Bool) → (p && (q && (r && (s && x)))) ≡ ((p && (q && (r && (s && true)))) && x)
+      apart true true true true x = refl
+      apart true true true false x = refl
+      apart true true false s x = refl
+      apart true false r s x = refl
+      apart false q r s x = refl
+
+  pub steady-four-past : (k end : ℕ) {r : Bool} → i + 4 ≤ end → r ≡ times-steady times low (here 3) i 4 → not r ≡ false → times-steady times low k i (end - i) ≡ times-steady times (here 3) k (i + 4) (end - (i + 4))
+  steady-four-past k end {r} h e f = steady-four k end h ∙ ap (λ x. x && times-steady times (here 3) k (i + 4) (end - (i + 4))) (sym e ∙ not-false r f)
+
+  pub steady-four-fails : (k end : ℕ) {r : Bool} → i + 4 ≤ end → r ≡ times-steady times low (here 3) i 4 → not r ≡ true → times-steady times low k i (end - i) ≡ false
+  steady-four-fails k end {r} h e f = steady-four k end h ∙ ap (λ x. x && times-steady times (here 3) k (i + 4) (end - (i + 4))) (sym e ∙ not-true r f)
 
 pub stream-tested : (l : Ledger) (times : List ℕ) (s count : ℕ) (b v : Bool) → count ≡ count-in l s → b ≡ times-steady times 0 (l .clock) (s * max-rows) count → b ≡ v → stream-steady l times s ≡ v
 unfolding stream-steady

@@ -1,8 +1,8 @@
 // The clock and the four row counts, which go in with a call and come back with it. Rows stand in lent memory: a time and six values a place, 128 places a stream.
 ghost use mathlib.Core.Path.{_≡_};
-ghost use Prim.Native.Nat.{_+_, _*_, _≤_, _<_};
+ghost use Prim.Native.Nat.{_+_, _*_, _-_, _≤_, _<_};
 ghost use lib.Dec.{T};
-ghost use lib.ListN.{length};
+ghost use lib.ListN.{length, getD};
 ghost use lib.Seq.{paste};
 ghost use Rattle.lists.specs.Lists.{every};
 ghost use Rattle.syntax.specs.Limits.{max-streams, max-columns, max-rows, is-value};
@@ -188,14 +188,34 @@ impl Ledger {
     }
 }
 
-// The times of some places from one on do not fall, and none is past the clock.
-fn steady(times: &[u32], clock: u32, at: usize, count: usize) -> bool
-    requires { ⌜ at + count ≤ length (now times) ⌝ }
-    ensures { λ r. ⌜ r ≡ times-steady (now (times .entry)) 0 clock at count ⌝ }
+// Four times from a place on do not fall, nor is the first below another.
+fn rising(times: &[u32], low: u32, i: usize) -> bool
+    requires { ⌜ i + 4 ≤ length (now times) ⌝ }
+    ensures { λ r. ⌜ r ≡ times-steady (now (times .entry)) low (getD (now (times .entry)) (i + 3) 0) i 4 ⌝ }
 {
-    let mut low: u32 = 0;
+    let a = times[i];
+    if a < low {
+        return false;
+    }
+    let b = times[i + 1];
+    if b < a {
+        return false;
+    }
+    let c = times[i + 2];
+    if c < b {
+        return false;
+    }
+    c <= times[i + 3]
+}
+
+// The times from a place up to another do not fall, from a lowest one on, and none is past the clock.
+fn rest_steady(times: &[u32], lowest: u32, clock: u32, at: usize, end: usize) -> bool
+    requires { ⌜ end ≤ length (now times) ⌝ }
+    ensures { λ r. ⌜ r ≡ times-steady (now (times .entry)) lowest clock at (end - at) ⌝ }
+{
+    let mut low = lowest;
     let mut i = at;
-    while i < at + count {
+    while i < end {
         let t = times[i];
         if t < low {
             return false;
@@ -204,6 +224,24 @@ fn steady(times: &[u32], clock: u32, at: usize, count: usize) -> bool
         i += 1;
     }
     low <= clock
+}
+
+// The times of some places from one on do not fall, and none is past the clock: four at a time, then the rest.
+fn steady(times: &[u32], clock: u32, at: usize, count: usize) -> bool
+    requires { ⌜ at + count ≤ length (now times) ⌝ }
+    ensures { λ r. ⌜ r ≡ times-steady (now (times .entry)) 0 clock at count ⌝ }
+{
+    let end = at + count;
+    let mut low: u32 = 0;
+    let mut i = at;
+    while i + 4 <= end {
+        if !rising(times, low, i) {
+            return false;
+        }
+        low = times[i + 3];
+        i += 4;
+    }
+    rest_steady(times, low, clock, i, end)
 }
 
 // Returns whether ledger and rows may be lent with the names of the streams (refusal 12).

@@ -50,17 +50,13 @@ pub ruleset fn-ends = (fn-none, fn-past, fn-one)
 
 -- ---- columns
 
-pub one-stream : (ns : List ℕ) (s : ℕ) (ss : List ℕ) {x : ℕ} → x ≡ streams-mask ns (places-of 1 (s ∷ ss)) → x ≡ streams-mask ns (s ∷ [])
-unfolding places-of count-from
-one-stream ns s ss e = e
-
 pub order-bits : (m : ℕ) {x : ℕ} → x ≡ mask-of (codes-in m) → bitAnd x 16777215 ≡ bitAnd (mask-of (codes-in m)) all-columns
 order-bits m e = ap (λ y. bitAnd y 16777215) e
 
 pub pick-bits : (ws : List ℕ) (k : ℕ) {j x : ℕ} → j ≡ link ws k → x ≡ named-by (compared ws j k) → x ≡ named-by (compared ws (link ws k) k)
 pick-bits ws k e f = f ∙ ap (λ j. named-by (compared ws j k)) e
 
-pub ruleset column-ends = (one-stream, order-bits, pick-bits)
+pub ruleset column-ends = (order-bits, pick-bits)
 
 -- ---- forms
 

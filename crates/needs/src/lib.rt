@@ -1,10 +1,8 @@
 // What a query asks of grants: one struct of numbers, from the table of its forms.
 ghost use mathlib.Core.Path.{_≡_};
-ghost use mathlib.Core.List.{[], _∷_};
 ghost use lib.Bits.{bitAnd};
 ghost use Rattle.masks.specs.Masks.{mask-of};
 ghost use Rattle.orders.specs.Orders.{codes-in};
-ghost use Rattle.grant.specs.Grants.{streams-mask};
 ghost use Rattle.query.specs.Tables.{query-forms};
 ghost use Rattle.comparisons.specs.Compared.{compared, named-by};
 ghost use Rattle.nodes.specs.Nodes.{link};
@@ -61,14 +59,6 @@ fn fn_number(n: u32) -> u32
     n
 }
 
-// The columns of a stream.
-fn stream_columns(names: &[u64], s: u32) -> u32
-    ensures { λ r. ⌜ r ≡ streams-mask (now (names .entry)) (s ∷ []) ⌝ }
-{
-    let streams = [s, 0, 0, 0];
-    grant::columns_mask(names, 1, streams)
-}
-
 // The columns of an order.
 fn order_columns(order: u64) -> u32
     ensures { λ r. ⌜ r ≡ bitAnd (mask-of (codes-in order)) all-columns ⌝ }
@@ -96,7 +86,7 @@ impl Needs {
     fn of_rows(names: &[u64], s: u32) -> Self
         ensures { λ r. ⌜ r ≡ rows-needs (now (names .entry)) s ⌝ }
     {
-        let header = stream_columns(names, s);
+        let header = grant::stream_columns(names, s);
         Needs {
             left: s,
             right: Needs::NONE,

@@ -126,10 +126,6 @@ pub ruleset unfitting-ends = (unfitting-size, unfitting-offset, unfitting-other)
 
 -- ---- one form
 
-pub columns-one : (ns : List ℕ) (s : ℕ) {m : ℕ} → m ≡ streams-mask ns (places-of 1 (s ∷ 0 ∷ 0 ∷ 0 ∷ [])) → m ≡ streams-mask ns (s ∷ [])
-unfolding places-of count-from
-columns-one ns s e = e
-
 pub rows-made : (ns : List ℕ) (p : Placing) (s : ℕ) {m v : ℕ} {a b : Bool} → m ≡ streams-mask ns (s ∷ []) → a ≡ bit? (p .seen) s → b ≡ (p .misplaced || a) → v ≡ with-bit (p .seen) s
     → record { top = record { mask = m; joined = false; grouped = false }; under = p .top; seen = v; misplaced = b; window = p .window } ≡ with-rows ns p s
 unfolding with-rows

@@ -1,11 +1,9 @@
 // The query of a line: its checks, and the table of its forms.
 ghost use mathlib.Core.Path.{_≡_};
-ghost use mathlib.Core.List.{[], _∷_};
 ghost use mathlib.Core.Bool.{_&&_};
 ghost use Prim.Native.Nat.{_≤_};
 ghost use Rattle.syntax.specs.Limits.{max-forms};
 ghost use Rattle.masks.specs.Masks.{bit?};
-ghost use Rattle.grant.specs.Grants.{streams-mask};
 ghost use Rattle.query_line.specs.Placing.{no-side, sideless, begun, with-rows, unpicked, with-pick, unkept, with-keep, links, unjoined, with-join, ungrouped, unfitting, with-aggregate, with-form};
 ghost use Rattle.query_line.specs.Asking.{placing-of, asked-of, Asks};
 ghost use Rattle.query_line.specs.Texts.{unread-asked, unread-routed, routed-of, QueryTold, AskTold, RouteTold};
@@ -94,20 +92,11 @@ fn begun() -> Placing
     }
 }
 
-// The columns of a stream, as bits.
-fn columns_of(names: &[u64], s: u32) -> u32
-    ensures { λ r. ⌜ r ≡ streams-mask (now (names .entry)) (s ∷ []) ⌝ }
-{
-    let mut streams = [0u32; Stream::MOST];
-    streams[0] = s;
-    grant::columns_mask(names, 1, streams)
-}
-
 // A stream's rows.
 fn with_rows(p: Placing, names: &[u64], s: u32) -> Placing
     ensures { λ r. ⌜ r ≡ with-rows (now (names .entry)) p s ⌝ }
 {
-    let mask = columns_of(names, s);
+    let mask = grant::stream_columns(names, s);
     let top = Side {
         mask: mask,
         joined: false,

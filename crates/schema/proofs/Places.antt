@@ -50,6 +50,9 @@ filled-above ns at (suc n) i h = go (eqb (getD ns at 0) 0) refl i h (λ k l. fil
         rw d (omega arith)
     go false e (suc i) h f = let d : suc at + i ≡ at + suc i = omega arith in rw d at (f i (omega arith))
 
+pub filled-first : (ns : List ℕ) (at n : ℕ) → 0 < filled ns at n → 0 < getD ns at 0
+filled-first ns at n h = let d : at + 0 ≡ at = omega arith in rw d at (filled-above ns at n 0 h)
+
 pub filled-stops : (ns : List ℕ) (at n : ℕ) → filled ns at n < n → getD ns (at + filled ns at n) 0 ≡ 0
 unfolding filled
 filled-stops ns at zero h = absurd (omega arith)
@@ -129,13 +132,13 @@ module _ (ns : List ℕ) (at n i : ℕ) where
   -- ---- all are 0
 
   module _ (inv : zeros ns at n ≡ zeros ns (at + i) (n - i)) where
-    pub zeros-stop : {x : ℕ} → i < n → x ≡ getD ns (at + i) 0 → (x ≡ 0 → ⊥) → false ≡ zeros ns at n
+    pub zeros-stop : i < n → (getD ns (at + i) 0 ≡ 0 → ⊥) → false ≡ zeros ns at n
     unfolding zeros every
-    zeros-stop h e z = sym (inv ∙ rw (left-more at n i h, ne-eqb (getD ns (at + i) 0) 0 (λ y. z (e ∙ y))))
+    zeros-stop h z = sym (inv ∙ rw (left-more at n i h, ne-eqb (getD ns (at + i) 0) 0 z))
 
-    pub zeros-on : {x : ℕ} → i < n → x ≡ getD ns (at + i) 0 → x ≡ 0 → zeros ns at n ≡ zeros ns (at + (i + 1)) (n - (i + 1))
+    pub zeros-on : i < n → getD ns (at + i) 0 ≡ 0 → zeros ns at n ≡ zeros ns (at + (i + 1)) (n - (i + 1))
     unfolding zeros every
-    zeros-on h e z = inv ∙ rw (left-more at n i h, eq-eqb (getD ns (at + i) 0) 0 (sym e ∙ z))
+    zeros-on h z = inv ∙ rw (left-more at n i h, eq-eqb (getD ns (at + i) 0) 0 z)
 
     pub zeros-end : n ≤ i → true ≡ zeros ns at n
     unfolding zeros every
@@ -144,19 +147,23 @@ module _ (ns : List ℕ) (at n i : ℕ) where
   -- ---- one is a number
 
   module _ (code : ℕ) (inv : stands ns at n code ≡ stands ns (at + i) (n - i) code) where
-    pub stands-stop : {x : ℕ} → i < n → x ≡ getD ns (at + i) 0 → x ≡ code → true ≡ stands ns at n code
+    pub stands-stop : i < n → getD ns (at + i) 0 ≡ code → true ≡ stands ns at n code
     unfolding stands some?
-    stands-stop h e z = sym (inv ∙ rw (left-more at n i h, eq-eqb (getD ns (at + i) 0) code (sym e ∙ z)))
+    stands-stop h z = sym (inv ∙ rw (left-more at n i h, eq-eqb (getD ns (at + i) 0) code z))
 
-    pub stands-on : {x : ℕ} → i < n → x ≡ getD ns (at + i) 0 → (x ≡ code → ⊥) → stands ns at n code ≡ stands ns (at + (i + 1)) (n - (i + 1)) code
+    pub stands-on : i < n → (getD ns (at + i) 0 ≡ code → ⊥) → stands ns at n code ≡ stands ns (at + (i + 1)) (n - (i + 1)) code
     unfolding stands some?
-    stands-on h e z = inv ∙ rw (left-more at n i h, ne-eqb (getD ns (at + i) 0) code (λ y. z (e ∙ y)))
+    stands-on h z = inv ∙ rw (left-more at n i h, ne-eqb (getD ns (at + i) 0) code z)
 
     pub stands-end : n ≤ i → false ≡ stands ns at n code
     unfolding stands some?
     stands-end k = sym (inv ∙ rw (left-none at n i k))
 
 pub ruleset filled-ends = (filled-start, filled-stop, filled-on, filled-end)
+
+pub zeros-not : (ns : List ℕ) (at n : ℕ) → 0 < getD ns at 0 → zeros ns at (suc n) ≡ false
+unfolding zeros every count-from
+zeros-not ns at n h = rw (ne-eqb (getD ns at 0) 0 (λ e. omega arith))
 
 pub ruleset zeros-ends = (zeros-start, zeros-stop, zeros-on, zeros-end)
 

@@ -1,8 +1,8 @@
 -- Refusal 12 of lent names: each return of the code that tests them.
 use mathlib.Core.Path.{_≡_, refl, sym, ap, _∙_}
 use mathlib.Core.List.{List}
-use mathlib.Core.Bool.{Bool, true, false, not}
-use Prim.Native.Nat.{ℕ, _+_, _*_, _-_, _<_, _≤_}
+use mathlib.Core.Bool.{Bool, true, false, _&&_, not}
+use Prim.Native.Nat.{ℕ, zero, suc, _+_, _*_, _-_, _<_, _≤_}
 use lib.Dec.{eqb}
 use lib.ListN.{length}
 use borrow.Author.Tests.{eq-eqb, ne-eqb, lt-ltb, le-ltb, le-leb, lt-leb, not-true, not-false}
@@ -10,7 +10,7 @@ use Rattle.lists.specs.Lists.{every, count-from}
 use Rattle.lists.proofs.Counting.{every-past, every-fails, every-done}
 use native.Mathlib.Omega.{arith}
 use Rattle.schema.specs.Schemas.{filled, streams-in, width-in, zeros, named-from, stream-sound, streams-sound, schema-sound}
-use Rattle.schema.proofs.Places.{filled-most}
+use Rattle.schema.proofs.Places.{filled-most, filled-first, zeros-not}
 
 -- ---- how many
 
@@ -33,10 +33,24 @@ pub ruleset width-ends = (width-none, width-filled)
 pub columns-few : (ns : List ℕ) (at n : ℕ) {w : ℕ} → w ≡ filled ns at n → w ≤ n
 columns-few ns at n e = let h = filled-most ns at n in omega arith
 
-pub columns-room : (ns : List ℕ) (s : ℕ) {w : ℕ} → s < 4 → w ≡ filled ns (4 + s * 6) 6 → 4 + s * 6 + w ≤ 28
-columns-room ns s h e = let k = filled-most ns (4 + s * 6) 6 in omega arith
+-- a stream that is not declared has no columns where none of their places has a number
+pub columns-undeclared : (ns : List ℕ) (s n : ℕ) {z : Bool} → n ≤ s → z ≡ zeros ns (4 + s * 6) 6 → z ≡ stream-sound ns s n
+unfolding stream-sound
+columns-undeclared ns s n {z} h f = rw (le-leb n s h) (go (filled ns (4 + s * 6) 6) refl)
+  where
+    none : (b : Bool) → (b && true) ≡ b
+    none true = refl
+    none false = refl
 
-module _ (ns : List ℕ) (s n : ℕ) {w : ℕ} {z : Bool} (e : w ≡ filled ns (4 + s * 6) 6) (f : z ≡ zeros ns (4 + s * 6 + w) (6 - w)) where
+    some : (b : Bool) → (b && false) ≡ false
+    some true = refl
+    some false = refl
+
+    go : (w : ℕ) → w ≡ filled ns (4 + s * 6) 6 → z ≡ (zeros ns (4 + s * 6 + w) (6 - w) && eqb w 0)
+    go zero e = let d : 4 + s * 6 + 0 ≡ 4 + s * 6 = omega arith in rw d (f ∙ sym (none (zeros ns (4 + s * 6) 6)))
+    go (suc w) e = rw (ne-eqb (suc w) 0 (λ q. omega arith)) (f ∙ zeros-not ns (4 + s * 6) 5 (filled-first ns (4 + s * 6) 6 (omega arith)) ∙ sym (some (zeros ns (4 + s * 6 + suc w) (6 - suc w))))
+
+module _ (ns : List ℕ) (s n : ℕ) (h : s < n) {w : ℕ} {z : Bool} (e : w ≡ filled ns (4 + s * 6) 6) (f : z ≡ zeros ns (4 + s * 6 + w) (6 - w)) where
   zeros-are : zeros ns (4 + s * 6 + filled ns (4 + s * 6) 6) (6 - filled ns (4 + s * 6) 6) ≡ z
   zeros-are = ap (λ v. zeros ns (4 + s * 6 + v) (6 - v)) (sym e) ∙ sym f
 
@@ -45,17 +59,13 @@ module _ (ns : List ℕ) (s n : ℕ) {w : ℕ} {z : Bool} (e : w ≡ filled ns (
   columns-loose g = rw (zeros-are ∙ not-true z g)
 
   module _ (g : not z ≡ false) where
-    pub columns-undeclared : n ≤ s → eqb w 0 ≡ stream-sound ns s n
+    pub columns-none : w ≡ 0 → false ≡ stream-sound ns s n
     unfolding stream-sound
-    columns-undeclared h = rw (zeros-are ∙ not-false z g, le-leb n s h) (ap (λ v. eqb v 0) e)
+    columns-none k = rw (zeros-are ∙ not-false z g, lt-leb n s h, eq-eqb (filled ns (4 + s * 6) 6) 0 (sym e ∙ k))
 
-    pub columns-none : s < n → w ≡ 0 → false ≡ stream-sound ns s n
+    pub columns-named : {y : Bool} → (w ≡ 0 → ⊥) → y ≡ named-from ns (4 + s * 6) w → y ≡ stream-sound ns s n
     unfolding stream-sound
-    columns-none h k = rw (zeros-are ∙ not-false z g, lt-leb n s h, eq-eqb (filled ns (4 + s * 6) 6) 0 (sym e ∙ k))
-
-    pub columns-named : {y : Bool} → s < n → (w ≡ 0 → ⊥) → y ≡ named-from ns (4 + s * 6) w → y ≡ stream-sound ns s n
-    unfolding stream-sound
-    columns-named h k d = rw (zeros-are ∙ not-false z g, lt-leb n s h, ne-eqb (filled ns (4 + s * 6) 6) 0 (λ q. k (e ∙ q))) (d ∙ ap (named-from ns (4 + s * 6)) e)
+    columns-named k d = rw (zeros-are ∙ not-false z g, lt-leb n s h, ne-eqb (filled ns (4 + s * 6) 6) 0 (λ q. k (e ∙ q))) (d ∙ ap (named-from ns (4 + s * 6)) e)
 
 pub ruleset stream-ends = (columns-loose, columns-undeclared, columns-none, columns-named)
 
@@ -86,11 +96,11 @@ streams-most ns = filled-most ns 0 4
 pub streams-few : (ns : List ℕ) {n : ℕ} → n ≡ streams-in ns → n ≤ 4
 streams-few ns e = let h = streams-most ns in omega arith
 
-pub zeros-room : (ns : List ℕ) {n : ℕ} → n ≡ streams-in ns → n + (4 - n) ≤ 28
-zeros-room ns e = let h = streams-most ns in omega arith
+pub zeros-room : (ns : List ℕ) {n : ℕ} → 28 ≤ length ns → n ≡ streams-in ns → n + (4 - n) ≤ length ns
+zeros-room ns l e = let h = streams-most ns in omega arith
 
-pub names-room : (ns : List ℕ) {n : ℕ} → n ≡ streams-in ns → 0 + n ≤ 28
-names-room ns e = let h = streams-most ns in omega arith
+pub names-room : (ns : List ℕ) {n : ℕ} → 28 ≤ length ns → n ≡ streams-in ns → 0 + n ≤ length ns
+names-room ns l e = let h = streams-most ns in omega arith
 
 pub ruleset streams-room = (zeros-room, names-room)
 

@@ -1,7 +1,7 @@
 // The declared streams as lent numbers: the names of four streams, then those of six columns for each; 0 where there is none.
 ghost use mathlib.Core.Path.{_≡_};
 ghost use Prim.Native.Nat.{_+_, _≤_, _<_};
-ghost use lib.ListN.{getD};
+ghost use lib.ListN.{length, getD};
 ghost use Rattle.syntax.specs.Grammar.{name?};
 ghost use Rattle.syntax.specs.Limits.{max-streams, max-columns};
 ghost use Rattle.calls.specs.Names.{stream-number};
@@ -141,12 +141,12 @@ pub fn stream_number(names: &[u64], code: u64) -> usize
 
 // Whether n numbers from a place on are all 0.
 fn zeros(names: &[u64], at: usize, n: usize) -> bool
-    requires { ⌜ at + n ≤ schema-size ⌝ }
+    requires { ⌜ at + n ≤ length (now names) ⌝ }
     ensures { λ r. ⌜ r ≡ zeros (now (names .entry)) at n ⌝ }
 {
     let mut i: usize = 0;
     while i < n {
-        if name_in(names, at + i) != 0 {
+        if names[at + i] != 0 {
             return false;
         }
         i += 1;
@@ -156,12 +156,12 @@ fn zeros(names: &[u64], at: usize, n: usize) -> bool
 
 // Whether a number stands among some from a place on.
 fn stands(names: &[u64], at: usize, n: usize, code: u64) -> bool
-    requires { ⌜ at + n ≤ schema-size ⌝ }
+    requires { ⌜ at + n ≤ length (now names) ⌝ }
     ensures { λ r. ⌜ r ≡ stands (now (names .entry)) at n code ⌝ }
 {
     let mut i: usize = 0;
     while i < n {
-        if name_in(names, at + i) == code {
+        if names[at + i] == code {
             return true;
         }
         i += 1;
@@ -171,12 +171,12 @@ fn stands(names: &[u64], at: usize, n: usize, code: u64) -> bool
 
 // Whether n numbers from a place on are names that streams and columns may have, and none stands twice.
 fn named(names: &[u64], at: usize, n: usize) -> bool
-    requires { ⌜ at + n ≤ schema-size ⌝ }
+    requires { ⌜ at + n ≤ length (now names) ⌝ }
     ensures { λ r. ⌜ r ≡ named-from (now (names .entry)) at n ⌝ }
 {
     let mut i: usize = 0;
     while i < n {
-        let code = name_in(names, at + i);
+        let code = names[at + i];
         if !free_name(code) {
             return false;
         }
@@ -190,16 +190,16 @@ fn named(names: &[u64], at: usize, n: usize) -> bool
 
 // Whether a stream's columns are as they may be: one or more of a declared stream, none of another, and no number after the last.
 fn stream_sound(names: &[u64], s: usize, n: usize) -> bool
-    requires { ⌜ s < max-streams ⌝ }
+    requires { ⌜ (s < max-streams) × (schema-size ≤ length (now names)) ⌝ }
     ensures { λ r. ⌜ r ≡ stream-sound (now (names .entry)) s n ⌝ }
 {
     let at = Stream::MOST + s * Stream::COLUMNS;
+    if n <= s {
+        return zeros(names, at, Stream::COLUMNS);
+    }
     let w = filled(names, at, Stream::COLUMNS);
     if !zeros(names, at + w, Stream::COLUMNS - w) {
         return false;
-    }
-    if n <= s {
-        return w == 0;
     }
     if w == 0 {
         return false;
@@ -209,6 +209,7 @@ fn stream_sound(names: &[u64], s: usize, n: usize) -> bool
 
 // Every stream's columns are as they may be.
 fn streams_sound(names: &[u64], n: usize) -> bool
+    requires { ⌜ schema-size ≤ length (now names) ⌝ }
     ensures { λ r. ⌜ r ≡ streams-sound (now (names .entry)) n ⌝ }
 {
     let mut s: usize = 0;

@@ -22,13 +22,13 @@ columns-mask-spec =
     (λ c κs. search needs)
     {- loop-holds -}
     (λ c. search places-ends)
-    {- mul-with-columns -}
+    {- mul-stream-columns -}
     (λ c. search needs)
-    {- array-read-with-columns -}
+    {- array-read-stream-columns -}
     (λ c. search needs)
-    {- cast-with-columns -}
-    (λ c. search needs)
-    {- with-columns-requires -}
+    {- stream-columns-requires -}
+    (λ c κs. search needs)
+    {- either-requires -}
     (λ c κs. search needs)
     {- add-i -}
     (λ c. search needs)

@@ -22,10 +22,12 @@ named-spec =
     μ-loop
     {- loop-holds -}
     (λ c. (search needs, search named-ends))
-    {- add-name-in -}
+    {- add-code -}
     (λ c. search needs)
-    {- name-in-requires -}
-    (λ c κs. search needs)
+    {- mul-code -}
+    (λ c. search needs)
+    {- shared-slice-read-code -}
+    (λ c. search needs)
     {- free-name-requires -}
     (λ c κs. search needs)
     {- returns -}

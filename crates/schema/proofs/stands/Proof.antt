@@ -21,10 +21,12 @@ stands-spec =
     μ-loop
     {- loop-holds -}
     (λ c. (search needs, search stands-ends))
-    {- add-name-in -}
+    {- add-if1 -}
     (λ c. search needs)
-    {- name-in-requires -}
-    (λ c κs. search needs)
+    {- mul-if1 -}
+    (λ c. search needs)
+    {- shared-slice-read-if1 -}
+    (λ c. search needs)
     {- returns -}
     (λ c. search stands-ends)
     {- add-i -}

@@ -21,10 +21,12 @@ zeros-spec =
     μ-loop
     {- loop-holds -}
     (λ c. (search needs, search zeros-ends))
-    {- add-name-in -}
+    {- add-if1 -}
     (λ c. search needs)
-    {- name-in-requires -}
-    (λ c κs. search needs)
+    {- mul-if1 -}
+    (λ c. search needs)
+    {- shared-slice-read-if1 -}
+    (λ c. search needs)
     {- returns -}
     (λ c. search zeros-ends)
     {- add-i -}
