@@ -169,8 +169,6 @@ class Function:
                 self.blocks[label] = []
             elif line.strip():
                 self.blocks[label].append(line)
-        # what is found: of each store and argument
-        self.stored = {}
 
 
 def analyse(f, params, returns):
@@ -310,39 +308,37 @@ def analyse(f, params, returns):
             keys &= set(s)
         return {k: max(s[k] for s in comes) for k in keys}
 
-    last = {}
-    for turn in range(12):
-        changed = False
+    def turn(limit):
+        """All blocks once more: what holds on the ways between them, by what held before."""
+        new = {}
         for label in order:
             state = entry(label)
             if state is None:
                 continue
-            old = last.get(label)
-            if old is not None and turn >= 3:
+            if limit is not None:
+                old = limit.setdefault(label, state)
                 # what still grows may be anything
-                state = {k: v for k, v in state.items() if k in old and (v <= old[k] or k.startswith('%a'))}
-            if state == old:
-                continue
-            changed = True
-            last[label] = state
+                state = limit[label] = {k: v for k, v in state.items() if k in old and v <= old[k]}
             for way, s in block(label, state, {}):
                 key = (label, way)
-                if key in ways and turn < 12:
-                    before = ways[key]
-                    s = {k: max(s[k], before[k]) for k in s if k in before} if turn < 12 else s
-                ways[key] = s
-        if not changed:
+                new[key] = {k: max(s[k], new[key][k]) for k in s if k in new[key]} if key in new else s
+        return new
+
+    # up, until nothing changes: what still grows after some turns may be anything
+    limit = None
+    for n in range(40):
+        limit = {} if n == 4 else limit
+        seen = dict(values)
+        new = turn(limit)
+        if new == ways and seen == values:
             break
-    assert not changed, f.name
-    # from what holds, down: each way is computed again from its block
+        ways.clear()
+        ways.update(new)
+    assert new == ways and seen == values, f.name
+    # and down, from what holds
     for _ in range(3):
-        new = {}
-        for label in order:
-            state = entry(label)
-            if state is not None:
-                for way, s in block(label, state, {}):
-                    key = (label, way)
-                    new[key] = {k: max(s[k], new[key][k]) for k in s if k in new[key]} if key in new else s
+        new = turn(None)
+        assert all(k in new[key] and new[key][k] <= v for key in new for k, v in ways[key].items()), f.name
         ways.clear()
         ways.update(new)
     found = {}
@@ -452,8 +448,6 @@ def narrowed(lines):
                     out.append('  %scall %s@%s(%s)%s' % (v + ' = ' if v else '', kind, callee, ', '.join(listed), rest))
                 continue
             out.append(line)
-    if '-v' in sys.argv:
-        print('locals', sum(len([v for v, k in f.locals.items() if k == 'i64' and n in found and max(found[n].get(('store', v), [TOP])) <= HIGH]) for n, f in functions.items()), 'of', sum(list(f.locals.values()).count('i64') for f in functions.values()), 'params', len(small_params), 'results', len(small_results), file=sys.stderr)
     return out + lines[at:]
 
 
