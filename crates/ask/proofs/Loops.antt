@@ -10,10 +10,10 @@ use native.Mathlib.Omega.{arith}
 use mir.Syntax.{w32}
 use mir.Val.{Fits}
 use lib.IntN.{ℤ, pos}
-use lib.Dec.{leb, ltb, eqb}
+use lib.Dec.{leb, ltb}
 use lib.ListN.{length, length-append, length-set, take, drop, set, take-append-drop}
 use lib.Seq.{sets, length-sets, take-length}
-use borrow.Author.Tests.{le-leb, lt-leb, ltb-true, ne-eqb}
+use borrow.Author.Tests.{le-leb, lt-leb, ltb-true}
 use Rattle.lists.specs.Lists.{All, all-nil, all-cons, gather, nth}
 use Rattle.lists.proofs.Laws.{gather-append, all-nth, all-weaken, append-nil}
 use Rattle.cells.proofs.Stored.{sets-append}
@@ -163,12 +163,12 @@ module _ (s : Setting) (o : Open) (n : Needs) where
               fits = λ b. absurd (true≢false (sym b));
             }
 
-        pub count-more : {cells cells′ : List ℤ} {at′ : ℕ} → Turns s y false (eqb (i + 1) (r .count)) at room cells cells′ at′
+        pub count-more : {last : Bool} {cells cells′ : List ℤ} {at′ : ℕ} → Turns s y false last at room cells cells′ at′ → (i + 1 < r .count → last ≡ false)
             → (cells′ ≡ cells) × (i + 1 < r .count → Counted (suc (length (first-cells (i + 1)))) room at′) × (leb at′ room ≡ leb (suc (length (first-cells (i + 1)))) room)
-        count-more {at′ = at′} t =
+        count-more {at′ = at′} t q =
             let c = t .counted refl in
             let z : at + length (way-cells s y) ≡ suc (length (first-cells (i + 1))) = let a = known in let b = next-long in omega arith in
-            (c .0, λ u. subst (λ m. Counted m room at′) z (c .1 (ne-eqb (i + 1) (r .count) (λ e. omega arith))), c .2 ∙ ap (λ m. leb m room) z)
+            (c .0, λ u. subst (λ m. Counted m room at′) z (c .1 (q u)), c .2 ∙ ap (λ m. leb m room) z)
 
         pub count-sure : at + (r .count - i) * (4 + most) ≤ room → true ≡ leb (suc (length all-cells)) room
         count-sure b = let a = known in let c = rest-few i in let d = count-is in sym (le-leb (suc (length all-cells)) room (sure (sym d) c))

@@ -1,9 +1,10 @@
 use mathlib.Core.Path.{_≡_, refl, sym, ap, _∙_}
-use Prim.Native.Nat.{suc, _≤_, _<_, _-_}
+use Prim.Native.Nat.{suc, _+_, _≤_, _<_, _-_}
 use native.Mathlib.Omega.{arith}
 use lib.Dec.{leb}
 use lib.ListN.{length}
 use borrow.Author.Needs.{needs}
+use borrow.Author.Tests.{ne-eqb}
 use Rattle.query.specs.Tables.{query-forms}
 use Rattle.pairs.specs.Given.{Counted}
 use Rattle.ask.specs.Cells.{Keeps}
@@ -76,8 +77,14 @@ loop-less c = omega arith
 
 loop-again : tie.Need-loop-again Inv-loop μ-loop
 loop-again c =
-    let x = count-more _ _ _ (c .before .before .before .before .before .before .before .before .before .before .before .before .before .before .before .before .before .before .before .before .before .pre .0) (c .before .before .before .before .before .before .before .before .before .before .before .before .if1 .taken) (c .before .before .before .before .before .before .before .before .route .ensures) (c .before .before .before .before .before .before .before .of .ensures) (c .before .before .before .before .before .before .before .before .before .before .before .before .before .before .loop .inv .2 (c .before .before .before .before .before .before .before .before .before .before .before .before .if1 .taken)) (c .before .before .before .before .before .before .before .before .before .before .before .if2 .left) (c .before .before .before .enter .ensures .0) in
-    (omega arith, x .0 ∙ c .before .before .before .before .before .before .before .before .before .before .before .before .before .before .loop .inv .1, x .1, x .2, keep-more _ _ _ (c .before .before .before .before .before .before .before .before .before .before .before .before .before .before .before .before .before .before .before .before .before .pre .0) (c .before .before .before .before .before .before .before .before .before .before .before .before .if1 .taken) (c .before .before .before .before .before .before .before .before .route .ensures) (c .before .before .before .before .before .before .before .of .ensures) (c .before .before .before .before .before .before .before .before .before .before .before .before .before .before .loop .inv .4) (c .before .before .before .enter .ensures .1), c .before .before .before .enter .ensures .1 .size ∙ c .before .before .before .before .before .before .before .before .before .before .before .before .before .before .loop .inv .5)
+    let s = c .before .before .before .before .before .before .before .before .before .before .before .before .before .before .before .before .before .before .before .before .before in
+    let l = c .before .before .before .before .before .before .before .before .before .before .before .before .before .before .loop in
+    let h = c .before .before .before .before .before .before .before .before .before .before .before .before .if1 .taken in
+    let e = c .before .before .before .before .before .before .before .before .route .ensures in
+    let f = c .before .before .before .before .before .before .before .of .ensures in
+    let t = c .before .before .before .enter .ensures in
+    let x = count-more _ _ _ (s .pre .0) h e f (l .inv .2 h) (c .before .before .before .before .before .before .before .before .before .before .before .if2 .left) (t .0) (λ u. ne-eqb (l .i + 1) (s .args .r .count) (λ z. omega arith)) in
+    (omega arith, x .0 ∙ l .inv .1, x .1, x .2, keep-more _ _ _ (s .pre .0) h e f (l .inv .4) (t .1), t .1 .size ∙ l .inv .5)
 
 same-length-5 : tie.Need-same-length-5 Inv-loop μ-loop
 same-length-5 c = c .before .before .loop .inv .5
