@@ -3,7 +3,7 @@ use mathlib.Core.Path.{_≡_, refl, sym, ap, _∙_, subst}
 use mathlib.Core.List.{List, [], _∷_, _++_}
 use mathlib.Core.Bool.{Bool, true, false, true≢false}
 use Prim.Native.Nat.{ℕ, zero, suc, _+_, _*_, _-_, _^_, _≤_, _<_}
-use native.Mathlib.Nat.{sub-zero, suc-mul, mul-le-mul}
+use native.Mathlib.Nat.{sub-zero, mul-le-mul}
 use native.Mathlib.Numerals.{add-one}
 use native.Mathlib.Decide.{ℕ-discrete, decLe, decLt}
 use native.Mathlib.Omega.{arith}
@@ -17,6 +17,7 @@ use borrow.Author.Tests.{le-leb, lt-leb, ltb-true}
 use Rattle.lists.specs.Lists.{All, all-nil, all-cons, gather, nth}
 use Rattle.lists.proofs.Laws.{gather-append, all-nth, all-weaken, append-nil}
 use Rattle.cells.proofs.Stored.{sets-append}
+use Rattle.answer.proofs.Joined.{gather-most}
 use Rattle.needs.specs.declared.Needs.{Needs}
 use Rattle.routes.specs.declared.Open.{Open}
 use Rattle.routes.specs.declared.Route.{Route}
@@ -37,15 +38,6 @@ unfolding nth
 take-next d [] i h = absurd (omega arith)
 take-next d (x ∷ xs) zero h = refl
 take-next d (x ∷ xs) (suc i) h = ap (λ l. x ∷ l) (take-next d xs i (omega arith))
-
-pub gather-most : {A B : Type 0} (f : A → List B) (k : ℕ) {xs : List A} → All (λ x. length (f x) ≤ k) xs → length (gather f xs) ≤ length xs * k
-unfolding gather
-gather-most f k all-nil = omega arith
-gather-most f k (all-cons {x} {xs} h hs) =
-    let a = length-append (f x) (gather f xs) in
-    let b = gather-most f k hs in
-    let c = suc-mul (length xs) k in
-    omega arith
 
 -- the cells of those behind them
 gather-few : {A B : Type 0} (f : A → List B) (k : ℕ) (i : ℕ) {xs : List A} → All (λ x. length (f x) ≤ k) xs → length (gather f xs) ≤ length (gather f (take i xs)) + (length xs - i) * k
@@ -171,8 +163,12 @@ module _ (s : Setting) (o : Open) (n : Needs) where
               fits = λ b. absurd (true≢false (sym b));
             }
 
-        pub count-more : {cells cells′ : List ℤ} {at′ : ℕ} → Turns s y false at room cells cells′ at′ → (cells′ ≡ cells) × Counted (suc (length (first-cells (i + 1)))) room at′
-        count-more {at′ = at′} t = let c = t .counted refl in (c .0, subst (λ m. Counted m room at′) (let a = known in let b = next-long in omega arith) (c .1))
+        pub count-more : {last : Bool} {cells cells′ : List ℤ} {at′ : ℕ} → Turns s y false last at room cells cells′ at′ → (i + 1 < r .count → last ≡ false)
+            → (cells′ ≡ cells) × (i + 1 < r .count → Counted (suc (length (first-cells (i + 1)))) room at′) × (leb at′ room ≡ leb (suc (length (first-cells (i + 1)))) room)
+        count-more {at′ = at′} t q =
+            let c = t .counted refl in
+            let z : at + length (way-cells s y) ≡ suc (length (first-cells (i + 1))) = let a = known in let b = next-long in omega arith in
+            (c .0, λ u. subst (λ m. Counted m room at′) z (c .1 (q u)), c .2 ∙ ap (λ m. leb m room) z)
 
         pub count-sure : at + (r .count - i) * (4 + most) ≤ room → true ≡ leb (suc (length all-cells)) room
         count-sure b = let a = known in let c = rest-few i in let d = count-is in sym (le-leb (suc (length all-cells)) room (sure (sym d) c))
@@ -195,10 +191,10 @@ module _ (s : Setting) (o : Open) (n : Needs) where
             fits = λ c. omega arith;
           }
 
-      pub write-more : (cells₀ : List ℤ) {cells cells′ : List ℤ} {at at′ : ℕ} → at ≡ suc (length (first-cells i)) → cells ≡ sets cells₀ 1 (first-cells i) → Turns s y true at room cells cells′ at′
+      pub write-more : (cells₀ : List ℤ) {cells cells′ : List ℤ} {at at′ : ℕ} → at ≡ suc (length (first-cells i)) → cells ≡ sets cells₀ 1 (first-cells i) → Turns s y true false at room cells cells′ at′
           → (cells′ ≡ sets cells₀ 1 (first-cells (i + 1))) × (at′ ≡ suc (length (first-cells (i + 1))))
       write-more cells₀ {at = at} a b t =
-          let w = t .written refl in
+          let w = t .written refl refl in
           let l = next-long h e f in
           let j : at ≡ 1 + length (first-cells i) = omega arith in (
             w .0 ∙ ap (λ u. sets u at (way-cells s y)) b ∙ ap (λ v. sets (sets cells₀ 1 (first-cells i)) v (way-cells s y)) j
@@ -239,9 +235,9 @@ module _ (s : Setting) (o : Open) (n : Needs) where
 
     -- ---- the ends of counting
 
-    pub count-start : Counted (suc (length (first-cells 0))) room 1
+    pub count-start : (0 < r .count → Counted (suc (length (first-cells 0))) room 1) × (leb 1 room ≡ leb (suc (length (first-cells 0))) room)
     unfolding routes-cells gather
-    count-start = record { exact = λ l. refl; beyond = λ l. l }
+    count-start = (λ h. record { exact = λ l. refl; beyond = λ l. l }, refl)
 
     pub count-past : (i : ℕ) {at : ℕ} → Counted (suc (length (first-cells i))) room at → room < at → false ≡ leb (suc (length all-cells)) room
     count-past i {at} g l = sym (lt-leb (suc (length all-cells)) room (let a = over (decLe (suc (length (first-cells i))) room) in let b = first-few i in omega arith))
@@ -250,12 +246,5 @@ module _ (s : Setting) (o : Open) (n : Needs) where
         over (yes a) = let e = g .exact a in absurd (omega arith)
         over (no a) = omega arith
 
-    pub count-end : (i : ℕ) {at : ℕ} → r .count ≤ i → i ≤ r .count → Counted (suc (length (first-cells i))) room at → leb at room ≡ leb (suc (length all-cells)) room
-    count-end i {at} a b g = go (decLe (suc (length all-cells)) room)
-      where
-        total : length (first-cells i) ≡ length all-cells
-        total = ap length (first-all i (let c = count-is in omega arith))
-
-        go : Dec (suc (length all-cells) ≤ room) → leb at room ≡ leb (suc (length all-cells)) room
-        go (yes l) = let t = total in let e = g .exact (omega arith) in ap (λ m. leb m room) (omega arith)
-        go (no l) = let t = total in let e = g .beyond (omega arith) in lt-leb at room e ∙ sym (lt-leb (suc (length all-cells)) room (omega arith))
+    pub count-end : (i at : ℕ) → r .count ≤ i → i ≤ r .count → leb at room ≡ leb (suc (length (first-cells i))) room → leb at room ≡ leb (suc (length all-cells)) room
+    count-end i at a b g = g ∙ ap (λ (l : List ℤ). leb (suc (length l)) room) (first-all i (let c = count-is in omega arith))

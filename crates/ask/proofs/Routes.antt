@@ -3,6 +3,8 @@ use mathlib.Core.Path.{_≡_, refl, sym, ap, _∙_, subst}
 use mathlib.Core.List.{List, [], _∷_, _++_}
 use mathlib.Core.Bool.{Bool, true, false, not, true≢false}
 use Prim.Native.Nat.{ℕ, suc, _+_, _*_, _/_, _≤_, _<_}
+use native.Mathlib.Nat.{le-refl, le-trans, mul-le-mul}
+use native.Mathlib.Decide.{decLe}
 use native.Mathlib.Omega.{arith}
 use mir.Syntax.{w32}
 use mir.Val.{Fits}
@@ -10,7 +12,7 @@ use lib.IntN.{ℤ}
 use lib.Dec.{leb}
 use lib.ListN.{length, length-append, set}
 use lib.Seq.{sets, length-sets, set-comm}
-use borrow.Author.Tests.{le-leb, not-true, not-false}
+use borrow.Author.Tests.{le-leb, lt-leb, not-true, not-false}
 use Rattle.lists.specs.Lists.{gather}
 use Rattle.model.specs.Queries.{Row}
 use Rattle.model.specs.Answers.{row-cells}
@@ -20,7 +22,9 @@ use Rattle.rows.specs.declared.Rows.{Rows}
 use Rattle.plan.specs.declared.Plan.{Plan}
 use Rattle.sides.specs.Sides.{words-of, left-mask, right-mask}
 use Rattle.pairs.specs.Given.{Masked, plan-rows, row-list, Counted}
+use Rattle.answer.specs.Given.{MostGiven}
 use Rattle.ledger.specs.Records.{Memory}
+use Rattle.ledger.specs.declared.Ledger.{Ledger}
 use Rattle.query.specs.declared.Form.{Form}
 use Rattle.evaluate.specs.Ways.{way-plan}
 use Rattle.evaluate.specs.declared.Way.{Way}
@@ -28,8 +32,9 @@ use Rattle.ask.specs.declared.Aim.{Aim}
 use Rattle.evaluate.specs.Suits.{Suits}
 use Rattle.ask.specs.Rows.{plan-width, Gives}
 use Rattle.ask.specs.Kept.{Keepable, Keeping}
-use Rattle.ask.specs.Cells.{Setting, plan-of, left-of, way-rows, way-header, way-cells, Enterable, Turns}
-use Rattle.ask.proofs.Plans.{rows-long, width-is}
+use Rattle.ask.specs.Cells.{Setting, plan-of, left-of, way-rows, way-header, way-cells, Bounds, Enterable, Turns}
+use Rattle.ask.proofs.Plans.{rows-long, width-is, fit}
+use Rattle.ask.proofs.Sizes.{width-any}
 
 module _ (s : Setting) (y : Way) where
   abbrev rs : List Row
@@ -60,6 +65,35 @@ sets-past cells i k (x ∷ xs) ys h = ap (λ l. sets l (suc i) xs) (set-past cel
 sets-before : (cells : List ℤ) (at k : ℕ) (xs ys : List ℤ) → k ≡ at + length xs → sets (sets cells k ys) at xs ≡ sets cells at (xs ++ ys)
 sets-before cells at k xs ys e = sets-past cells at k xs ys (omega arith) ∙ ap (λ n. sets (sets cells at xs) n ys) e ∙ sym (sets-append cells at xs ys)
 
+-- ---- a place that the cells of the last route do not go past
+
+module _ (last : Bool) (l : Ledger) (ns : List ℕ) (vs : List ℤ) (p : Plan) (w : ℕ) (lefts rights : Rows) (at room : ℕ) where
+  pub bound-made : {n : ℕ} → last ≡ true → p .joined ≡ true → p .number ≡ 0 → MostGiven l ns vs p lefts rights n → Bounds last l ns vs p w lefts rights at room (at + 4 + n * w)
+  bound-made {n} t j e g =
+      record {
+        only = λ h. t;
+        enough = λ h ts ws gs ps s k.
+            let m : Memory = record { ledger = l; names = ns; times = ts; values = vs } in
+            let a = mul-le-mul {m₁ = w} (g .shown ts ws gs ps j (fit m ws gs ps p s e) k) (le-refl w) in
+            omega arith;
+      }
+
+  pub bound-none : Bounds last l ns vs p w lefts rights at room (room + 1)
+  bound-none = record { only = λ h. absurd (omega arith); enough = λ h. absurd (omega arith) }
+
+pub bound-small : {n w : ℕ} → n ≤ 16384 → w ≤ 25 → n * w ≤ 409600
+bound-small a b = mul-le-mul {n₂ = 16384} {m₂ = 25} a b
+
+-- a count up to a room says whether there is room
+pub counted-room : {t room r : ℕ} → Counted t room r → leb r room ≡ leb t room
+counted-room {t} {room} {r} g = go (decLe t room)
+  where
+    go : Dec (t ≤ room) → leb r room ≡ leb t room
+    go (yes l) = ap (λ m. leb m room) (g .exact l)
+    go (no l) = lt-leb r room (g .beyond (omega arith)) ∙ sym (lt-leb t room (omega arith))
+
+-- ---- one route
+
 module _ (m : Memory) (own gs ps : List ℕ) (fs : List Form) (y : Way) (write : Bool) (at room : ℕ) (cells : List ℤ) (e : Enterable (record { memory = m; own = own; granted = gs; profile = ps; forms = fs }) y write at room (length cells)) {q : Plan} (f : q ≡ way-plan (m .names) y fs) where
   abbrev s : Setting
   s = record { memory = m; own = own; granted = gs; profile = ps; forms = fs }
@@ -73,6 +107,22 @@ module _ (m : Memory) (own gs ps : List ℕ) (fs : List Form) (y : Way) (write :
 
   pub left-kept : {lefts : Rows} → lefts ≡ left-mask m (words-of own gs ps) q → {i : ℕ} {ks ks′ : List ℕ} → Keeping lefts i ks ks′ → Keeping (left-of (record { memory = m; own = own; granted = gs; profile = ps; forms = fs }) y) i ks ks′
   left-kept a {i} {ks} {ks′} k = subst (λ x. Keeping x i ks ks′) (a ∙ ap (left-mask m (words-of own gs ps)) f) k
+
+  module _ {w : ℕ} (g : w ≡ plan-width q) where
+    pub bound-ready : (q .number ≡ 0 → w ≤ 25) × (at ≤ room) × (room ≤ 67108864)
+    bound-ready = (λ z. let a = width-any m own gs ps q (rw f (e .suits)) z in omega arith, e .from, e .near)
+
+    module _ {last : Bool} {lefts rights : Rows} {r : ℕ} (a : lefts ≡ left-mask m (words-of own gs ps) q) (b : rights ≡ right-mask m (words-of own gs ps) q) (k : Bounds last (m .ledger) (m .names) (m .values) q w lefts rights at room r) (h : r ≤ room) where
+      within : at + length (way-cells s y) ≤ r
+      unfolding way-rows
+      within = let x = rows-ready a b in rw (way-long s y (e .suits), sym f, sym g) (k .enough h (m .times) own gs ps (x .0) (x .1))
+
+      pub route-bounded : Turns (record { memory = m; own = own; granted = gs; profile = ps; forms = fs }) y write last at room cells cells r
+      route-bounded =
+          record {
+            counted = λ z. (refl, λ t. absurd (true≢false (sym (k .only h) ∙ t)), le-leb r room h ∙ sym (le-leb (at + length (way-cells s y)) room (le-trans within h)));
+            written = λ z t. absurd (true≢false (sym (k .only h) ∙ t));
+          }
 
   module _ {w n : ℕ} {cells₁ : List ℤ} (g : w ≡ plan-width q) (h : Gives (plan-width q) (plan-rows m own gs ps q) (record { write = write; at = at + 4; room = room }) cells cells₁ n) where
     wide : 1 ≤ w
@@ -88,13 +138,11 @@ module _ (m : Memory) (own gs ps : List ℕ) (fs : List Form) (y : Way) (write :
     unfolding way-rows
     rows-same = rw f
 
-    pub route-counted : not write ≡ true → {r : ℕ} → ((k : ℕ) → Counted k (room / w) n → Counted (at + (4 + k * w)) room r) → Turns (record { memory = m; own = own; granted = gs; profile = ps; forms = fs }) y write at room cells cells₁ r
-    route-counted a {r} k =
+    pub route-counted : not write ≡ true → {last : Bool} {r : ℕ} → ((k : ℕ) → Counted k (room / w) n → Counted (at + (4 + k * w)) room r) → Turns (record { memory = m; own = own; granted = gs; profile = ps; forms = fs }) y write last at room cells cells₁ r
+    route-counted a {r = r} k =
         let x = h .counted (not-true write a) in
-        record {
-          counted = λ b. (x .0, rw long (k (length (way-rows s y)) (rw (← rows-same, g) (x .1))));
-          written = λ b. absurd (true≢false (sym b ∙ not-true write a));
-        }
+        let z : Counted (at + length (way-cells s y)) room r = rw long (k (length (way-rows s y)) (rw (← rows-same, g) (x .1))) in
+        record { counted = λ b. (x .0, λ t. z, counted-room z); written = λ b t. absurd (true≢false (sym b ∙ not-true write a)) }
 
     module _ (a : not write ≡ false) where
       all-fit : at + (4 + length (way-rows s y) * w) ≤ room
@@ -138,9 +186,9 @@ module _ (m : Memory) (own gs ps : List ℕ) (fs : List Form) (y : Way) (write :
       unfolding way-cells way-header
       cells-are k = k ∙ rw (done .0, done .1, g, f) (sets-before cells at (at + 4) (way-header y (plan-width (plan-of s y)) (length (way-rows s y))) (gather row-cells (way-rows s y)) (omega arith))
 
-      pub route-written : {cells₂ : List ℤ} → cells₂ ≡ sets cells₁ at (way-header y w n) → Turns (record { memory = m; own = own; granted = gs; profile = ps; forms = fs }) y write at room cells cells₂ (at + 4 + n * w)
-      route-written {cells₂} k =
+      pub route-written : {last : Bool} {cells₂ : List ℤ} → cells₂ ≡ sets cells₁ at (way-header y w n) → Turns (record { memory = m; own = own; granted = gs; profile = ps; forms = fs }) y write last at room cells cells₂ (at + 4 + n * w)
+      route-written k =
           record {
             counted = λ b. absurd (true≢false (sym (not-false write a) ∙ b));
-            written = λ b. (cells-are k, let d = done .1 in rw (long, d) (omega arith));
+            written = λ b t. (cells-are k, let d = done .1 in rw (long, d) (omega arith));
           }

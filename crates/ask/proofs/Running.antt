@@ -28,7 +28,7 @@ use Rattle.ask.specs.declared.Reply.{Reply}
 use Rattle.ask.specs.Replies.{refused-with, reply-of, Replies}
 use Rattle.ask.specs.Rows.{room-end}
 use Rattle.ask.specs.Cells.{Setting, way-cells, routes-cells, most-cells, Runnable, run-cells, run-checks, run-reply, Ready}
-use Rattle.ask.proofs.Loops.{gather-most}
+use Rattle.answer.proofs.Joined.{gather-most}
 
 empty-none : {A : Type 0} (xs : List A) → length xs ≡ 0 → empty? xs ≡ true
 unfolding empty?

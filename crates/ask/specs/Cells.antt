@@ -29,7 +29,7 @@ use Rattle.routes.specs.Listing.{routes-in, routes-of, no-route}
 use Rattle.plan.specs.declared.Plan.{Plan}
 use Rattle.rows.specs.declared.Rows.{Rows}
 use Rattle.sides.specs.Sides.{words-of, left-mask}
-use Rattle.pairs.specs.Given.{plan-rows, Counted}
+use Rattle.pairs.specs.Given.{Masked, plan-rows, Counted}
 use Rattle.evaluate.specs.Ways.{way-of, way-plan}
 use Rattle.evaluate.specs.declared.Way.{Way}
 use Rattle.evaluate.specs.Suits.{Suits}
@@ -74,10 +74,16 @@ pub record Enterable (s : Setting) (y : Way) (write : Bool) (at room size : ℕ)
   pub lent : room ≤ size
   pub fits : write ≡ true → at + length (way-cells s y) ≤ room
 
--- the cells of a route from a place on: counted up to a room, or written
-pub record Turns (s : Setting) (y : Way) (write : Bool) (at room : ℕ) (cells cells′ : List ℤ) (r : ℕ) : Type 0 where
-  pub counted : write ≡ false → (cells′ ≡ cells) × Counted (at + length (way-cells s y)) room r
-  pub written : write ≡ true → (cells′ ≡ sets cells at (way-cells s y)) × (r ≡ at + length (way-cells s y))
+-- the cells of a route from a place on: counted up to a room, or written; of the last that is counted, whether they have room
+pub record Turns (s : Setting) (y : Way) (write last : Bool) (at room : ℕ) (cells cells′ : List ℤ) (r : ℕ) : Type 0 where
+  pub counted : write ≡ false → (cells′ ≡ cells) × (last ≡ false → Counted (at + length (way-cells s y)) room r) × (leb r room ≡ leb (at + length (way-cells s y)) room)
+  pub written : write ≡ true → last ≡ false → (cells′ ≡ sets cells at (way-cells s y)) × (r ≡ at + length (way-cells s y))
+
+-- a place in the room is that of the last route, and the cells of a plan's rows, with the header before them, do not go past it
+pub record Bounds (last : Bool) (l : Ledger) (ns : List ℕ) (vs : List ℤ) (p : Plan) (w : ℕ) (lefts rights : Rows) (at room r : ℕ) : Type 0 where
+  pub only : r ≤ room → last ≡ true
+  pub enough : r ≤ room → (ts ws gs ps : List ℕ) → Suits (record { ledger = l; names = ns; times = ts; values = vs }) p → Masked (record { ledger = l; names = ns; times = ts; values = vs }) ws gs ps p lefts rights
+      → at + (4 + length (plan-rows (record { ledger = l; names = ns; times = ts; values = vs }) ws gs ps p) * w) ≤ r
 
 -- ---- all routes
 

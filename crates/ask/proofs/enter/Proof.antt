@@ -1,6 +1,6 @@
 use borrow.Author.Needs.{needs}
 use native.Mathlib.Omega.{arith}
-use Rattle.ask.proofs.Routes.{left-ready, left-kept, rows-ready, after-ready, route-counted, header-ready, header-fits, rows-fit, route-fits, route-written}
+use Rattle.ask.proofs.Routes.{left-ready, left-kept, rows-ready, bound-ready, route-bounded, after-ready, route-counted, header-ready, header-fits, rows-fit, route-fits, route-written}
 use Rattle.ask.proofs.enter.Statement.{statement}
 use Rattle.ask.proofs.enter.Tie as tie
 
@@ -16,44 +16,53 @@ right-requires c κs = search needs
 width-requires : tie.Need-width-requires
 width-requires c κs = search needs
 
-add-result : tie.Need-add-result
-add-result c = let a = c .before .before .before .before .before .before .before .before .before .before .before .before .before .pre .0 .from in let b = c .before .before .before .before .before .before .before .before .before .before .before .before .before .pre .0 .near in record { fits = omega arith }
-
-rows-requires : tie.Need-rows-requires
-rows-requires c κs = let x = rows-ready _ _ _ _ _ _ _ _ _ (c .before .before .before .before .before .before .before .before .before .before .before .before .before .before .args .cells .now) (c .before .before .before .before .before .before .before .before .before .before .before .before .before .before .pre .0) (c .before .before .before .before .before .before .before .plan .ensures) (c .before .before .before .before .before .left-rows .ensures .0) (c .before .before .right .ensures) in (x .0, x .1, c .before .width .ensures)
-
-after-requires : tie.Need-after-requires
-after-requires c κs = after-ready _ _ _ _ _ _ _ _ _ _ (c .before .before .before .before .before .before .before .before .before .before .before .before .before .before .before .before .before .pre .0) (c .before .before .before .before .before .before .before .before .before .before .plan .ensures) (c .before .before .before .before .width .ensures) (c .before .before .rows .ensures)
+bound-requires : tie.Need-bound-requires
+bound-requires c κs = bound-ready _ _ _ _ _ _ _ _ _ (c .before .before .before .before .before .before .before .before .before .before .before .before .before .args .cells .now) (c .before .before .before .before .before .before .before .before .before .before .before .before .before .pre .0) (c .before .before .before .before .before .before .plan .ensures) (c .width .ensures)
 
 same-length : tie.Need-same-length
-same-length c = c .before .before .before .before .before .before .before .before .before .left-rows .ensures .1 .size
-
-same-length-2 : tie.Need-same-length-2
-same-length-2 c = search needs
+same-length c = c .before .before .before .before .before .before .left-rows .ensures .1 .size
 
 returns : tie.Need-returns
-returns c = (route-counted _ _ _ _ _ _ _ _ _ _ (c .before .before .before .before .before .before .before .before .before .before .before .before .before .before .before .before .before .before .pre .0) (c .before .before .before .before .before .before .before .before .before .before .before .plan .ensures) (c .before .before .before .before .before .width .ensures) (c .before .before .before .rows .ensures) (c .before .if1 .taken) (c .after .ensures), left-kept _ _ _ _ _ _ _ _ _ (c .before .before .before .before .before .before .before .before .before .before .before .before .before .before .before .before .before .before .args .cells .now) (c .before .before .before .before .before .before .before .before .before .before .before .before .before .before .before .before .before .before .pre .0) (c .before .before .before .before .before .before .before .before .before .before .before .plan .ensures) (c .before .before .before .before .before .before .before .before .before .left-rows .ensures .0) (c .before .before .before .before .before .before .before .before .before .left-rows .ensures .1))
+returns c = (route-bounded _ _ _ _ _ _ _ _ _ _ (c .before .before .before .before .before .before .before .before .before .before .before .before .before .before .before .pre .0) (c .before .before .before .before .before .before .before .before .plan .ensures) (c .before .before .width .ensures) (c .before .before .before .before .before .before .left-rows .ensures .0) (c .before .before .before .right .ensures) (c .before .bound .ensures) (c .if1 .taken), left-kept _ _ _ _ _ _ _ _ _ (c .before .before .before .before .before .before .before .before .before .before .before .before .before .before .before .args .cells .now) (c .before .before .before .before .before .before .before .before .before .before .before .before .before .before .before .pre .0) (c .before .before .before .before .before .before .before .before .plan .ensures) (c .before .before .before .before .before .before .left-rows .ensures .0) (c .before .before .before .before .before .before .left-rows .ensures .1))
 
-put-header-requires : tie.Need-put-header-requires
-put-header-requires c κs = header-ready _ _ _ _ _ _ _ _ _ _ (c .before .before .before .before .before .before .before .before .before .before .before .before .before .before .before .before .before .before .pre .0) (c .before .before .before .before .before .before .before .before .before .before .before .plan .ensures) (c .before .before .before .before .before .width .ensures) (c .before .before .before .rows .ensures) (c .before .if1 .left)
+add-result : tie.Need-add-result
+add-result c = let a = c .before .before .before .before .before .before .before .before .before .before .before .before .before .before .before .pre .0 .from in let b = c .before .before .before .before .before .before .before .before .before .before .before .before .before .before .before .pre .0 .near in record { fits = omega arith }
 
-add-result-2 : tie.Need-add-result-2
-add-result-2 c = header-fits _ _ _ _ _ _ _ _ _ _ (c .before .before .before .before .before .before .before .before .before .before .before .before .before .before .before .before .before .before .before .before .pre .0) (c .before .before .before .before .before .before .before .before .before .before .before .before .before .plan .ensures) (c .before .before .before .before .before .before .before .width .ensures) (c .before .before .before .before .before .rows .ensures) (c .before .before .before .if1 .left)
+rows-requires : tie.Need-rows-requires
+rows-requires c κs = let x = rows-ready _ _ _ _ _ _ _ _ _ (c .before .before .before .before .before .before .before .before .before .before .before .before .before .before .before .before .args .cells .now) (c .before .before .before .before .before .before .before .before .before .before .before .before .before .before .before .before .pre .0) (c .before .before .before .before .before .before .before .before .before .plan .ensures) (c .before .before .before .before .before .before .before .left-rows .ensures .0) (c .before .before .before .before .right .ensures) in (x .0, x .1, c .before .before .before .width .ensures)
 
-mul-result : tie.Need-mul-result
-mul-result c = rows-fit _ _ _ _ _ _ _ _ _ _ (c .before .before .before .before .before .before .before .before .before .before .before .before .before .before .before .before .before .before .before .before .pre .0) (c .before .before .before .before .before .before .before .before .before .before .before .before .before .plan .ensures) (c .before .before .before .before .before .before .before .width .ensures) (c .before .before .before .before .before .rows .ensures) (c .before .before .before .if1 .left)
+after-requires : tie.Need-after-requires
+after-requires c κs = after-ready _ _ _ _ _ _ _ _ _ _ (c .before .before .before .before .before .before .before .before .before .before .before .before .before .before .before .before .before .before .before .pre .0) (c .before .before .before .before .before .before .before .before .before .before .before .before .plan .ensures) (c .before .before .before .before .before .before .width .ensures) (c .before .before .rows .ensures)
 
-add-result-3 : tie.Need-add-result-3
-add-result-3 c = route-fits _ _ _ _ _ _ _ _ _ _ (c .before .before .before .before .before .before .before .before .before .before .before .before .before .before .before .before .before .before .before .before .pre .0) (c .before .before .before .before .before .before .before .before .before .before .before .before .before .plan .ensures) (c .before .before .before .before .before .before .before .width .ensures) (c .before .before .before .before .before .rows .ensures) (c .before .before .before .if1 .left)
+same-length-2 : tie.Need-same-length-2
+same-length-2 c = c .before .before .before .before .before .before .before .before .before .before .before .left-rows .ensures .1 .size
 
 same-length-3 : tie.Need-same-length-3
-same-length-3 c = c .before .before .before .before .before .before .before .before .before .before .before .left-rows .ensures .1 .size
-
-same-length-4 : tie.Need-same-length-4
-same-length-4 c = search needs
+same-length-3 c = search needs
 
 returns-2 : tie.Need-returns-2
-returns-2 c = (route-written _ _ _ _ _ _ _ _ _ _ (c .before .before .before .before .before .before .before .before .before .before .before .before .before .before .before .before .before .before .before .before .pre .0) (c .before .before .before .before .before .before .before .before .before .before .before .before .before .plan .ensures) (c .before .before .before .before .before .before .before .width .ensures) (c .before .before .before .before .before .rows .ensures) (c .before .before .before .if1 .left) (c .before .put-header .ensures), left-kept _ _ _ _ _ _ _ _ _ (c .before .before .before .before .before .before .before .before .before .before .before .before .before .before .before .before .before .before .before .before .args .cells .now) (c .before .before .before .before .before .before .before .before .before .before .before .before .before .before .before .before .before .before .before .before .pre .0) (c .before .before .before .before .before .before .before .before .before .before .before .before .before .plan .ensures) (c .before .before .before .before .before .before .before .before .before .before .before .left-rows .ensures .0) (c .before .before .before .before .before .before .before .before .before .before .before .left-rows .ensures .1))
+returns-2 c = (route-counted _ _ _ _ _ _ _ _ _ _ (c .before .before .before .before .before .before .before .before .before .before .before .before .before .before .before .before .before .before .before .before .pre .0) (c .before .before .before .before .before .before .before .before .before .before .before .before .before .plan .ensures) (c .before .before .before .before .before .before .before .width .ensures) (c .before .before .before .rows .ensures) (c .before .if2 .taken) (c .after .ensures), left-kept _ _ _ _ _ _ _ _ _ (c .before .before .before .before .before .before .before .before .before .before .before .before .before .before .before .before .before .before .before .before .args .cells .now) (c .before .before .before .before .before .before .before .before .before .before .before .before .before .before .before .before .before .before .before .before .pre .0) (c .before .before .before .before .before .before .before .before .before .before .before .before .before .plan .ensures) (c .before .before .before .before .before .before .before .before .before .before .before .left-rows .ensures .0) (c .before .before .before .before .before .before .before .before .before .before .before .left-rows .ensures .1))
+
+put-header-requires : tie.Need-put-header-requires
+put-header-requires c κs = header-ready _ _ _ _ _ _ _ _ _ _ (c .before .before .before .before .before .before .before .before .before .before .before .before .before .before .before .before .before .before .before .before .pre .0) (c .before .before .before .before .before .before .before .before .before .before .before .before .before .plan .ensures) (c .before .before .before .before .before .before .before .width .ensures) (c .before .before .before .rows .ensures) (c .before .if2 .left)
+
+add-result-2 : tie.Need-add-result-2
+add-result-2 c = header-fits _ _ _ _ _ _ _ _ _ _ (c .before .before .before .before .before .before .before .before .before .before .before .before .before .before .before .before .before .before .before .before .before .before .pre .0) (c .before .before .before .before .before .before .before .before .before .before .before .before .before .before .before .plan .ensures) (c .before .before .before .before .before .before .before .before .before .width .ensures) (c .before .before .before .before .before .rows .ensures) (c .before .before .before .if2 .left)
+
+mul-result : tie.Need-mul-result
+mul-result c = rows-fit _ _ _ _ _ _ _ _ _ _ (c .before .before .before .before .before .before .before .before .before .before .before .before .before .before .before .before .before .before .before .before .before .before .pre .0) (c .before .before .before .before .before .before .before .before .before .before .before .before .before .before .before .plan .ensures) (c .before .before .before .before .before .before .before .before .before .width .ensures) (c .before .before .before .before .before .rows .ensures) (c .before .before .before .if2 .left)
+
+add-result-3 : tie.Need-add-result-3
+add-result-3 c = route-fits _ _ _ _ _ _ _ _ _ _ (c .before .before .before .before .before .before .before .before .before .before .before .before .before .before .before .before .before .before .before .before .before .before .pre .0) (c .before .before .before .before .before .before .before .before .before .before .before .before .before .before .before .plan .ensures) (c .before .before .before .before .before .before .before .before .before .width .ensures) (c .before .before .before .before .before .rows .ensures) (c .before .before .before .if2 .left)
+
+same-length-4 : tie.Need-same-length-4
+same-length-4 c = c .before .before .before .before .before .before .before .before .before .before .before .before .before .left-rows .ensures .1 .size
+
+same-length-5 : tie.Need-same-length-5
+same-length-5 c = search needs
+
+returns-3 : tie.Need-returns-3
+returns-3 c = (route-written _ _ _ _ _ _ _ _ _ _ (c .before .before .before .before .before .before .before .before .before .before .before .before .before .before .before .before .before .before .before .before .before .before .pre .0) (c .before .before .before .before .before .before .before .before .before .before .before .before .before .before .before .plan .ensures) (c .before .before .before .before .before .before .before .before .before .width .ensures) (c .before .before .before .before .before .rows .ensures) (c .before .before .before .if2 .left) (c .before .put-header .ensures), left-kept _ _ _ _ _ _ _ _ _ (c .before .before .before .before .before .before .before .before .before .before .before .before .before .before .before .before .before .before .before .before .before .before .args .cells .now) (c .before .before .before .before .before .before .before .before .before .before .before .before .before .before .before .before .before .before .before .before .before .before .pre .0) (c .before .before .before .before .before .before .before .before .before .before .before .before .before .before .before .plan .ensures) (c .before .before .before .before .before .before .before .before .before .before .before .before .before .left-rows .ensures .0) (c .before .before .before .before .before .before .before .before .before .before .before .before .before .left-rows .ensures .1))
 
 pub enter-spec : {M : Type 1} → statement M
 enter-spec =
@@ -63,16 +72,19 @@ enter-spec =
     left-rows-requires
     right-requires
     width-requires
+    bound-requires
+    same-length
+    returns
     add-result
     rows-requires
     after-requires
-    same-length
     same-length-2
-    returns
+    same-length-3
+    returns-2
     put-header-requires
     add-result-2
     mul-result
     add-result-3
-    same-length-3
     same-length-4
-    returns-2)
+    same-length-5
+    returns-3)
