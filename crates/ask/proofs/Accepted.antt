@@ -17,7 +17,6 @@ use Rattle.model.specs.Checks.{allowed, placed}
 use Rattle.calls.specs.Names.{resolve}
 use Rattle.calls.specs.Tables.{query-checks}
 use Rattle.calls.proofs.Accepted.{Accepted, query-accepted, spans-written}
-use Rattle.claims.proofs.Known.{Sourced}
 use Rattle.claims.proofs.Resolved.{resolved-sourced, resolved-distinct}
 use Rattle.schema.specs.Schemas.{schema-of, streams-in, width-in}
 use Rattle.schema.proofs.Lookups.{length-schema, stream-columns}
@@ -26,7 +25,7 @@ use Rattle.ledger.proofs.Told.{rows-at}
 use Rattle.grant.proofs.Masked.{declared-stream}
 use Rattle.query.specs.declared.Query as Q
 use Rattle.query.specs.Tables.{query-forms}
-use Rattle.query.specs.Forms.{Words, query-in}
+use Rattle.query.specs.Forms.{query-in}
 use Rattle.query_line.specs.Asking.{Means}
 use Rattle.needs.specs.Asking.{needs-in, needs-of}
 use Rattle.needs.proofs.Exact.{needs-exact}

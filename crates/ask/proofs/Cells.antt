@@ -1,15 +1,13 @@
 -- The cells of all routes are those of the answer.
-use mathlib.Core.Path.{_≡_, refl, sym, ap, ap₂, _∙_, subst}
+use mathlib.Core.Path.{_≡_, refl, sym, ap, ap₂, _∙_}
 use mathlib.Core.List.{List, [], _∷_, _++_, map}
 use mathlib.Core.Bool.{Bool, true, false, _&&_, not, cond}
 use mathlib.Core.Option.{some}
 use Prim.Native.Nat.{ℕ, suc}
 use lib.IntN.{ℤ, pos}
-use lib.Dec.{T, eqb, ltb}
+use lib.Dec.{T, eqb}
 use lib.ListN.{length, length-map}
-use Rattle.refusal.specs.Checks.{Check, refuse}
-use Rattle.refusal.specs.declared.Refusal.the-variants.{NoRoute, ManyRoutes, NoRoom}
-use Rattle.lists.specs.Lists.{All, gather, nth, empty?}
+use Rattle.lists.specs.Lists.{gather, nth, empty?}
 use Rattle.lists.proofs.Laws.{all-weaken, gather-same, empty-map}
 use Rattle.syntax.specs.Grammar.{Form}
 use Rattle.model.specs.Queries as M
@@ -33,7 +31,6 @@ use Rattle.routes.specs.declared.Open.{Open}
 use Rattle.routes.specs.declared.Route as R
 use Rattle.routes.specs.Opening.{caller-in}
 use Rattle.routes.specs.Listing.{open-all, routes-in, numbers-of}
-use Rattle.plan.specs.declared.Plan.{Plan}
 use Rattle.plan.specs.Plans.{planned}
 use Rattle.sides.specs.Sides.{words-of}
 use Rattle.pairs.specs.Given.{plan-rows}

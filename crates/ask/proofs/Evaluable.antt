@@ -1,15 +1,14 @@
 -- Every listed route of a checked query can be evaluated, and has no more cells than was said without looking.
-use mathlib.Core.Path.{_≡_, refl, sym, ap, _∙_, subst}
+use mathlib.Core.Path.{_≡_, refl, ap, _∙_, subst}
 use mathlib.Core.List.{List, [], _∷_}
 use mathlib.Core.Bool.{Bool, true, false, cond}
-use Prim.Native.Nat.{ℕ, suc, _+_, _*_, _/_, _≤_, _<_}
+use Prim.Native.Nat.{ℕ, suc, _+_, _*_, _/_, _≤_}
 use native.Mathlib.Decide.{ℕ-discrete, decLe}
 use native.Mathlib.Omega.{arith}
 use lib.Dec.{T, eqb, leb}
 use lib.ListN.{length}
 use borrow.Author.Tests.{eq-eqb, ne-eqb, le-leb, lt-leb}
-use Rattle.lists.specs.Lists.{All, every}
-use Rattle.lists.proofs.Laws.{all-weaken, and-l, T-true, true-T}
+use Rattle.lists.proofs.Laws.{all-weaken, and-l}
 use Rattle.model.specs.Queries as M
 use Rattle.model.specs.Queries.{sources, columns-of}
 use Rattle.model.specs.Checks.{allowed, placed}
@@ -26,7 +25,7 @@ use Rattle.needs.specs.declared.Needs.{Needs}
 use Rattle.needs.proofs.Fields.{streams-are}
 use Rattle.routes.specs.declared.Open.{Open}
 use Rattle.routes.specs.declared.Route as R
-use Rattle.routes.specs.Listing.{open-all, routes-in}
+use Rattle.routes.specs.Listing.{open-all}
 use Rattle.plan.specs.declared.Plan.{Plan}
 use Rattle.plan.specs.Plans.{plan-streams}
 use Rattle.sides.specs.Sides.{words-of}

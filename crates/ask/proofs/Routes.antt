@@ -10,7 +10,7 @@ use mir.Syntax.{w32}
 use mir.Val.{Fits}
 use lib.IntN.{ℤ}
 use lib.Dec.{leb}
-use lib.ListN.{length, length-append, set}
+use lib.ListN.{length, set}
 use lib.Seq.{sets, length-sets, set-comm}
 use borrow.Author.Tests.{le-leb, lt-leb, not-true, not-false}
 use Rattle.lists.specs.Lists.{gather}
@@ -21,14 +21,13 @@ use Rattle.cells.proofs.Stored.{sets-append}
 use Rattle.rows.specs.declared.Rows.{Rows}
 use Rattle.plan.specs.declared.Plan.{Plan}
 use Rattle.sides.specs.Sides.{words-of, left-mask, right-mask}
-use Rattle.pairs.specs.Given.{Masked, plan-rows, row-list, Counted}
+use Rattle.pairs.specs.Given.{Masked, plan-rows, Counted}
 use Rattle.answer.specs.Given.{MostGiven}
 use Rattle.ledger.specs.Records.{Memory}
 use Rattle.ledger.specs.declared.Ledger.{Ledger}
 use Rattle.query.specs.declared.Form.{Form}
 use Rattle.evaluate.specs.Ways.{way-plan}
 use Rattle.evaluate.specs.declared.Way.{Way}
-use Rattle.ask.specs.declared.Aim.{Aim}
 use Rattle.evaluate.specs.Suits.{Suits}
 use Rattle.ask.specs.Rows.{plan-width, Gives}
 use Rattle.ask.specs.Kept.{Keepable, Keeping}

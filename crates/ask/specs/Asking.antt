@@ -1,15 +1,13 @@
 -- The calls: what may be lent, the whole table of each, and its reply.
 use mathlib.Core.Path.{_≡_}
-use mathlib.Core.List.{List, [], _∷_, _++_}
-use mathlib.Core.Bool.{Bool, true, _&&_, not}
-use mathlib.Core.Option.{Option, none, some}
+use mathlib.Core.List.{List, _∷_, _++_}
+use mathlib.Core.Bool.{Bool, _&&_, not}
+use mathlib.Core.Option.{Option}
 use Prim.Native.Nat.{ℕ}
 use lib.IntN.{ℤ}
-use lib.Dec.{T}
 use Rattle.refusal.specs.Checks.{Check, refuse, first}
 use Rattle.refusal.specs.declared.Refusal.the-variants.{Lent}
 use Rattle.syntax.specs.Grammar.{Bytes, Form, RouteLine}
-use Rattle.syntax.specs.Readers.{parse-query}
 use Rattle.calls.specs.Replies as C
 use Rattle.calls.specs.Replies.{written, reply}
 use Rattle.calls.specs.Tables.{query-checks}

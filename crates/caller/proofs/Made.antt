@@ -23,7 +23,6 @@ use Rattle.text.specs.Words.{code-of, name-of, value-kept}
 use Rattle.text.proofs.Codes.{name-back}
 use Rattle.items.specs.Items.{code-short, first-of, once}
 use Rattle.items.proofs.NameCodes.{Named, code-named, distinct-codes, first-taken}
-use Rattle.caller.specs.declared.Caller.{Caller}
 use Rattle.caller.specs.Callers.{roles-in, entries-in, role-in, entry-in, caller-of, caller-sound}
 use Rattle.caller.specs.Lines.{caller-made}
 use Rattle.caller.proofs.Slots.{read-back, kept-at}

@@ -1,6 +1,6 @@
 -- What it means that a query or a grant passes its checks.
 use mathlib.Core.List.{List, [], _++_}
-use mathlib.Core.Bool.{Bool, _&&_}
+use mathlib.Core.Bool.{_&&_}
 use lib.Dec.{T, ltb}
 use lib.ListN.{length}
 use Rattle.refusal.specs.Checks.{passes}

@@ -11,7 +11,7 @@ use Rattle.syntax.specs.Grammar as G
 use Rattle.syntax.specs.Grammar.{Bytes, bytes, Cond, test, all, any, neg, Conds, last, more, Ref, Test, name?, ref?, operand?, test?, cond?, conds?, some-all, form?}
 use Rattle.syntax.specs.Limits.{natural}
 use Rattle.model.specs.Conditions.{tests, tests-of, map-cond}
-use Rattle.model.specs.Queries.{Schema, no-stream, Col, col, figure, same-col, columns-of, Term, column, time, Compare, Query, source, pick, keep}
+use Rattle.model.specs.Queries.{Schema, no-stream, Col, col, same-col, columns-of, Term, column, Compare, Query, source, pick, keep}
 use Rattle.model.specs.Checks.{allowed, keeps}
 use Rattle.model.proofs.Conditions.{tests-map, cond-back}
 use Rattle.model.proofs.Columns.{same-col-refl}

@@ -13,7 +13,7 @@ use Rattle.syntax.specs.Grammar as G
 use Rattle.syntax.specs.Grammar.{Bytes, bytes, Cond, Form, Ref, Operand, Test}
 use Rattle.syntax.specs.Limits.{natural}
 use Rattle.model.specs.Conditions.{tests, map-cond}
-use Rattle.model.specs.Queries.{Schema, no-stream, col, figure, same-col, column, time, number, self, Query, source, pick, keep, join, aggregate, sources, forms}
+use Rattle.model.specs.Queries.{Schema, no-stream, col, same-col, column, self, Query, source, pick, keep, join, aggregate, sources, forms}
 use Rattle.model.specs.Checks.{placed, fitting, sized, keeps}
 use Rattle.model.proofs.Conditions.{cond-back}
 use Rattle.model.proofs.Columns.{same-col→eq}

@@ -1,12 +1,12 @@
 -- Scripts: what a line leaves is sound, so that none is refused as lent memory; a line leaves the record as its call does, and a refused one leaves all as it stood.
 use mathlib.Core.Path.{_≡_, refl, sym, ap, _∙_}
 use mathlib.Core.List.{List, [], _∷_, _++_}
-use mathlib.Core.Bool.{Bool, true, false, _&&_, not, cond}
+use mathlib.Core.Bool.{Bool, true, false, _&&_, not}
 use mathlib.Core.Option.{Option, none, some, Option·none-ne-some}
 use Prim.Native.Nat.{ℕ, zero, suc, _≤_, _<_}
 use native.Mathlib.Omega.{arith}
 use lib.IntN.{ℤ, pos, negsuc}
-use lib.Dec.{T, leb, ltb, eqb, le→leb, ltb→lt, nltb→le}
+use lib.Dec.{T, leb, ltb, le→leb, ltb→lt, nltb→le}
 use lib.ListN.{length, length-append}
 use Rattle.refusal.specs.Numbers.{number-of}
 use Rattle.refusal.specs.Checks.{Check, refuse, first, passes}
@@ -27,8 +27,8 @@ use Rattle.model.specs.Routes.{Route}
 use Rattle.calls.specs.Names.{stream-names, resolve-grant}
 use Rattle.calls.specs.Validity.{valid-schema, rows-match, valid-record, valid-grant, valid-catalogue, entry-names, valid-caller}
 use Rattle.calls.specs.Replies.{written, Reply, refused, filled}
-use Rattle.calls.specs.Tables.{stream-checks, clock-checks, row-checks, row-line-checks, grant-checks, caller-checks, query-checks}
-use Rattle.calls.specs.Calls.{Call, stream, clock, row, clear, clock-line, row-line, clear-line, call-checks, call-table, with-stream, with-clock, with-row, with-row-line, cleared, effect, next, fresh, grant-table, next-catalogue, with-grant, caller-table, with-caller, nobody}
+use Rattle.calls.specs.Tables.{grant-checks, caller-checks, query-checks}
+use Rattle.calls.specs.Calls.{Call, stream, clock, row, clear, clock-line, row-line, clear-line, call-table, with-stream, with-clock, with-row, with-row-line, cleared, effect, next, fresh, grant-table, next-catalogue, with-grant, caller-table, with-caller, nobody}
 use Rattle.calls.specs.Asking.{lent-valid, query-routes, answer-checks, ask-table, route-line, numbered-line, some-bytes, no-line, line-given, printed-line, line-checks, line-table}
 use Rattle.calls.specs.Events.{Fixture, new-fixture, Event, call, grant, caller, query, happen, happened-from, happened}
 use Rattle.calls.specs.Scripts.{Outcome, quiet, refusal, cells, text, changed, told, Act, on-record, act, perform, step, run-from, script}

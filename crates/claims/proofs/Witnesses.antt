@@ -8,7 +8,7 @@ use native.Mathlib.Omega.{arith}
 use lib.IntN.{ℤ, pos}
 use lib.Dec.{T, leb, leb→le}
 use lib.Signed.{leZ}
-use Rattle.lists.specs.Lists.{All, nth, select, count-from}
+use Rattle.lists.specs.Lists.{nth, select, count-from}
 use Rattle.lists.proofs.Laws.{all-nil, all-cons, all-head}
 use Rattle.syntax.specs.Grammar as G
 use Rattle.syntax.specs.Grammar.{Bytes, bytes}

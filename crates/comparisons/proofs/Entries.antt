@@ -1,19 +1,19 @@
 -- Whether a profile has the entries that comparisons name, step by step.
-use mathlib.Core.Path.{_≡_, refl, sym, ap, ap₂, _∙_}
-use mathlib.Core.List.{List, [], _∷_, _++_, map}
-use mathlib.Core.Bool.{Bool, true, false, _&&_, _||_, not, cond, and-true}
-use Prim.Native.Nat.{ℕ, suc, _+_, _*_, _-_, _/_, _%_, _≤_, _<_}
+use mathlib.Core.Path.{_≡_, refl, sym, ap, _∙_}
+use mathlib.Core.List.{List, map}
+use mathlib.Core.Bool.{Bool, true, false, _&&_, not, cond, and-true}
+use Prim.Native.Nat.{ℕ, _+_, _*_, _-_, _/_, _%_, _≤_, _<_}
 use native.Mathlib.Decide.{ℕ-discrete}
 use native.Mathlib.Omega.{arith}
 use lib.Dec.{ltb, eqb}
 use lib.ListN.{length, getD}
-use borrow.Author.Tests.{eq-eqb, ne-eqb, lt-ltb, le-ltb, not-true, not-false}
+use borrow.Author.Tests.{eq-eqb, ne-eqb, le-ltb, not-true, not-false}
 use Rattle.lists.specs.Lists.{every, some?, same-list, count-from}
 use Rattle.lists.proofs.Laws.{same-list-refl, T-true}
 use Rattle.lists.proofs.Counting.{count-left, count-done}
 use Rattle.lists.proofs.Gathers.{every-append-same}
 use Rattle.syntax.specs.Grammar.{Bytes, Entry}
-use Rattle.model.specs.Queries.{col, figure, Term, column, time, number, self, Compare}
+use Rattle.model.specs.Queries.{col, figure, column, time, number, self, Compare}
 use Rattle.model.specs.Grants.{has-entry, term-known}
 use Rattle.text.specs.Words.{name-of}
 use Rattle.schema.specs.Schemas.{code-end}

@@ -1,16 +1,16 @@
 -- Whether one of some conditions is the equality of two columns, step by step.
 use mathlib.Core.Path.{_≡_, refl, sym, ap, ap₂, _∙_}
 use mathlib.Core.List.{List, [], _∷_}
-use mathlib.Core.Bool.{Bool, true, false, _&&_, _||_, not, cond, or-false, or-true}
-use Prim.Native.Nat.{ℕ, suc, _+_, _*_, _-_, _/_, _%_, _≤_, _<_}
+use mathlib.Core.Bool.{Bool, true, false, _&&_, _||_, cond, or-false, or-true}
+use Prim.Native.Nat.{ℕ, _-_, _/_, _%_, _≤_, _<_}
 use native.Mathlib.Decide.{decLt, ℕ-discrete}
 use native.Mathlib.Omega.{arith}
-use lib.Dec.{ltb, eqb}
+use lib.Dec.{eqb}
 use borrow.Author.Tests.{eq-eqb, ne-eqb, lt-ltb, le-ltb}
 use Rattle.lists.specs.Lists.{some?}
 use Rattle.lists.proofs.Gathers.{some-append}
-use Rattle.syntax.specs.Grammar.{Op, eq, ne, lt, le, gt, ge, Cond, test, all, any, neg}
-use Rattle.model.specs.Queries.{Col, col, figure, same-col, Term, column, time, number, self, Compare}
+use Rattle.syntax.specs.Grammar.{eq, ne, lt, le, gt, ge, Cond}
+use Rattle.model.specs.Queries.{figure, same-col, column, time, number, self, Compare}
 use Rattle.model.specs.Routes.{is-eq, is-col, is-equality}
 use Rattle.text.specs.Words.{name-of}
 use Rattle.nodes.specs.declared.Node.{Node}

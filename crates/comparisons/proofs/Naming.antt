@@ -1,16 +1,16 @@
 -- The columns and the time that comparisons name, step by step.
-use mathlib.Core.Path.{_≡_, refl, sym, ap, ap₂, _∙_}
+use mathlib.Core.Path.{_≡_, refl, sym, ap, _∙_}
 use mathlib.Core.List.{List, [], _∷_, _++_}
 use mathlib.Core.Bool.{Bool, true, false, not, cond}
-use Prim.Native.Nat.{ℕ, suc, _+_, _*_, _-_, _/_, _%_, _^_, _≤_, _<_}
+use Prim.Native.Nat.{ℕ, _+_, _*_, _-_, _/_, _%_, _^_, _≤_, _<_}
 use native.Mathlib.Decide.{decLt}
 use native.Mathlib.Omega.{arith}
 use lib.Bits.{bitOr, or-zero-l, or-zero-r, or-comm}
 use lib.Dec.{ltb, eqb}
-use borrow.Author.Tests.{eq-eqb, ne-eqb, lt-ltb, le-ltb, not-true, not-false}
+use borrow.Author.Tests.{ne-eqb, lt-ltb, le-ltb, not-true, not-false}
 use Rattle.lists.specs.Lists.{gather}
 use Rattle.lists.proofs.Laws.{append-nil, gather-append}
-use Rattle.model.specs.Queries.{col, figure, Term, column, time, number, self, Compare}
+use Rattle.model.specs.Queries.{figure, column, number, self, Compare}
 use Rattle.masks.specs.Masks.{with-bit, mask-of}
 use Rattle.masks.proofs.Lists.{or-assoc, mask-append}
 use Rattle.text.specs.Words.{name-of}

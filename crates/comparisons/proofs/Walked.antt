@@ -1,7 +1,7 @@
 -- The comparisons of conditions that are laid out as stored ones are those of their nodes, walked back from the last.
 use mathlib.Core.Path.{_≡_, refl, sym, ap, ap₂, _∙_, subst}
 use mathlib.Core.List.{List, [], _∷_, _++_, append-assoc}
-use mathlib.Core.Bool.{Bool, true, false, _&&_, _||_, not, cond}
+use mathlib.Core.Bool.{Bool, true, false, _&&_, _||_}
 use Prim.Native.Nat.{ℕ, zero, suc, _+_, _*_, _-_, _≤_, _<_, min}
 use native.Mathlib.Decide.{decLt}
 use native.Mathlib.Omega.{arith}
@@ -13,12 +13,11 @@ use Rattle.lists.proofs.Laws.{and-l, and-r, parts, true-T, T-true, append-nil, 
 use Rattle.syntax.specs.Grammar.{Cond}
 use Rattle.model.specs.Conditions.{tests}
 use Rattle.model.specs.Queries.{Compare}
-use Rattle.nodes.specs.declared.Node.{Node}
 use Rattle.nodes.specs.Nodes.{node-of, node-at, node-words, node-compare, link, headed, conditions-of, comparing, reaches, linked}
 use Rattle.nodes.proofs.Puts.{words-some}
 use Rattle.nodes.proofs.Reaching.{link-falls, reaches-step, reaches-stop, reaches-fuel, cond-of, list-before, list-off, cond-on, list-last}
 use Rattle.grant.specs.Grants.{linked-from, laid-out}
-use Rattle.grant.proofs.Laid.{one-word, link-is, headed-compare, prior, walk, prior-falls, back, back-on, linked-at, linked-walk, heads-inner}
+use Rattle.grant.proofs.Laid.{one-word, link-is, headed-compare, prior, prior-falls, back, back-on, linked-at, linked-walk, heads-inner}
 use Rattle.comparisons.specs.Compared.{own-compare, compared-in, compared}
 
 module _ (ws : List ℕ) where

@@ -13,7 +13,7 @@ use borrow.Author.Tests.{eqb-true, eq-eqb, ltb-true}
 use Rattle.lists.specs.Lists.{every, empty?, same-list}
 use Rattle.lists.proofs.Laws.{and-l, and-r, parts, true-T, same-list→eq}
 use Rattle.syntax.specs.Grammar as G
-use Rattle.syntax.specs.Grammar.{Bytes, bytes, Ref, dotted, time, figure, Operand, ref, number, Test, Cond, test, all, any, neg, Conds, last, more, Form, rows, pick, keep, join, aggregate, Show, everything, listed, Right, GrantLine, name?, ref?, operand?, test?, cond?, conds?, some-all, form?, show?, grant?, body?, fn-word, right-word, verb-word, put-cond, digit, letter, alnum}
+use Rattle.syntax.specs.Grammar.{Bytes, bytes, Ref, dotted, time, figure, Operand, ref, number, Test, Cond, test, all, any, neg, Conds, last, more, Form, rows, pick, keep, join, aggregate, Show, everything, listed, Right, GrantLine, name?, ref?, operand?, test?, cond?, conds?, some-all, form?, show?, grant?, body?, fn-word, right-word, verb-word, put-cond}
 use Rattle.syntax.specs.Limits.{max-line, short}
 use Rattle.syntax.specs.Readers.{parse-as, parse-query}
 use Rattle.syntax.proofs.Lengths.{name-filled, ref-some, int-some, op-some}
@@ -22,7 +22,6 @@ use Rattle.syntax.proofs.Lines.{parsed-printed, query-parsed-printed}
 use Rattle.model.specs.Conditions.{map-cond, map-conds}
 use Rattle.calls.specs.Names.{form-conds}
 use Rattle.text.specs.Words.{code-from, code-of}
-use Rattle.text.proofs.Codes.{names-same}
 use Rattle.items.specs.Items.{code-short}
 use Rattle.terms.specs.Terms.{found, place-in, first-code, second-code, code-in, ref-code, operand-code, right-code}
 use Rattle.terms.proofs.Resolving.{code-alone, self-same}

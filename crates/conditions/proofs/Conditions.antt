@@ -11,7 +11,7 @@ use mir.Syntax.{w64}
 use mir.Val.{Fits}
 use borrow.Author.Tests.{ne-eqb, lt-leb}
 use Rattle.lists.proofs.Laws.{never, by-test}
-use Rattle.syntax.specs.Grammar.{Bytes, Test, Cond, test, all, any, neg, Conds}
+use Rattle.syntax.specs.Grammar.{Bytes, Test, Cond, all, any, neg, Conds}
 use Rattle.syntax.specs.Limits.{cond-depth}
 use Rattle.syntax.specs.Readers as R
 use Rattle.syntax.specs.Readers.{Read, bind, _>>_, _>>=_, give, read-headed, compare, and, or, not-of}

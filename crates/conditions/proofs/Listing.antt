@@ -15,7 +15,6 @@ use Rattle.syntax.specs.Limits.{cond-depth}
 use Rattle.syntax.specs.Readers.{Read, bind, ensure, byte, closes, read-items, read-some, read-more, read-cond}
 use Rattle.syntax.proofs.Steps.{bind-bind}
 use Rattle.syntax.proofs.Leaving.{left-within, byte-less}
-use Rattle.model.specs.Conditions.{tests}
 use Rattle.text.specs.Keywords.{place}
 use Rattle.text.specs.Readings.{any-cond, any-conds, any-some}
 use Rattle.text.proofs.Runs.{first-byte}

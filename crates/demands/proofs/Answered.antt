@@ -1,5 +1,5 @@
 -- Demand 2, of the contracts of `ask` and `line`: what the lent cells and bytes hold where a query is answered.
-use mathlib.Core.Path.{_≡_, refl, sym, ap, _∙_, subst}
+use mathlib.Core.Path.{_≡_, refl, sym, ap, _∙_}
 use mathlib.Core.List.{List, [], _∷_, _++_}
 use mathlib.Core.Bool.{Bool, true, false, not, cond, true≢false}
 use mathlib.Core.Option.{Option, none, some, Option·none-ne-some, Option·some-injective}
@@ -14,8 +14,8 @@ use Rattle.refusal.specs.Numbers.{number-of}
 use Rattle.refusal.specs.Checks.{Check, refuse, first, passes}
 use Rattle.refusal.specs.declared.Refusal.{Refusal}
 use Rattle.refusal.specs.declared.Refusal.the-variants.{Lent, Malformed, Bound, Undeclared, Repeated, Misplaced, WindowSize, ClockBack, StreamFull, NoRoute, ManyRoutes, NoRoom}
-use Rattle.refusal.proofs.Passing.{passes-first, passes-left}
-use Rattle.lists.specs.Lists.{All, every, nth, empty?}
+use Rattle.refusal.proofs.Passing.{passes-first}
+use Rattle.lists.specs.Lists.{every, nth, empty?}
 use Rattle.lists.proofs.Laws.{not-not, all-nth}
 use Rattle.syntax.specs.Grammar.{Bytes, Form, RouteLine}
 use Rattle.syntax.specs.Limits.{is-value, max-line, max-routes, shallow}

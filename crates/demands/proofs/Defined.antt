@@ -1,7 +1,7 @@
 -- The replies of the code are those of the definitions, over what the lent memory stands for.
-use mathlib.Core.Path.{_≡_, refl, sym, ap, _∙_}
+use mathlib.Core.Path.{_≡_, ap}
 use mathlib.Core.List.{List, _∷_}
-use mathlib.Core.Bool.{Bool, true, false, _&&_, not, cond}
+use mathlib.Core.Bool.{false, _&&_, not}
 use mathlib.Core.Option.{Option}
 use Prim.Native.Nat.{ℕ}
 use lib.IntN.{ℤ}
@@ -14,7 +14,7 @@ use Rattle.syntax.specs.Grammar.{Bytes, Form, RouteLine}
 use Rattle.syntax.specs.Readers.{parse-query}
 use Rattle.syntax.specs.Limits.{is-value}
 use Rattle.calls.specs.Validity.{valid-record, valid-catalogue, valid-caller}
-use Rattle.calls.specs.Replies.{Reply, refused, reply}
+use Rattle.calls.specs.Replies.{refused, reply}
 use Rattle.calls.specs.Asking as C
 use Rattle.calls.specs.Asking.{lent-valid, ask-table, line-table, with-route}
 use Rattle.schema.specs.Schemas.{schema-of}

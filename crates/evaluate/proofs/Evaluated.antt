@@ -1,18 +1,15 @@
 -- Every listed route of a checked query can be evaluated over a record that may be lent, and its plan asks for the route's rows.
-use mathlib.Core.Path.{_≡_, refl, sym, ap, _∙_, subst}
+use mathlib.Core.Path.{_≡_, sym, ap, _∙_}
 use mathlib.Core.List.{List}
-use mathlib.Core.Bool.{Bool, true, false, not}
 use Prim.Native.Nat.{ℕ, _≤_}
 use native.Mathlib.Decide.{ℕ-discrete}
 use native.Mathlib.Omega.{arith}
-use lib.Dec.{T, leb→le, eqb}
-use lib.ListN.{length, replicate}
-use borrow.Author.Tests.{eq-eqb}
+use lib.Dec.{T}
+use lib.ListN.{replicate}
 use Rattle.lists.specs.Lists.{All, every}
 use Rattle.lists.proofs.Laws.{all-weaken}
 use Rattle.model.specs.Queries as M
-use Rattle.model.specs.Queries.{Record, Table, sources}
-use Rattle.model.specs.Checks.{fitting, no-aggregate}
+use Rattle.model.specs.Queries.{sources}
 use Rattle.model.specs.Answers.{route-table}
 use Rattle.ledger.specs.Records.{Memory, record-of, memory-sound}
 use Rattle.grant.specs.declared.Grant as D

@@ -1,17 +1,17 @@
 -- Every listed route of a checked query: the plan of its rewritten table asks for the route's rows.
-use mathlib.Core.Path.{_≡_, refl, sym, ap, ap₂, _∙_, subst}
-use mathlib.Core.List.{List, [], _∷_, map}
-use mathlib.Core.Bool.{Bool, true, false, _&&_, not, cond}
-use Prim.Native.Nat.{ℕ, suc, _≤_}
+use mathlib.Core.Path.{_≡_, refl, sym, ap, _∙_, subst}
+use mathlib.Core.List.{List, map}
+use mathlib.Core.Bool.{Bool, true, false, not}
+use Prim.Native.Nat.{ℕ, _≤_}
 use native.Mathlib.Omega.{arith}
-use lib.Dec.{T, eqb, leb→le, leb}
+use lib.Dec.{T, leb→le, leb}
 use lib.ListN.{length, getD, replicate, length-replicate}
 use borrow.Author.Tests.{eq-eqb, ne-eqb}
 use Rattle.lists.specs.Lists.{every, All}
 use Rattle.lists.proofs.Laws.{all-weaken, all-both, parts, and-l, every-all, and-r}
 use Rattle.syntax.specs.Limits.{max-grants, max-forms, top}
 use Rattle.model.specs.Queries as M
-use Rattle.model.specs.Queries.{columns-of, Record, Table, sources}
+use Rattle.model.specs.Queries.{columns-of, Record, sources}
 use Rattle.model.specs.Meaning.{plain}
 use Rattle.model.specs.Checks.{placed, sized, allowed, no-aggregate, grant-placed}
 use Rattle.model.specs.Routes.{Route, routes, Source, over-view, single}
@@ -21,12 +21,12 @@ use Rattle.model.proofs.Rewriting.{rewriting}
 use Rattle.openings.specs.Made.{made, looked}
 use Rattle.schema.specs.Schemas.{schema-of}
 use Rattle.grant.specs.declared.Grant as D
-use Rattle.grant.specs.Grants.{grant-of, grant-sound}
+use Rattle.grant.specs.Grants.{grant-of}
 use Rattle.grant.specs.Catalogues.{words-in, sound-from, catalogue-of, catalogue-sound}
 use Rattle.grant.proofs.Masked.{declared-stream}
 use Rattle.query.specs.declared.Form.{Form}
 use Rattle.query.specs.Forms.{Words, query-in}
-use Rattle.query.specs.Tables.{table-words, rewritten-forms, rewritten-table}
+use Rattle.query.specs.Tables.{table-words}
 use Rattle.query.specs.Shapes.{one-query, laid-forms, has-number}
 use Rattle.needs.specs.Asking.{no-stream, needs-of}
 use Rattle.needs.specs.declared.Needs.{Needs}
@@ -40,12 +40,10 @@ use Rattle.rewrite.specs.declared.Granted.{Granted}
 use Rattle.rewrite.specs.Rewrites.{side-forms, pair-forms, sum-forms}
 use Rattle.rewrite.specs.Routed.{Stands, over-sides, over-sum}
 use Rattle.rewrite.proofs.Granting.{granted-of, grant-stands}
-use Rattle.plan.specs.declared.Plan.{Plan}
-use Rattle.plan.specs.Plans.{plan-in, planned}
-use Rattle.plan.proofs.Rewritten.{Asked, Plannable, route-asked, Made, made-planned, one-side-made, two-sides-made, pair-made, sum-pair-made, sum-stream-made}
+use Rattle.plan.specs.Plans.{planned}
+use Rattle.plan.proofs.Rewritten.{Asked, route-asked, Made, made-planned, one-side-made, two-sides-made, pair-made, sum-pair-made, sum-stream-made}
 use Rattle.sides.specs.Sides.{words-of}
 use Rattle.evaluate.specs.Ways.{granted-in, way-of, way-forms, way-plan}
-use Rattle.evaluate.specs.declared.Way.{Way}
 use Rattle.evaluate.proofs.Routed.{sides-made, figures-made}
 use Rattle.evaluate.proofs.Offsets.{offset-rewritten}
 use Rattle.needs.proofs.Fields.{streams-are}

@@ -7,7 +7,7 @@ use lib.Dec.{T}
 use Rattle.lists.proofs.Laws.{parts}
 use Rattle.model.specs.Queries.{Schema, Col, Query, source, pick, keep, join, aggregate, Grant}
 use Rattle.model.specs.Checks.{no-aggregate, side, allowed}
-use Rattle.model.specs.Routes.{Source, Numbered, seen, keeping, over-view, summed}
+use Rattle.model.specs.Routes.{keeping}
 use Rattle.model.proofs.Forms.{side-free}
 use Rattle.openings.specs.Made.{looked, through, figured}
 use Rattle.rewrite.specs.Routed.{over-sides, over-sum}

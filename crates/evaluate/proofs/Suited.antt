@@ -1,18 +1,18 @@
 -- The plan of a regular table whose query may be asked of a record stands as it must to be evaluated.
-use mathlib.Core.Path.{_≡_, refl, sym, ap, ap₂, _∙_, subst}
+use mathlib.Core.Path.{_≡_, sym, _∙_, subst}
 use mathlib.Core.List.{List, [], _∷_, _++_, map}
 use mathlib.Core.Bool.{Bool, true, false, _&&_, _||_, not, cond}
 use Prim.Native.Nat.{ℕ, zero, suc, _+_, _/_, _%_, _≤_, _<_}
 use native.Mathlib.Omega.{arith}
-use lib.Dec.{T, eqb, ltb, leb, eqb→eq, ltb→lt, lt→ltb}
-use lib.ListN.{length, length-map}
-use borrow.Author.Tests.{eq-eqb, ne-eqb, lt-ltb}
+use lib.Dec.{T, eqb, ltb, eqb→eq, ltb→lt, lt→ltb}
+use lib.ListN.{length}
+use borrow.Author.Tests.{eq-eqb, ne-eqb}
 use Rattle.lists.specs.Lists.{every, some?, gather, distinct, count-from}
-use Rattle.lists.proofs.Laws.{and-l, and-r, and-both, or-l, or-r, or-cases, T-true, true-T, distinct-unmap}
+use Rattle.lists.proofs.Laws.{and-l, and-r, and-both, or-l, or-r, or-cases, true-T, distinct-unmap}
 use Rattle.syntax.specs.Limits.{top as max-time}
 use Rattle.model.specs.Queries as M
-use Rattle.model.specs.Queries.{Col, col, figure, same-col, columns-of, sources, header, Table}
-use Rattle.model.specs.Checks.{has, within, linked, no-aggregate, allowed, placed, fitting, sized}
+use Rattle.model.specs.Queries.{Col, col, figure, same-col, columns-of, sources}
+use Rattle.model.specs.Checks.{has, within, linked, no-aggregate, allowed, placed, sized}
 use Rattle.model.proofs.OneRow.{no-figure, header-in}
 use Rattle.schema.specs.Schemas.{schema-of, streams-in, width-in}
 use Rattle.schema.proofs.Lookups.{stream-columns}
@@ -30,7 +30,7 @@ use Rattle.plan.proofs.Shapes.{Shape, plan-shape, streams-alone, streams-joined
 use Rattle.plan.proofs.Rewritten.{Plannable, Asked}
 use Rattle.sides.specs.Sides.{code-there, Alone}
 use Rattle.pairs.specs.Pairs.{Joined}
-use Rattle.pairs.specs.Given.{Stands, column-there}
+use Rattle.pairs.specs.Given.{column-there}
 use Rattle.model.proofs.Columns.{has-append, same-col-refl}
 use Rattle.model.proofs.Keeps.{header-once}
 use Rattle.evaluate.specs.Suits.{Suits}

@@ -1,6 +1,5 @@
 // A route of a query: its rewritten table, its plan, and the rows that the plan asks for as cells.
 ghost use mathlib.Core.Path.{_≡_};
-ghost use mathlib.Core.Bool.{_&&_};
 ghost use lib.ListN.{getD};
 ghost use Rattle.query.specs.Tables.{query-forms, held, rewritten-table};
 ghost use Rattle.evaluate.specs.Ways.{granted-in, way-of, way-forms, way-plan};

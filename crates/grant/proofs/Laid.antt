@@ -1,6 +1,6 @@
 -- Words that may be lent are laid out as a stored list, and the conditions that they stand for are those of a grant over the columns of the mask.
 use mathlib.Core.Path.{_≡_, refl, sym, ap, ap₂, _∙_, subst}
-use mathlib.Core.List.{List, [], _∷_, _++_, append-assoc}
+use mathlib.Core.List.{List, [], _∷_, _++_}
 use mathlib.Core.Bool.{Bool, true, false, _&&_, _||_, not}
 use Prim.Native.Nat.{ℕ, zero, suc, _+_, _*_, _-_, _≤_, _<_}
 use native.Mathlib.Decide.{decLt}
@@ -11,13 +11,13 @@ use borrow.Author.Tests.{eq-eqb, ne-eqb}
 use Rattle.lists.specs.Lists.{every, gather}
 use Rattle.lists.proofs.Laws.{and-l, and-r, or-cases, parts, true-T, T-true, append-nil, gather-append, and-four}
 use Rattle.lists.proofs.Gathers.{every-append-same}
-use Rattle.syntax.specs.Grammar.{Cond, test}
+use Rattle.syntax.specs.Grammar.{Cond}
 use Rattle.model.specs.Conditions.{tests, tests-of, conds-of}
 use Rattle.model.specs.Queries.{Compare}
 use Rattle.nodes.specs.declared.Node.{Node}
-use Rattle.nodes.specs.Nodes.{node-at, node-words, node-compare, link, some-conds, first-cond, headed, cond-in, list-in, conditions-of, comparing, reaches, linked, terms-sound, node-sound, all-sound, shallow-conds, nodes-sound}
+use Rattle.nodes.specs.Nodes.{node-at, node-words, node-compare, link, some-conds, first-cond, headed, conditions-of, comparing, reaches, linked, terms-sound, node-sound, all-sound, shallow-conds, nodes-sound}
 use Rattle.nodes.proofs.Puts.{words-some}
-use Rattle.nodes.proofs.Reaching.{link-falls, list-step, list-stop, reaches-step, reaches-stop, reaches-fuel, cond-of, list-before, list-off, list-last, cond-on}
+use Rattle.nodes.proofs.Reaching.{link-falls, reaches-step, reaches-stop, reaches-fuel, cond-of, list-before, list-off, list-last, cond-on}
 use Rattle.nodes.proofs.Conditions.{headed-test}
 use Rattle.nodes.proofs.Words.{value-zero}
 use Rattle.grant.specs.Grants.{linked-from, laid-out}

@@ -8,7 +8,7 @@ use native.Mathlib.Omega.{arith}
 use lib.Dec.{T, ltb, lt→ltb, ltb→lt}
 use borrow.Author.Tests.{lt-ltb, le-ltb}
 use Rattle.lists.specs.Lists.{every, some?, empty?, select, gather, count-from}
-use Rattle.lists.proofs.Laws.{and-l, and-r, and-both, or-cases, parts, T-true, every-append, some-none}
+use Rattle.lists.proofs.Laws.{and-r, and-both, or-cases, parts, T-true, every-append, some-none}
 use Rattle.model.specs.Queries.{Col, col, figure, same-col, columns-of}
 use Rattle.model.specs.Checks.{has, within}
 use Rattle.model.proofs.Columns.{same-col→eq}

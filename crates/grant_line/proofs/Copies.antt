@@ -1,12 +1,10 @@
 -- Words copied into a place: each step of the loop, and what each place then holds.
 use mathlib.Core.Path.{_≡_, sym, ap, _∙_}
 use mathlib.Core.List.{List}
-use Prim.Native.Nat.{ℕ, zero, suc, _+_, _*_, _-_, _≤_, _<_, min}
-use native.Mathlib.Numerals.{add-one}
+use Prim.Native.Nat.{ℕ, _+_, _*_, _-_, _≤_, _<_, min}
 use native.Mathlib.Omega.{arith}
-use native.Mathlib.Decide.{decLt}
 use lib.ListN.{length, getD, set, take, drop, length-take, length-drop}
-use lib.Seq.{paste, paste-zero, paste-suc, length-paste, getD-set-same, getD-set-other, getD-take, getD-drop, ext-getD}
+use lib.Seq.{paste, length-paste, getD-take, getD-drop, ext-getD}
 use Rattle.lists.proofs.Pasting.{paste-in, paste-out, paste-start, paste-on}
 use Rattle.grant.specs.Catalogues.{words-in}
 

@@ -17,7 +17,7 @@ use Rattle.syntax.specs.Grammar.{Bytes, Op, Right, Ref, Operand, Test, Cond, Co
 use Rattle.syntax.specs.Limits.{short, short-ref, is-value, is-time, natural}
 use Rattle.model.specs.Conditions.{tests, map-cond, map-conds}
 use Rattle.model.specs.Queries as M
-use Rattle.model.specs.Queries.{Col, col, figure, columns-of, column, number, Compare}
+use Rattle.model.specs.Queries.{Col, col, figure, columns-of, number, Compare}
 use Rattle.model.specs.Checks.{has, within}
 use Rattle.model.proofs.Columns.{within-by}
 use Rattle.model.proofs.Conditions.{tests-map, cond-same}

@@ -1,6 +1,6 @@
 -- Each call or line, by its contract alone, is the definitions' step on the fixture that the store stands for, and leaves what may be lent. So is any list of them, from a fresh store on.
 use mathlib.Core.Path.{_≡_, refl, sym, ap, ap₂, _∙_, subst}
-use mathlib.Core.List.{List, [], _∷_}
+use mathlib.Core.List.{List, []}
 use mathlib.Core.Bool.{true}
 use Prim.Native.Nat.{ℕ}
 use lib.Dec.{T, leb, le→leb}
@@ -13,13 +13,12 @@ use Rattle.lists.specs.Lists.{every}
 use Rattle.lists.proofs.Laws.{and-both}
 use Rattle.syntax.specs.Grammar as G
 use Rattle.syntax.specs.Grammar.{Bytes}
-use Rattle.syntax.specs.Limits.{max-grants}
 use Rattle.syntax.specs.Readers.{parse-as}
 use Rattle.model.specs.Queries as M
 use Rattle.calls.specs.Replies.{written}
 use Rattle.calls.specs.Tables.{grant-checks}
 use Rattle.calls.specs.Calls.{Call, call-checks}
-use Rattle.calls.specs.Events.{Fixture, new-fixture, Event, call, grant, caller, query, happen, happened-from, happened, events-compute}
+use Rattle.calls.specs.Events.{Fixture, new-fixture, Event, call, grant, caller, happen, happened-from, happened, events-compute}
 use Rattle.calls.proofs.Order.{never-written, call-never}
 use Rattle.schema.specs.Schemas.{schema-of}
 use Rattle.ledger.specs.Records.{record-of}

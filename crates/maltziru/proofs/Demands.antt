@@ -1,5 +1,5 @@
 -- The three demands, of the calls for C and from their contracts alone: `Called` and `Calls` (specs/Lists) say what a call, and a list of calls, returned and left.
-use mathlib.Core.Path.{_≡_, refl, sym, ap, _∙_}
+use mathlib.Core.Path.{_≡_, ap}
 use mathlib.Core.List.{List}
 use mathlib.Core.Option.{Option, none, some}
 use Prim.Native.Nat.{ℕ}
@@ -15,7 +15,6 @@ use Rattle.model.specs.Alike.{Alike}
 use Rattle.calls.specs.Asking.{with-route}
 use Rattle.calls.specs.Events.{Event, query, happen, happened}
 use Rattle.calls.specs.Replies.{reply, lent-after}
-use Rattle.ledger.specs.Records.{Memory}
 use Rattle.caller.specs.declared.Caller.{Caller}
 use Rattle.caller.specs.Callers.{caller-of}
 use Rattle.grant.specs.declared.Grant.{Grant}

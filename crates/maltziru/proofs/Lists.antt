@@ -1,7 +1,7 @@
 -- A list of calls for C is one of calls of the library's other crates.
 use mathlib.Core.Path.{_≡_, refl, sym, ap, _∙_, subst}
-use mathlib.Core.List.{List, [], _∷_, _++_}
-use mathlib.Core.Bool.{true, false, cond}
+use mathlib.Core.List.{List}
+use mathlib.Core.Bool.{false}
 use Prim.Native.Nat.{ℕ}
 use lib.Dec.{eqb}
 use Rattle.refusal.specs.declared.Verdict.{Verdict}
@@ -16,7 +16,7 @@ use Rattle.ledger.specs.declared.Ledger.{Ledger}
 use Rattle.ledger.specs.Calls.{clock-call, clear-call}
 use Rattle.record_lines.specs.Calls.{clock-line-call, clear-line-call}
 use Rattle.ledger.specs.Records.{with-ledger}
-use Rattle.history.specs.States.{Promise, declared, clocked, rowed, cleared, clock-lined, row-lined, clear-lined}
+use Rattle.history.specs.States.{declared, clocked, rowed, cleared, clock-lined, row-lined, clear-lined}
 use Rattle.history.specs.Fixtures.{Store, with-memory, with-grants, with-caller, Happens, called, granted, named, asked, Trace, stop, then}
 use Rattle.maltziru.specs.declared.GrantReply.{GrantReply}
 use Rattle.maltziru.specs.declared.CallerReply.{CallerReply}

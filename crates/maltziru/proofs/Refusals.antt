@@ -1,25 +1,18 @@
 -- Demand 1, of the calls for C: what Demands states, call by call.
-use mathlib.Core.Path.{_≡_, refl, sym, ap, _∙_, subst}
+use mathlib.Core.Path.{_≡_, refl, sym, ap, _∙_}
 use mathlib.Core.List.{List}
 use Prim.Native.Nat.{ℕ}
-use lib.IntN.{ℤ}
 use Rattle.refusal.specs.declared.Verdict.{Verdict}
 use Rattle.refusal.specs.declared.Verdict.the-variants.{Accepted, Refused}
-use Rattle.refusal.specs.Numbers.{verdict-of}
-use Rattle.refusal.specs.Checks.{Check, first}
 use Rattle.syntax.specs.Grammar as G
-use Rattle.syntax.specs.Grammar.{Bytes}
-use Rattle.syntax.specs.Readers.{parse-as}
 use Rattle.calls.specs.Events.{Event, query}
 use Rattle.calls.specs.Calls as D
 use Rattle.stream_line.specs.Declaring.{names-after}
 use Rattle.ledger.specs.declared.Ledger.{Ledger}
-use Rattle.ledger.specs.declared.Entered.{Entered}
 use Rattle.ledger.specs.Records.{Memory, with-ledger, with-names}
 use Rattle.ledger.specs.Calls.{entered, clock-call, clear-call, memory-after}
 use Rattle.record_lines.specs.Calls.{clock-line-call, clear-line-call}
 use Rattle.caller.specs.declared.Caller.{Caller}
-use Rattle.caller.specs.declared.Identified.{Identified}
 use Rattle.caller.specs.Lines.{outcome, identified}
 use Rattle.caller.proofs.Identifying.{outcome-said}
 use Rattle.grant.specs.declared.Grant.{Grant}
@@ -27,10 +20,9 @@ use Rattle.grant.proofs.Catalogues.{catalogue-length}
 use Rattle.grant_line.specs.Granting.{words-after, grants-after}
 use Rattle.history.specs.Fixtures.{Store, with-memory, with-grants, with-caller}
 use Rattle.history.proofs.Steps.{entered-verdict}
-use Rattle.maltziru.specs.declared.LedgerReply.{LedgerReply}
 use Rattle.maltziru.specs.declared.GrantReply.{GrantReply}
 use Rattle.maltziru.specs.declared.CallerReply.{CallerReply}
-use Rattle.maltziru.specs.Calls.{said, ledger-said, caller-said}
+use Rattle.maltziru.specs.Calls.{said, caller-said}
 use Rattle.maltziru.specs.Lists as C
 use Rattle.maltziru.specs.Lists.{grants-kept, Called, table-of, first-number}
 use Rattle.maltziru.proofs.Said.{same-ledger, same-number}

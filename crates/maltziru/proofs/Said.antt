@@ -1,5 +1,5 @@
 -- Replies by their parts.
-use mathlib.Core.Path.{_≡_, refl, sym, ap, _∙_, subst}
+use mathlib.Core.Path.{_≡_, sym, ap, _∙_, subst}
 use mathlib.Core.List.{List}
 use Prim.Native.Nat.{ℕ}
 use lib.IntN.{ℤ}
@@ -18,7 +18,6 @@ use Rattle.caller.specs.declared.Identified.{Identified}
 use Rattle.grant_line.specs.declared.Granted.{Granted}
 use Rattle.grant_line.specs.Granting.{Grants}
 use Rattle.maltziru.specs.declared.LedgerReply.{LedgerReply}
-use Rattle.maltziru.specs.declared.GrantReply.{GrantReply}
 use Rattle.maltziru.specs.declared.CallerReply.{CallerReply}
 use Rattle.maltziru.specs.Calls.{said, ledger-said, caller-said, StreamCall, RowCalled, RowLineCalled, GrantCall}
 

@@ -6,9 +6,9 @@ use Prim.Native.Nat.{ℕ, _*_}
 use lib.Dec.{leb, eqb}
 use lib.ListN.{length}
 use Rattle.lists.specs.Lists.{some?, every, empty?, distinct, gather}
-use Rattle.syntax.specs.Grammar.{Cond, Fn}
+use Rattle.syntax.specs.Grammar.{Cond}
 use Rattle.model.specs.Conditions.{tests}
-use Rattle.model.specs.Queries.{Schema, Col, same-col, columns-of, Term, column, time, number, self, Compare, Query, source, pick, keep, join, aggregate, sources, header, Grant, queries-compute}
+use Rattle.model.specs.Queries.{Schema, Col, same-col, columns-of, Term, column, time, number, self, Compare, Query, source, pick, keep, join, aggregate, sources, header, Grant}
 use Rattle.model.specs.Grants.{grants-compute}
 
 -- ---- columns

@@ -1,6 +1,6 @@
 -- Conditions over comparisons of any type.
 use mathlib.Core.List.{List, [], _∷_, _++_}
-use mathlib.Core.Bool.{Bool, true, false, _&&_, _||_, not}
+use mathlib.Core.Bool.{Bool, _&&_, _||_, not}
 use Rattle.syntax.specs.Grammar.{Cond, test, all, any, neg, Conds, last, more}
 
 module _ {A : Type 0} where

@@ -6,7 +6,7 @@ use Prim.Native.Nat.{ℕ, suc, _+_}
 use lib.IntN.{ℤ}
 use lib.Dec.{eqb}
 use lib.ListN.{length}
-use Rattle.lists.specs.Lists.{nth, gather, count-from, lists-compute}
+use Rattle.lists.specs.Lists.{nth, count-from, lists-compute}
 use Rattle.syntax.specs.Grammar.{Bytes, Op, Fn, Right, Cond}
 pub use Rattle.syntax.specs.Grammar.{Stream, Caller}
 

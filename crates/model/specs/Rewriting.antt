@@ -3,7 +3,7 @@ use mathlib.Core.List.{List, [], _∷_}
 use Prim.Native.Nat.{ℕ}
 use Rattle.syntax.specs.Grammar.{Cond, all}
 use Rattle.model.specs.Conditions.{conds-of}
-use Rattle.model.specs.Queries.{Schema, Col, Compare, Query, source, pick, keep, join, aggregate, Caller}
+use Rattle.model.specs.Queries.{Schema, Compare, Query, source, pick, keep, join, aggregate, Caller}
 use Rattle.model.specs.Grants.{limits, shown-of}
 use Rattle.model.specs.Routes.{Source, Route, routes-compute}
 

@@ -3,7 +3,7 @@ use mathlib.Core.List.{List, [], _∷_, _++_, map}
 use mathlib.Core.Bool.{Bool, true, false, _&&_, _||_, not, cond}
 use Prim.Native.Nat.{ℕ, suc}
 use lib.Dec.{leb, eqb}
-use Rattle.lists.specs.Lists.{select, some?, every, empty?, gather, same-list}
+use Rattle.lists.specs.Lists.{select, some?, empty?, gather, same-list}
 use Rattle.syntax.specs.Grammar.{Op, eq, ne, lt, le, gt, ge, Fn, min, max, count, avg, sum, Right, read, figures, Cond, test, all, any, neg}
 use Rattle.model.specs.Queries.{Schema, Col, same-col, columns-of, Term, column, time, number, self, Compare, Query, source, pick, keep, join, aggregate, sources, picks, header, Grant, Caller}
 use Rattle.model.specs.Grants.{belongs, shown-of}

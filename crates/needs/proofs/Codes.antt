@@ -1,20 +1,20 @@
 -- Columns and aggregates by the numbers of forms.
-use mathlib.Core.Path.{_≡_, refl, sym, ap, ap₂, _∙_}
+use mathlib.Core.Path.{_≡_, refl, sym, ap₂, _∙_}
 use mathlib.Core.List.{List, [], _∷_, map}
 use mathlib.Core.Bool.{_&&_, _||_, cond, and-or-distrib-right}
-use Prim.Native.Nat.{ℕ, suc, _+_, _*_, _-_, _/_, _%_, _^_, _≤_, _<_}
+use Prim.Native.Nat.{ℕ, _+_, _*_, _-_, _/_, _%_, _^_, _<_}
 use native.Mathlib.Nat.{mod-eq-of-lt}
 use native.Mathlib.Decide.{decLt, ℕ-discrete}
 use native.Mathlib.Omega.{arith}
 use lib.Pow.{pow-lt}
-use lib.Bits.{bitAnd, bitOr, and-mask}
+use lib.Bits.{bitAnd, and-mask}
 use lib.Dec.{leb, ltb, eqb, lit<}
 use borrow.Author.Tests.{eq-eqb, ne-eqb, lt-ltb, le-ltb, le-leb}
 use Rattle.lists.specs.Lists.{some?, gather}
 use Rattle.lists.proofs.Gathers.{some-append}
 use Rattle.syntax.specs.Grammar as G
-use Rattle.model.specs.Queries.{Col, col, figure}
-use Rattle.masks.specs.Masks.{bit?, inside, mask-of}
+use Rattle.model.specs.Queries.{col, figure}
+use Rattle.masks.specs.Masks.{bit?, mask-of}
 use Rattle.masks.proofs.Bits.{bit-and, bit-past}
 use Rattle.masks.proofs.Lists.{bits-same, bit-mask, inside-alone}
 use Rattle.orders.specs.Orders.{codes-in}

@@ -1,31 +1,27 @@
 -- What a table of forms asks is what the query asks that it stands for.
-use mathlib.Core.Path.{_≡_, refl, sym, ap, ap₂, _∙_, subst}
+use mathlib.Core.Path.{_≡_, refl, sym, ap, ap₂, _∙_}
 use mathlib.Core.List.{List, [], _∷_}
-use mathlib.Core.Bool.{Bool, true, false, _&&_, _||_, not, cond}
-use Prim.Native.Nat.{ℕ, suc, _+_, _*_, _-_, _≤_, _<_}
+use mathlib.Core.Bool.{Bool, true, false, _&&_}
+use Prim.Native.Nat.{ℕ, suc, _-_, _<_}
 use native.Mathlib.Decide.{ℕ-discrete}
 use native.Mathlib.Omega.{arith}
 use lib.Bits.{bitAnd}
-use lib.Dec.{T, ltb, eqb, ltb→lt}
+use lib.Dec.{T, ltb, ltb→lt}
 use borrow.Author.Tests.{eq-eqb, ne-eqb}
 use Rattle.lists.specs.Lists.{every}
 use Rattle.lists.proofs.Laws.{and-l, and-r, and-both, parts}
-use Rattle.model.specs.Conditions.{tests}
 use Rattle.model.specs.Queries.{Col, Query, source, pick, keep, join, aggregate}
 use Rattle.model.specs.Checks.{side, allowed}
-use Rattle.model.specs.Rewriting.{under}
 use Rattle.masks.specs.Masks.{mask-of}
 use Rattle.orders.specs.Orders.{codes-in}
 use Rattle.nodes.specs.Nodes.{link}
-use Rattle.nodes.proofs.Reaching.{cond-of}
 use Rattle.grant.specs.Grants.{linked-from}
-use Rattle.query.specs.Forms.{Words, coded-col, cols-in, form-order, numbered-fn, cond-at, limits-at, outer, inner, with-form, queries-in, query-in}
+use Rattle.query.specs.Forms.{Words, coded-col, cols-in, form-order, numbered-fn, cond-at, outer, inner, with-form, queries-in, query-in}
 use Rattle.query.specs.declared.Form.{Form}
 use Rattle.comparisons.specs.Compared.{compared, named-by, column-code}
 use Rattle.comparisons.proofs.Walked.{cond-tests}
-use Rattle.needs.specs.declared.Needs.{Needs}
 use Rattle.needs.specs.declared.Sides.{Sides}
-use Rattle.needs.specs.Asking.{all-columns, bits-of, col-code, fn-code, fn-number, rows-needs, pick-needs, keep-needs, join-needs, aggregate-needs, needs-of, outer-needs, wide-needs, form-needs, no-needs, needs-from, needs-in}
+use Rattle.needs.specs.Asking.{all-columns, col-code, fn-code, fn-number, rows-needs, pick-needs, keep-needs, join-needs, aggregate-needs, needs-of, outer-needs, wide-needs, form-needs, no-needs, needs-from, needs-in}
 use Rattle.query.specs.Shapes.{laid-form, laid-forms}
 use Rattle.needs.proofs.Codes.{code-of-col, order-columns, fn-of-number}
 

@@ -1,22 +1,22 @@
 -- What a query asks, part by part, as the columns and streams that it names.
 use mathlib.Core.Path.{_≡_, refl, sym, ap, ap₂, _∙_, subst}
 use mathlib.Core.List.{List, [], _∷_, _++_, map}
-use mathlib.Core.Bool.{Bool, true, false, _&&_, _||_, not, cond, and-or-distrib-right, and-false}
-use Prim.Native.Nat.{ℕ, zero, suc, _+_, _*_, _-_, _/_, _%_, _^_, _≤_, _<_}
+use mathlib.Core.Bool.{Bool, true, false, _&&_, _||_, cond, and-or-distrib-right, and-false}
+use Prim.Native.Nat.{ℕ, zero, suc, _+_, _*_, _-_, _^_, _≤_, _<_}
 use native.Mathlib.Decide.{decLt, ℕ-discrete}
 use native.Mathlib.Omega.{arith}
-use lib.Bits.{bitAnd, bitOr, or-zero-l, or-zero-r}
-use lib.Dec.{T, leb, ltb, eqb, ltb→lt}
+use lib.Bits.{bitAnd, bitOr, or-zero-r}
+use lib.Dec.{T, ltb, eqb, ltb→lt}
 use borrow.Author.Tests.{eq-eqb, ne-eqb, lt-ltb, le-ltb}
-use Rattle.lists.specs.Lists.{every, some?, empty?, gather, count-from}
-use Rattle.lists.proofs.Laws.{and-l, and-r, and-both, parts, T-true, T-false, append-nil, gather-append, every-append-l, every-append-r}
+use Rattle.lists.specs.Lists.{every, some?, gather, count-from}
+use Rattle.lists.proofs.Laws.{and-l, and-r, parts, append-nil, gather-append, every-append-l, every-append-r}
 use Rattle.lists.proofs.Gathers.{some-append}
 use Rattle.syntax.specs.Grammar.{Cond}
 use Rattle.model.specs.Conditions.{tests}
-use Rattle.model.specs.Queries.{Schema, Col, col, figure, columns-of, Term, column, time, number, self, Compare, Query, source, pick, keep, join, aggregate, sources, picks, header}
-use Rattle.model.specs.Checks.{term-cols, cond-cols, term-timed, timed, no-aggregate, side, allowed}
+use Rattle.model.specs.Queries.{Col, col, figure, columns-of, Term, column, time, number, self, Compare, Query, source, pick, keep, join, aggregate, sources, header}
+use Rattle.model.specs.Checks.{term-cols, cond-cols, term-timed, timed, side, allowed}
 use Rattle.model.specs.Routes.{single}
-use Rattle.model.proofs.RouteKinds.{asked-cols, equal-cols, side-picks}
+use Rattle.model.proofs.RouteKinds.{asked-cols, equal-cols}
 use Rattle.model.proofs.Rewriting.{stream, side-sources}
 use Rattle.schema.specs.Schemas.{streams-in, width-in, schema-of}
 use Rattle.schema.proofs.Lookups.{stream-columns}
@@ -28,8 +28,7 @@ use Rattle.masks.proofs.Lists.{bits-same, bit-mask, mask-append}
 use Rattle.grant.specs.Grants.{column-codes, streams-mask}
 use Rattle.grant.proofs.Masked.{declared-stream}
 use Rattle.comparisons.specs.Compared.{col-codes, term-codes, compare-codes, named-by}
-use Rattle.needs.specs.declared.Needs.{Needs}
-use Rattle.needs.specs.Asking.{no-stream, all-columns, bits-of, code-bit, col-code, fn-code, rows-needs, pick-needs, keep-needs, join-needs, aggregate-needs, needs-of}
+use Rattle.needs.specs.Asking.{no-stream, all-columns, bits-of, code-bit, col-code, rows-needs, pick-needs, keep-needs, join-needs, aggregate-needs, needs-of}
 use Rattle.needs.proofs.Codes.{bit-all}
 
 -- ---- bits of columns

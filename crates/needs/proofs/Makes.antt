@@ -1,17 +1,16 @@
 -- What is asked with one form more, part by part.
-use mathlib.Core.Path.{_≡_, refl, sym, ap, ap₂, _∙_}
+use mathlib.Core.Path.{_≡_, refl, ap, _∙_}
 use mathlib.Core.List.{List, [], _∷_}
-use mathlib.Core.Bool.{Bool, true, false, _&&_, _||_, not}
+use mathlib.Core.Bool.{Bool, true, false, _||_}
 use Prim.Native.Nat.{ℕ, _^_, _≤_, _<_}
 use native.Mathlib.Omega.{arith}
 use lib.Bits.{bitAnd, bitOr, or-zero-l}
-use lib.Dec.{leb, ltb, eqb}
-use borrow.Author.Tests.{eq-eqb, ne-eqb, lt-ltb, le-ltb, le-leb, lt-leb}
-use Rattle.lists.specs.Lists.{count-from}
+use lib.Dec.{ltb, eqb}
+use borrow.Author.Tests.{eq-eqb, ne-eqb, lt-ltb, le-ltb, le-leb}
 use Rattle.masks.specs.Masks.{bit?, with-bit, mask-of}
 use Rattle.orders.specs.Orders.{codes-in}
 use Rattle.nodes.specs.Nodes.{link}
-use Rattle.grant.specs.Grants.{places-of, streams-mask}
+use Rattle.grant.specs.Grants.{streams-mask}
 use Rattle.comparisons.specs.Compared.{compared, named-by}
 use Rattle.needs.specs.declared.Needs.{Needs}
 use Rattle.needs.specs.declared.Sides.{Sides}

@@ -1,13 +1,13 @@
 -- What a query asks, part by part: its equality, times, picks and aggregate.
 use mathlib.Core.Path.{_≡_, refl, sym, ap, ap₂, _∙_, subst}
 use mathlib.Core.List.{List, [], _∷_, _++_}
-use mathlib.Core.Bool.{Bool, true, false, _&&_, _||_, not, cond, or-false}
-use Prim.Native.Nat.{ℕ, suc, _+_, _*_, _-_, _/_, _%_, _≤_, _<_}
+use mathlib.Core.Bool.{Bool, true, false, _&&_, _||_, not, or-false}
+use Prim.Native.Nat.{ℕ, _+_, _*_, _-_, _/_, _%_, _≤_}
 use native.Mathlib.Omega.{arith}
-use lib.Dec.{T, leb, ltb, eqb, ltb→lt}
+use lib.Dec.{T, leb, ltb, ltb→lt}
 use borrow.Author.Tests.{eq-eqb, ne-eqb, lt-ltb}
 use Rattle.lists.specs.Lists.{every, some?, empty?, gather}
-use Rattle.lists.proofs.Laws.{and-l, and-r, and-both, or-cases, parts, T-true, every-append-l, every-append-r}
+use Rattle.lists.proofs.Laws.{and-l, and-r, and-both, or-cases, parts, every-append-l, every-append-r}
 use Rattle.lists.proofs.Gathers.{some-append}
 use Rattle.syntax.specs.Grammar as G
 use Rattle.syntax.specs.Grammar.{Cond, Fn}
@@ -21,16 +21,14 @@ use Rattle.model.proofs.RouteKinds.{side-picks, has-equality, numbers, third-ki
 use Rattle.model.proofs.Columns.{has-within}
 use Rattle.model.proofs.OneRow.{by-every, header-in}
 use Rattle.model.proofs.Forms.{side-free}
-use Rattle.model.proofs.Rewriting.{side-sources, stream}
 use Rattle.schema.specs.Schemas.{streams-in, schema-of}
 use Rattle.schema.proofs.Tests.{streams-most}
 use Rattle.grant.proofs.Masked.{low, declared-stream, cols-low}
 use Rattle.masks.specs.Masks.{bit?}
 use Rattle.query.specs.Forms.{coded-col}
 use Rattle.comparisons.specs.Compared.{named-by}
-use Rattle.needs.specs.declared.Needs.{Needs}
 use Rattle.needs.specs.Asking.{no-stream, col-code, fn-code, rows-needs, pick-needs, keep-needs, join-needs, aggregate-needs, needs-of}
-use Rattle.needs.proofs.Fields.{named-time, Streams, streams-are}
+use Rattle.needs.proofs.Fields.{named-time, streams-are}
 
 or-swap : (a b : Bool) → (a || b) ≡ (b || a)
 or-swap true true = refl

@@ -1,10 +1,10 @@
 -- What a query asks of grants, as numbers: of any query by its forms, and of a table of forms from the last to the first.
 use mathlib.Core.List.{List, [], _∷_}
-use mathlib.Core.Bool.{Bool, true, false, _&&_, _||_, not, cond}
-use Prim.Native.Nat.{ℕ, suc, _+_, _*_, _^_}
+use mathlib.Core.Bool.{false, _&&_, _||_, cond}
+use Prim.Native.Nat.{ℕ, _+_, _*_, _^_}
 use lib.Bits.{bitAnd, bitOr}
 use lib.Dec.{leb, ltb, eqb}
-use Rattle.lists.specs.Lists.{every, gather}
+use Rattle.lists.specs.Lists.{gather}
 use Rattle.syntax.specs.Grammar as G
 use Rattle.syntax.specs.Grammar.{Fn}
 use Rattle.syntax.specs.Limits.{max-columns}
@@ -15,7 +15,7 @@ use Rattle.orders.specs.Orders.{codes-in}
 use Rattle.terms.specs.Terms.{time-code, figure-code}
 use Rattle.nodes.specs.Nodes.{link}
 use Rattle.grant.specs.Grants.{streams-mask}
-use Rattle.query.specs.Forms.{rows-form, pick-form, keep-form, form-order, join-form, aggregate-form, under-form}
+use Rattle.query.specs.Forms.{rows-form, pick-form, keep-form, form-order, join-form, aggregate-form}
 use Rattle.query.specs.declared.Form.{Form}
 use Rattle.comparisons.specs.Compared.{compared, col-codes, named-by, column-code}
 use Rattle.needs.specs.declared.Needs.{Needs}

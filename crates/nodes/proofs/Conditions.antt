@@ -9,7 +9,7 @@ use lib.IntN.{pos, negsuc}
 use lib.Dec.{T, eqb, leb, ltb, leb→le, ltb→lt, eqb→eq, le→leb, lt→ltb}
 use lib.ListN.{length}
 use borrow.Author.Tests.{eq-eqb, ne-eqb, lt-ltb, le-leb, lt-leb}
-use Rattle.lists.specs.Lists.{every, gather}
+use Rattle.lists.specs.Lists.{every}
 use Rattle.lists.proofs.Laws.{and-l, and-r, and-both, or-cases, parts, every-append, every-weaken, T-true, every-gathered}
 use Rattle.syntax.specs.Grammar.{Cond, test}
 use Rattle.model.specs.Conditions.{tests, tests-of, conds-of}

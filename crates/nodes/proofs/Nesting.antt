@@ -11,13 +11,12 @@ use lib.ListN.{length, getD, set, replicate, length-set, length-replicate}
 use lib.Seq.{getD-set-same, getD-set-other}
 use borrow.Author.Tests.{eq-eqb, ne-eqb, le-leb, lt-leb}
 use Rattle.lists.specs.Lists.{every}
-use Rattle.lists.proofs.Laws.{parts, true-T, T-true}
+use Rattle.lists.proofs.Laws.{parts}
 use Rattle.syntax.specs.Grammar.{Cond}
 use Rattle.syntax.specs.Limits.{cond-depth, conds-depth}
 use Rattle.model.specs.Queries.{Compare}
 use Rattle.nodes.specs.declared.Node.{Node}
 use Rattle.nodes.specs.Nodes.{node-of, node-at, link, some-conds, first-cond, headed, conditions-of, comparing, reaches, all-sound, max-nesting, shallow-conds}
-use Rattle.nodes.proofs.Puts.{words-some}
 use Rattle.nodes.proofs.Reaching.{link-falls, reaches-step, reaches-stop, reaches-fuel, cond-of, list-before, list-off, list-last, cond-on}
 use Rattle.nodes.proofs.Stored.{Passes}
 use Rattle.nodes.proofs.Depths.{every-snoc, depth-some, list-depth}

@@ -1,10 +1,10 @@
 // Conditions as nodes in words, one to three words a node: neither a recursion nor a table of grants carries them by value.
 ghost use mathlib.Core.Path.{_≡_};
 ghost use mathlib.Core.Bool.{Bool};
-ghost use Prim.Native.Nat.{ℕ, suc, _+_, _*_, _-_, _≤_};
+ghost use Prim.Native.Nat.{suc, _+_, _*_, _-_, _≤_};
 ghost use lib.Dec.{T};
 ghost use lib.ListN.{length, getD};
-ghost use Rattle.nodes.specs.Nodes.{no-node, node-of, node-at, node-words, link, conditions-of, comparing, reaches, linked, in-mask, terms-sound, node-sound, all-sound, max-nesting, shallow-conds, nodes-sound};
+ghost use Rattle.nodes.specs.Nodes.{node-of, node-at, node-words, link, conditions-of, comparing, reaches, linked, in-mask, terms-sound, node-sound, all-sound, max-nesting, shallow-conds, nodes-sound};
 ghost use Rattle.nodes.specs.Storing.{head-word, put-value, put-node};
 use terms::Term;
 use text::Line;

@@ -1,21 +1,19 @@
 -- Every route is made of the query by its grants.
 use mathlib.Core.Path.{_≡_, refl, sym, ap, ap₂, _∙_, subst}
 use mathlib.Core.List.{List, [], _∷_, _++_, map, map-map, map-id}
-use mathlib.Core.Bool.{Bool, true, false, _&&_, _||_, not, cond}
+use mathlib.Core.Bool.{Bool, true, false, cond}
 use Prim.Native.Nat.{ℕ}
 use lib.Dec.{T, eqb}
-use Rattle.lists.specs.Lists.{select, every, empty?}
-use Rattle.lists.proofs.Laws.{and-l, T-true, T-false, parts, All, all-nil, all-cons, all-head, all-any, all-select, all-weaken, all-append, map-same, map-back}
+use Rattle.lists.proofs.Laws.{T-true, parts, All, all-nil, all-cons, all-head, all-any, all-select, all-append, map-same}
 use Rattle.syntax.specs.Grammar.{Right, read, figures, Cond, Fn}
 use Rattle.model.specs.Queries.{Schema, Col, columns-of, Compare, Query, source, pick, keep, join, aggregate, sources, Grant, Caller}
-use Rattle.model.specs.Grants.{belongs}
-use Rattle.model.specs.Checks.{within, cond-cols, no-aggregate, side, linked, allowed, placed}
-use Rattle.model.specs.Routes.{reads, gives, covers, Source, Route, Numbered, seen, single, columns, keeping, over-view, readable, summing, summed, ways, routes}
+use Rattle.model.specs.Checks.{no-aggregate, side, allowed, placed}
+use Rattle.model.specs.Routes.{reads, gives, Source, Route, Numbered, seen, single, keeping, over-view, readable, summing, summed, ways, routes}
 use Rattle.model.proofs.Asked.{grants-at}
 use Rattle.model.proofs.RouteKinds.{kinds}
 use Rattle.model.proofs.Found.{routes-found}
 use Rattle.model.proofs.Forms.{side-free}
-use Rattle.model.proofs.Rewriting.{stream, side-sources}
+use Rattle.model.proofs.Rewriting.{side-sources}
 use Rattle.model.proofs.Ways.{by-form}
 use Rattle.openings.specs.Made.{looked, through, figured, made, lone-kind, made-by}
 

@@ -1,10 +1,10 @@
 -- The query that a route makes of the caller's, by its kind and its grants.
 use mathlib.Core.List.{List, [], _∷_}
-use mathlib.Core.Bool.{Bool, cond}
+use mathlib.Core.Bool.{cond}
 use Prim.Native.Nat.{ℕ}
 use lib.Dec.{eqb}
 use Rattle.model.specs.Queries.{Schema, Query, source, pick, keep, join, aggregate, sources, Grant}
-use Rattle.model.specs.Routes.{reads, Source, Route, Numbered, seen, single, keeping, over-view, summed}
+use Rattle.model.specs.Routes.{reads, Source, Numbered, seen, single, keeping, over-view, summed}
 
 -- ---- kinds of routes
 

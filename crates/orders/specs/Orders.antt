@@ -1,6 +1,6 @@
 -- Columns in an order, as one number: five bits a column, its code and one, the last column lowest. There are at most twelve.
 use mathlib.Core.List.{List, [], _∷_}
-use mathlib.Core.Bool.{Bool, cond}
+use mathlib.Core.Bool.{cond}
 use Prim.Native.Nat.{ℕ, zero, suc, _+_, _*_, _-_, _/_, _%_}
 use lib.Dec.{ltb, eqb}
 use Rattle.lists.specs.Lists.{select, count-from}

@@ -1,14 +1,13 @@
 -- The columns of a stream and of a join's sides, as orders.
 use mathlib.Core.Path.{_≡_, refl, sym, ap, ap₂, _∙_}
 use mathlib.Core.List.{List, _++_, map, map-append, map-map}
-use mathlib.Core.Bool.{_&&_, _||_}
-use Prim.Native.Nat.{ℕ, zero, _+_, _*_, _/_, _%_, _≤_, _<_}
+use Prim.Native.Nat.{ℕ, _+_, _*_, _/_, _%_, _≤_, _<_}
 use native.Mathlib.Omega.{arith}
 use borrow.Author.Tests.{lt-ltb}
 use lib.Dec.{T, ltb}
 use lib.ListN.{length, length-map}
 use Rattle.lists.specs.Lists.{count-from}
-use Rattle.lists.proofs.Laws.{and-both, true-T}
+use Rattle.lists.proofs.Laws.{true-T}
 use Rattle.lists.proofs.Counting.{map-alike, map-length, every-map}
 use Rattle.model.specs.Queries.{Col, col, columns-of}
 use Rattle.schema.specs.Schemas.{streams-in, width-in, schema-of}

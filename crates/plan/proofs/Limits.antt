@@ -1,16 +1,14 @@
 -- Lists of conditions that limit a table alike.
 use mathlib.Core.Path.{_≡_, refl, sym, ap, _∙_}
 use mathlib.Core.List.{List, [], _∷_, _++_}
-use mathlib.Core.Bool.{cond, and-comm}
+use mathlib.Core.Bool.{and-comm}
 use Rattle.lists.specs.Lists.{every}
 use Rattle.lists.proofs.Laws.{append-nil}
 use Rattle.lists.proofs.Gathers.{select-alike, every-append-same}
-use Rattle.syntax.specs.Grammar.{Cond, all}
-use Rattle.model.specs.Queries.{Compare, Query, Table}
-use Rattle.model.specs.Conditions.{conds-of}
+use Rattle.syntax.specs.Grammar.{Cond}
+use Rattle.model.specs.Queries.{Compare, Table}
 use Rattle.model.specs.Meaning.{holds, picked}
 use Rattle.model.specs.Grants.{limited}
-use Rattle.model.proofs.Rewriting.{limited-none, limited-all}
 use Rattle.model.proofs.Tables.{limited-limited, limited-more}
 
 abbrev pub Same : List (Cond Compare) → List (Cond Compare) → Type 0

@@ -6,16 +6,16 @@ use Prim.Native.Nat.{ℕ, zero, suc, _+_, _≤_, _<_}
 use native.Mathlib.Omega.{arith}
 use native.Mathlib.Decide.{decLt}
 use borrow.Author.Tests.{ne-eqb, eq-eqb, lt-ltb}
-use lib.Dec.{T, leb, ltb, eqb, T-not, leb→le, ltb→lt}
+use lib.Dec.{T, leb, ltb, eqb, leb→le, ltb→lt}
 use lib.ListN.{length, length-set}
 use Rattle.lists.specs.Lists.{distinct}
-use Rattle.lists.proofs.Laws.{parts, All, and-l, and-r, T-true, T-false, true-T}
+use Rattle.lists.proofs.Laws.{parts, All, T-true, T-false, true-T}
 use Rattle.syntax.specs.Grammar.{Cond, all}
-use Rattle.model.specs.Queries.{Schema, Col, col, same-col, columns-of, Compare, Query, source, pick, keep, join, aggregate, sources, picks, header, Table, Record}
+use Rattle.model.specs.Queries.{Col, col, same-col, columns-of, Compare, Query, source, pick, keep, join, aggregate, sources, picks, header, Table, Record}
 use Rattle.model.specs.Conditions.{conds-of}
 use Rattle.model.specs.Meaning.{picked, kept, pairs, equality, aggregated, table-of, plain}
 use Rattle.model.specs.Grants.{limited}
-use Rattle.model.specs.Checks.{within, no-aggregate, side, allowed, placed, keeps}
+use Rattle.model.specs.Checks.{no-aggregate, side, allowed, placed, keeps}
 use Rattle.model.specs.Rewriting.{under}
 use Rattle.model.proofs.Rewriting.{stream, limited-none, limited-all}
 use Rattle.model.proofs.Tables.{limited-more}
@@ -28,14 +28,14 @@ use Rattle.schema.specs.Schemas.{streams-in, width-in, schema-of}
 use Rattle.schema.proofs.Lookups.{stream-columns, columns-past}
 use Rattle.schema.proofs.Soundness.{width-most}
 use Rattle.lists.proofs.Counting.{map-length}
-use Rattle.orders.specs.Orders.{order-end, codes-in, order-from}
+use Rattle.orders.specs.Orders.{order-end, codes-in}
 use Rattle.orders.proofs.Codes.{from-below, of-below}
 use Rattle.query.specs.declared.Form.{Form}
-use Rattle.query.specs.Forms.{Words, rows-form, pick-form, keep-form, form-order, join-form, aggregate-form, numbered-fn, coded-col, cols-in, cond-at, limits-at, outer, inner, with-form, queries-in, query-in}
+use Rattle.query.specs.Forms.{Words, form-order, numbered-fn, coded-col, cols-in, cond-at, limits-at, outer, inner, with-form, queries-in, query-in}
 use Rattle.plan.specs.declared.Plan.{Plan}
-use Rattle.plan.specs.Plans.{no-view, view-of, view-limits, no-plan, stream-order, with-rows, with-pick, with-keep, with-join, with-aggregate, with-view, plan-step, plan-in, picks-in, right-conds, left-conds, inner-table, figure-table, planned, viewless, form-regular, regular, pick-count}
+use Rattle.plan.specs.Plans.{no-view, view-of, view-limits, no-plan, stream-order, with-rows, with-pick, with-keep, with-join, with-aggregate, with-view, plan-in, picks-in, right-conds, inner-table, figure-table, planned, viewless, form-regular, regular, pick-count}
 use Rattle.plan.proofs.Steps.{step-rows, step-pick, step-keep, step-join, step-aggregate, step-view}
-use Rattle.plan.proofs.Tables.{Placed, result, result-plain, result-figures, inner-alone, left-of-alone, ended-plain, pick-result, right-same, keep-result, rows-result, view-result, join-result, aggregate-result, counted-on}
+use Rattle.plan.proofs.Tables.{Placed, result, result-plain, result-figures, inner-alone, left-of-alone, ended-plain, pick-result, right-same, keep-result, rows-result, view-result, join-result, aggregate-result}
 use Rattle.plan.proofs.Headers.{stream-header, joined-header}
 
 -- ---- a form's kind

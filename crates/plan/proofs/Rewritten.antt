@@ -11,7 +11,7 @@ use Rattle.lists.specs.Lists.{every, distinct}
 use Rattle.lists.proofs.Laws.{All, all-both, all-weaken, and-l, and-both, parts, append-nil}
 use Rattle.syntax.specs.Limits.{max-forms, max-rewritten}
 use Rattle.model.specs.Queries as M
-use Rattle.model.specs.Queries.{same-col, columns-of, Caller, sources, Table, Record}
+use Rattle.model.specs.Queries.{same-col, columns-of, Caller, sources, Record}
 use Rattle.model.specs.Meaning.{table-of, plain}
 use Rattle.model.specs.Checks.{no-aggregate, allowed, placed, sized, keeps, grant-placed}
 use Rattle.model.specs.Routes.{Source, Route, Numbered, over-view, routes}

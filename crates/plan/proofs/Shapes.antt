@@ -1,11 +1,10 @@
 -- What a plan is by the query of its table: its streams, the columns of its equality and of its aggregate, SIZE and OFFSET.
-use mathlib.Core.Path.{_≡_, refl, sym, ap, ap₂, _∙_, subst}
+use mathlib.Core.Path.{_≡_, refl, sym, ap₂, _∙_, subst}
 use mathlib.Core.List.{List, [], _∷_, _++_}
-use mathlib.Core.Bool.{Bool, true, false, _&&_, not, cond}
+use mathlib.Core.Bool.{Bool, true, false, _&&_, not}
 use Prim.Native.Nat.{ℕ, suc, _≤_}
 use native.Mathlib.Omega.{arith}
 use lib.Dec.{T, leb, leb→le}
-use borrow.Author.Tests.{ne-eqb}
 use lib.ListN.{length}
 use Rattle.lists.specs.Lists.{gather}
 use Rattle.lists.proofs.Laws.{parts, and-l}
@@ -20,10 +19,10 @@ use Rattle.model.proofs.OneRow.{header-in}
 use Rattle.model.proofs.Rewriting.{stream, side-sources}
 use Rattle.schema.specs.Schemas.{schema-of}
 use Rattle.query.specs.declared.Form.{Form}
-use Rattle.query.specs.Forms.{Words, numbered-fn, coded-col, outer, inner, with-form, queries-in, query-in}
+use Rattle.query.specs.Forms.{Words, numbered-fn, coded-col, outer, inner, queries-in, query-in}
 use Rattle.query.proofs.Shapes.{form-rows, form-pick, form-keep, form-join, form-aggregate}
 use Rattle.plan.specs.declared.Plan.{Plan}
-use Rattle.plan.specs.Plans.{view-of, view-limits, no-plan, with-rows, with-pick, with-keep, with-join, with-aggregate, with-view, plan-step, plan-in, form-regular, regular, plan-streams}
+use Rattle.plan.specs.Plans.{view-of, view-limits, no-plan, with-rows, with-pick, with-keep, with-join, with-aggregate, with-view, plan-in, form-regular, regular, plan-streams}
 use Rattle.plan.proofs.Steps.{step-rows, step-pick, step-keep, step-join, step-aggregate, step-view}
 use Rattle.plan.proofs.Meaning.{Kind, k-rows, k-pick, k-keep, k-join, k-aggregate, k-under, kind-of, form-under, regular-pick, regular-keep, regular-join, regular-aggregate, regular-under, one-less}
 

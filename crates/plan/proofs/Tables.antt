@@ -2,15 +2,14 @@
 use mathlib.Core.Path.{_≡_, refl, sym, ap, ap₂, _∙_}
 use mathlib.Core.List.{List, [], _∷_, _++_, map, map-append}
 use mathlib.Core.Bool.{Bool, true, false, cond}
-use Prim.Native.Nat.{ℕ, zero, suc, _+_, _-_, _≤_, _<_}
+use Prim.Native.Nat.{ℕ, suc, _+_, _-_, _≤_, _<_}
 use native.Mathlib.Omega.{arith}
-use borrow.Author.Tests.{ne-eqb, lt-ltb}
+use borrow.Author.Tests.{lt-ltb}
 use lib.Dec.{eqb}
 use lib.ListN.{length, getD, set}
 use lib.Seq.{getD-set-same, getD-set-other}
 use Rattle.lists.specs.Lists.{count-from}
 use Rattle.lists.proofs.Counting.{count-more, map-alike}
-use Rattle.lists.proofs.Laws.{append-nil}
 use Rattle.syntax.specs.Grammar.{Cond}
 use Rattle.model.specs.Queries.{Compare, Table}
 use Rattle.model.specs.Meaning.{picked, pairs, equality, aggregated}
@@ -21,7 +20,6 @@ use Rattle.nodes.specs.Nodes.{conditions-of, list-in}
 use Rattle.grant.specs.Grants.{limit-of}
 use Rattle.query.specs.declared.Form.{Form}
 use Rattle.query.specs.Forms.{Words, numbered-fn, coded-col, cond-at}
-use Rattle.plan.specs.declared.View.{View}
 use Rattle.plan.specs.declared.Plan.{Plan}
 use Rattle.plan.specs.Plans.{no-view, view-of, view-limits, with-rows, with-pick, with-keep, with-join, with-aggregate, with-view, picks-in, inner-end, right-conds, left-conds, pair-conds, outer-conds, inner-table, figure-table}
 use Rattle.plan.proofs.Limits.{same-swap, picked-last, limited-last, picked-before, limited-before}

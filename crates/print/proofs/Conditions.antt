@@ -1,12 +1,12 @@
 -- Conditions and lists of them.
 use mathlib.Core.Path.{_≡_, refl, sym, ap, ap₂, _∙_}
 use mathlib.Core.List.{List, [], _∷_, _++_, map}
-use mathlib.Core.Bool.{Bool, true, false, cond, _||_}
+use mathlib.Core.Bool.{Bool, true, false}
 use mathlib.Core.Option.{Option, none, some}
 use Prim.Native.Nat.{ℕ, zero, suc, _+_, _*_, _-_, _<_, _≤_, min}
 use native.Mathlib.Decide.{decLt, ℕ-discrete}
 use native.Mathlib.Omega.{arith}
-use lib.Dec.{eqb, ltb}
+use lib.Dec.{ltb}
 use borrow.Author.Tests.{ne-eqb, lt-ltb, le-ltb}
 use Rattle.lists.specs.Lists.{empty?}
 use Rattle.syntax.specs.Grammar.{Bytes, bytes, Entry, Cond, test, all, any, neg, Conds, last, more, put-name, put-open, put-items, put-cond, put-conds}
@@ -16,7 +16,7 @@ use Rattle.model.specs.Grants.{fill-compare, fill}
 use Rattle.calls.specs.Names.{test-of}
 use Rattle.text.specs.Words.{bytes-from, name-of}
 use Rattle.nodes.specs.declared.Node.{Node}
-use Rattle.nodes.specs.Nodes.{no-node, node-at, node-compare, link, some-conds, first-cond, headed, cond-in, conditions-of}
+use Rattle.nodes.specs.Nodes.{no-node, node-at, node-compare, link, some-conds, headed, cond-in, conditions-of}
 use Rattle.nodes.proofs.Reaching.{cond-on, list-off}
 use Rattle.print.specs.Writing.{over, after, Put, byte-text}
 use Rattle.print.specs.Texts.{values, valued-term, valued, test-text, cond-at, list-at, compares, cond-text, conds-text, list-text, list-opening, conditions-text, when-text, First, Lasts}

@@ -1,19 +1,19 @@
 -- The names of streams and columns, as the schema has them that the lent numbers stand for.
 use mathlib.Core.Path.{_≡_, refl, sym, ap, ap₂, _∙_}
 use mathlib.Core.List.{List, [], _∷_, _++_, map, map-map}
-use mathlib.Core.Bool.{Bool, true, false, cond}
+use mathlib.Core.Bool.{cond}
 use Prim.Native.Nat.{ℕ, zero, suc, _+_, _*_, _-_, _/_, _%_, _<_, _≤_, min}
 use native.Mathlib.Decide.{decLt, ℕ-discrete}
 use native.Mathlib.Omega.{arith}
-use lib.Dec.{eqb, ltb}
+use lib.Dec.{eqb}
 use lib.ListN.{length, getD, drop, drop-of-length-le}
 use lib.Seq.{drop-cons}
 use borrow.Author.Tests.{eq-eqb, ne-eqb, lt-ltb, le-ltb}
-use Rattle.lists.specs.Lists.{nth, count-from}
+use Rattle.lists.specs.Lists.{nth}
 use Rattle.lists.proofs.Counting.{map-length}
 use Rattle.syntax.specs.Grammar as G
 use Rattle.syntax.specs.Grammar.{Bytes, bytes, put-name, put-ref, put-open, put-form, put-items}
-use Rattle.model.specs.Queries.{Schema, no-stream, col, source}
+use Rattle.model.specs.Queries.{Schema, no-stream, col}
 use Rattle.calls.specs.Names.{columns-named, ref-of, form-of}
 use Rattle.text.specs.Words.{bytes-from, name-of}
 use Rattle.schema.specs.Schemas.{filled, streams-in, width-in, column-in, stream-in, schema-of}

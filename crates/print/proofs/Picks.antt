@@ -2,16 +2,15 @@
 use mathlib.Core.Path.{_≡_, refl, sym, ap, ap₂, _∙_}
 use mathlib.Core.List.{List, [], _∷_, _++_, append-assoc, map}
 use mathlib.Core.Bool.{Bool, true, false, cond, _&&_, _||_, not}
-use mathlib.Core.Option.{Option, none, some}
-use Prim.Native.Nat.{ℕ, zero, suc, _+_, _*_, _-_, _<_, _≤_}
+use mathlib.Core.Option.{none, some}
+use Prim.Native.Nat.{ℕ, _+_, _-_, _<_, _≤_}
 use native.Mathlib.Decide.{decLt}
 use native.Mathlib.Omega.{arith}
-use lib.IntN.{pos}
 use lib.Dec.{ltb, leb}
 use borrow.Author.Tests.{lt-ltb, le-ltb, le-leb, lt-leb, not-true, not-false}
 use Rattle.lists.specs.Lists.{empty?}
 use Rattle.lists.proofs.Laws.{empty-map}
-use Rattle.syntax.specs.Grammar.{Bytes, bytes, Entry, Cond, all, Op, le, ge, op-word, put-int, put-nat, put-name, put-open, put-ref, put-operand, put-items, put-cond, put-conds, put-form}
+use Rattle.syntax.specs.Grammar.{Bytes, bytes, Entry, Cond, Op, le, ge, op-word, put-int, put-nat, put-name, put-open, put-ref, put-operand, put-items, put-cond, put-conds, put-form}
 use Rattle.syntax.specs.Limits.{top}
 use Rattle.model.specs.Queries.{Schema, Compare, Query, Caller}
 use Rattle.model.specs.Conditions.{map-cond, map-conds, conds-of}

@@ -1,7 +1,7 @@
 -- What it is to write a text: over the bytes from a place on, where there are places.
 use mathlib.Core.Path.{_≡_}
-use mathlib.Core.List.{List, [], _∷_}
-use Prim.Native.Nat.{ℕ, zero, suc, _+_, _*_, _-_, _^_, _≤_, _<_, min}
+use mathlib.Core.List.{[], _∷_}
+use Prim.Native.Nat.{ℕ, suc, _*_, _-_, _^_, _≤_, _<_, min}
 use lib.ListN.{length, set}
 use Rattle.syntax.specs.Grammar.{Bytes, put-nat}
 use Rattle.text.specs.Words.{name-of}

@@ -1,18 +1,15 @@
 -- What a form writes before the queries that it takes, kind by kind.
 use mathlib.Core.Path.{_≡_, refl, sym, ap, ap₂, _∙_}
 use mathlib.Core.List.{List, [], _∷_, _++_, append-assoc, map}
-use mathlib.Core.Bool.{Bool, true, false, cond}
-use Prim.Native.Nat.{ℕ, _+_, _*_, _-_, _<_, _≤_, min}
+use mathlib.Core.Bool.{Bool, true}
+use Prim.Native.Nat.{ℕ, _+_, _*_, _-_, _<_, _≤_}
 use native.Mathlib.Omega.{arith}
-use lib.IntN.{pos}
-use lib.Dec.{eqb, ltb, leb}
 use lib.ListN.{length, take, drop, length-drop, drop-of-length-le}
 use lib.Seq.{take-all}
 use borrow.Author.Tests.{ne-eqb, le-ltb, lt-ltb}
-use Rattle.syntax.specs.Grammar.{Bytes, bytes, Entry, op-word, eq, fn-word, put-name, put-nat, put-int, put-ref, put-open, put-items, put-equality, put-cond}
+use Rattle.syntax.specs.Grammar.{Bytes, bytes, Entry, op-word, fn-word, put-name, put-nat, put-int, put-ref, put-open, put-items, put-equality}
 use Rattle.model.specs.Queries.{Schema}
-use Rattle.model.specs.Conditions.{map-cond}
-use Rattle.calls.specs.Names.{ref-of, test-of}
+use Rattle.calls.specs.Names.{ref-of}
 use Rattle.text.specs.Words.{bytes-from, name-of}
 use Rattle.nodes.specs.Profiles.{profile-in}
 use Rattle.grant.specs.Catalogues.{words-in}

@@ -1,19 +1,17 @@
 -- A table written form by form: what is still to be written, and what stands open.
 use mathlib.Core.Path.{_≡_, refl, sym, ap, ap₂, _∙_}
-use mathlib.Core.List.{List, [], _∷_, _++_, map}
+use mathlib.Core.List.{List, [], _∷_}
 use mathlib.Core.Bool.{Bool, true, false, cond}
 use mathlib.Core.Option.{Option, none, some}
-use Prim.Native.Nat.{ℕ, zero, suc, _+_, _*_, _-_, _^_, _<_, _≤_}
+use Prim.Native.Nat.{ℕ, suc, _+_, _*_, _-_, _^_, _<_, _≤_}
 use native.Mathlib.Decide.{decLt, ℕ-discrete}
 use native.Mathlib.Nat.{pow-suc, pow-le-pow-right}
 use native.Mathlib.Omega.{arith}
-use lib.Dec.{eqb, ltb}
 use lib.ListN.{length, getD, drop, drop-of-length-le, List·getD-eq-default}
 use lib.Seq.{drop-cons}
 use borrow.Author.Tests.{ne-eqb, lt-ltb}
-use Rattle.syntax.specs.Grammar.{Bytes, put-open, put-form}
-use Rattle.model.specs.Queries.{Schema, Query, source}
-use Rattle.model.specs.Rewriting.{under}
+use Rattle.syntax.specs.Grammar.{Bytes, put-form}
+use Rattle.model.specs.Queries.{Schema, Query}
 use Rattle.calls.specs.Names.{form-of}
 use Rattle.query.specs.Forms.{Words, outer, inner, limits-at, with-form, queries-in, query-in}
 use Rattle.query.specs.Tables.{blank, forms-in}

@@ -1,5 +1,5 @@
 -- A text that is written in turns: what is still to be written of it.
-use mathlib.Core.Path.{_≡_, refl, sym, ap, _∙_}
+use mathlib.Core.Path.{_≡_, refl, ap, _∙_}
 use Prim.Native.Nat.{ℕ}
 use Rattle.syntax.specs.Grammar.{Bytes}
 use Rattle.print.specs.Writing.{over, after, Put}

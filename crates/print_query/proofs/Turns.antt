@@ -2,8 +2,8 @@
 use mathlib.Core.Path.{_≡_, refl, sym, ap, _∙_}
 use mathlib.Core.List.{List, [], _∷_}
 use mathlib.Core.Bool.{Bool, true, false, cond}
-use mathlib.Core.Option.{Option, none, some}
-use Prim.Native.Nat.{ℕ, zero, suc, _+_, _*_, _-_, _/_, _%_, _<_, _≤_}
+use mathlib.Core.Option.{some}
+use Prim.Native.Nat.{ℕ, _+_, _*_, _-_, _/_, _%_, _<_, _≤_}
 use native.Mathlib.Omega.{arith}
 use lib.Dec.{eqb}
 use borrow.Author.Tests.{ne-eqb}
@@ -13,7 +13,7 @@ use Rattle.print.specs.Writing.{Put, byte-text}
 use Rattle.print.proofs.Putting.{put-none, put-as}
 use Rattle.print_query.specs.Marks.{marks-number, ending, ended, state-number, Ended}
 use Rattle.print_query.specs.Texts.{bracketed, pushed, turn-text, turned, Turned}
-use Rattle.print_query.proofs.Todo.{Todo, todo-start, todo-as, todo-put, todo-end}
+use Rattle.print_query.proofs.Todo.{Todo, todo-start, todo-put, todo-end}
 
 -- ---- marks
 

@@ -2,8 +2,8 @@
 use mathlib.Core.Path.{_≡_}
 use mathlib.Core.List.{List, [], _∷_, _++_, map}
 use mathlib.Core.Bool.{Bool, true, false, cond, _&&_}
-use mathlib.Core.Option.{Option, none, some}
-use Prim.Native.Nat.{ℕ, _<_, min}
+use mathlib.Core.Option.{Option, some}
+use Prim.Native.Nat.{ℕ, min}
 use lib.IntN.{pos}
 use lib.Dec.{eqb, ltb, leb}
 use lib.ListN.{length, drop}

@@ -2,10 +2,10 @@
 use mathlib.Core.Path.{_≡_, refl, sym, ap, ap₂, _∙_}
 use mathlib.Core.List.{List, [], _∷_, _++_, append-assoc}
 use mathlib.Core.Bool.{Bool, true, false}
-use Prim.Native.Nat.{ℕ, zero, suc, _+_, _-_, _≤_, _<_, min}
+use Prim.Native.Nat.{ℕ, suc, _+_, _-_, _≤_, _<_, min}
 use native.Mathlib.Omega.{arith}
 use lib.Dec.{leb}
-use lib.ListN.{length, getD, set, take, drop, length-take, length-append, length-set, take-append-drop}
+use lib.ListN.{length, getD, set, take, drop, length-take, length-set, take-append-drop}
 use lib.Seq.{take-suc, take-suc-set, take-append-seam, take-all, take-length}
 use borrow.Author.Tests.{leb-true, leb-false}
 use Rattle.lists.proofs.Laws.{append-nil}

@@ -1,13 +1,13 @@
 -- The text of an outcome, and output that is kept.
-use mathlib.Core.Path.{_≡_, refl, sym, ap, ap₂, _∙_, subst}
-use mathlib.Core.List.{List, [], _∷_, _++_, append-assoc}
-use Prim.Native.Nat.{ℕ, zero, suc, _+_, _*_, _-_, _≤_, _<_, min}
+use mathlib.Core.Path.{_≡_, refl, sym, ap, _∙_, subst}
+use mathlib.Core.List.{List, _++_, append-assoc}
+use Prim.Native.Nat.{ℕ, zero, suc, _+_, _*_, _-_, _≤_, min}
 use native.Mathlib.Omega.{arith}
 use lib.IntN.{ℤ}
 use lib.ListN.{length, take, drop, length-take, length-drop, length-append}
 use lib.Seq.{take-append-seam}
 use Rattle.syntax.specs.Grammar.{Bytes}
-use Rattle.calls.specs.Scripts.{quiet, refusal, cells, text}
+use Rattle.calls.specs.Scripts.{refusal, cells, text}
 use Rattle.report.specs.Outcomes.{put-outcome, outcome-text}
 use Rattle.report.specs.Written.{Written}
 use Rattle.syntax.specs.Readers.{verb-of}

@@ -1,6 +1,6 @@
 -- The query that a table of forms stands for. A form stands before the forms inside it, a join's left side before its right.
 use mathlib.Core.List.{List, [], _∷_, _++_, map}
-use mathlib.Core.Bool.{Bool, true, false, cond}
+use mathlib.Core.Bool.{cond}
 use Prim.Native.Nat.{ℕ, _+_, _*_, _/_, _%_}
 use lib.Dec.{ltb, eqb}
 use Rattle.syntax.specs.Grammar as G

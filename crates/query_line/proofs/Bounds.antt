@@ -20,9 +20,9 @@ use Rattle.calls.specs.Bounds.{cond-bounded, form-count, form-bounded}
 use Rattle.terms.specs.Terms.{test-over}
 use Rattle.nodes.specs.Storing.{size}
 use Rattle.conditions.specs.Seeing.{nodes-of, seen-of, deep-seen}
-use Rattle.grant_line.proofs.Folds.{every-pair, every-gathered, some-not, not-not-is}
+use Rattle.grant_line.proofs.Folds.{every-pair, every-gathered, some-not}
 use Rattle.grant_line.proofs.Bounds.{tests-over}
-use Rattle.query_read.specs.Parts.{Part, rows, pick, keep, join, aggregate, Inner, inner, parts}
+use Rattle.query_read.specs.Parts.{Part, rows, pick, keep, join, aggregate, Inner, parts}
 use Rattle.query_read.specs.Seeing.{deep, level, span-of, rows-own, pick-own, keep-own, join-own, aggregate-own, picked, own-of, with-own, with-part, with-parts, no-reading, reading-ended, form-read}
 use Rattle.query_read.specs.declared.Reading.{Reading}
 use Rattle.query_read.proofs.Answering.{conds-in}

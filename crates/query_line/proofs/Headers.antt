@@ -1,30 +1,28 @@
 -- The columns of a query's answer as the bits of a mask; the terms and columns of a form that stand among them.
 use mathlib.Core.Path.{_≡_, refl, sym, ap, ap₂, _∙_}
 use mathlib.Core.List.{List, [], _∷_, _++_, map, append-nil}
-use mathlib.Core.Bool.{Bool, true, false, _&&_, _||_, not, and-true, or-false, or-true}
+use mathlib.Core.Bool.{Bool, true, false, _&&_, _||_, and-true, or-false, or-true}
 use Prim.Native.Nat.{ℕ, _+_, _*_, _/_, _%_, _≤_, _<_, _^_}
 use native.Mathlib.Omega.{arith}
-use native.Mathlib.Decide.{decLt}
 use lib.Bits.{bitOr}
 use lib.Dec.{T, eqb, ltb, lt→ltb}
 use lib.ListN.{length}
 use borrow.Author.Tests.{ne-eqb, eqb-true}
 use Rattle.lists.specs.Lists.{every, some?, gather}
-use Rattle.lists.proofs.Laws.{and-l, and-r, and-both, parts, true-T, T-true, and-four}
+use Rattle.lists.proofs.Laws.{and-r, and-both, parts, true-T, T-true, and-four}
 use Rattle.lists.proofs.Gathers.{every-append-same, every-of-map, every-good}
 use Rattle.syntax.specs.Grammar as G
 use Rattle.syntax.specs.Grammar.{Bytes, Ref, Operand, Test, Cond, ref?}
 use Rattle.syntax.specs.Limits.{short-ref}
 use Rattle.model.specs.Conditions.{tests, map-cond}
 use Rattle.model.specs.Queries as M
-use Rattle.model.specs.Queries.{Schema, Col, col, same-col, columns-of, Term}
+use Rattle.model.specs.Queries.{Schema, Col, col, same-col, columns-of}
 use Rattle.model.specs.Checks.{has, within, term-cols, cond-cols, pick-left, pick-right, pickable, linked}
 use Rattle.model.proofs.Columns.{has-within}
 use Rattle.model.proofs.Conditions.{tests-map}
-use Rattle.calls.specs.Names.{col-of, is-self, term-of, column-of, operand-of, compare-of}
+use Rattle.calls.specs.Names.{is-self, term-of, column-of, operand-of, compare-of}
 use Rattle.calls.specs.Tables.{ref-declared}
 use Rattle.schema.specs.Schemas.{streams-in, schema-of, schema-sound}
-use Rattle.schema.proofs.Soundness.{width-most}
 use Rattle.masks.specs.Masks.{bit?, mask-of, inside}
 use Rattle.masks.proofs.Bits.{bit-or, bit-alone}
 use Rattle.masks.proofs.Lists.{inside-bits, inside-every, inside-map}

@@ -1,35 +1,29 @@
 -- Checks 2 and 6 of a query by what is read of its forms, where nothing in it is above its bound.
 use mathlib.Core.Path.{_≡_, refl, sym, ap, ap₂, _∙_}
-use mathlib.Core.List.{List, [], _∷_, _++_, map, append-nil}
-use mathlib.Core.Bool.{Bool, true, false, _&&_, _||_, not, cond, or-false, and-true}
-use mathlib.Core.Option.{Option, none, some}
-use Prim.Native.Nat.{ℕ, suc, _+_, _*_, _-_, _≤_}
+use mathlib.Core.List.{List, [], _∷_, append-nil}
+use mathlib.Core.Bool.{Bool, true, false, _&&_, _||_, not, or-false, and-true}
+use mathlib.Core.Option.{some}
+use Prim.Native.Nat.{ℕ, suc, _-_, _≤_}
 use native.Mathlib.Omega.{arith}
 use lib.IntN.{ℤ}
 use lib.Dec.{T, eqb, leb, ltb, le→leb, leb→le}
-use lib.ListN.{length}
 use Rattle.lists.specs.Lists.{every, some?, gather, distinct}
-use Rattle.lists.proofs.Laws.{and-l, and-r, and-both, parts, true-T, T-true, every-append, every-both, not-both}
-use Rattle.lists.proofs.Gathers.{every-good}
+use Rattle.lists.proofs.Laws.{and-l, and-r, and-both, parts, true-T, T-true, every-append, every-both}
 use Rattle.syntax.specs.Grammar as G
 use Rattle.syntax.specs.Grammar.{Bytes, Fn, Ref, Test, Cond, Form, name?, ref?, cond?, some-all, form?, test?, put-ref}
-use Rattle.syntax.specs.Limits.{short, short-ref, not-above, cond-depth, form-depth}
-use Rattle.syntax.specs.Readers.{Read}
-use Rattle.syntax.proofs.Exact.{ref-length, cond-length, items-length, equality-length, form-length, put-items-length, put-ref-length}
+use Rattle.syntax.specs.Limits.{short-ref, not-above, cond-depth}
+use Rattle.syntax.proofs.Exact.{ref-length, form-length, put-items-length, put-ref-length}
 use Rattle.model.specs.Conditions.{tests}
-use Rattle.calls.specs.Names.{operand-refs, cond-refs, form-streams, form-refs, form-keeps}
-use Rattle.calls.specs.Bounds.{cond-bounded, form-bounded}
+use Rattle.calls.specs.Names.{operand-refs, cond-refs, form-keeps}
+use Rattle.calls.specs.Bounds.{cond-bounded}
 use Rattle.calls.specs.Tables.{declared, ref-declared, same-ref, query-declared}
 use Rattle.calls.proofs.Stored.{cond-tests}
 use Rattle.schema.specs.Schemas.{schema-of, schema-sound}
-use Rattle.terms.specs.Terms.{ref-code}
-use Rattle.terms.proofs.Resolving.{fine}
-use Rattle.columns.specs.Columns.{stream-place, repeats}
+use Rattle.columns.specs.Columns.{stream-place}
 use Rattle.columns.proofs.Declared.{streams-unknown, columns-unknown, columns-fine}
 use Rattle.columns.proofs.Repeats.{entries, entries-room, repeats-once}
-use Rattle.conditions.specs.Seeing.{nodes-of, seen-of, deep-seen, test-unknown}
-use Rattle.nodes.specs.Storing.{size}
-use Rattle.grant_line.proofs.Folds.{every-pair, every-gathered, some-good, some-not}
+use Rattle.conditions.specs.Seeing.{seen-of, test-unknown}
+use Rattle.grant_line.proofs.Folds.{every-pair, every-gathered, some-good}
 use Rattle.grant_line.proofs.Bounds.{test-bounded, conds-bounded}
 use Rattle.grant_line.proofs.Known.{good-test, test-declared, test-known, ref-known}
 use Rattle.query_read.specs.Parts as R
@@ -38,7 +32,7 @@ use Rattle.query_read.specs.Seeing.{level, rows-own, pick-own, keep-own, join-o
 use Rattle.query_read.specs.declared.Reading.{Reading}
 use Rattle.query_read.proofs.Answering.{conds-in}
 use Rattle.query_line.proofs.Parts.{streams-in, refs-in, keeps-in, spans-in, streams-are, refs-are, keeps-are, shallow-part}
-use Rattle.query_line.proofs.Bounds.{part-bounded, part-fine, span-bounded}
+use Rattle.query_line.proofs.Bounds.{part-bounded, part-fine}
 
 or-not-both : (a b c : Bool) → ((a || not b) || not c) ≡ (a || not (b && c))
 or-not-both true b c = refl

@@ -1,5 +1,5 @@
 -- The forms of a table refer to words that are laid out, and to aggregates.
-use mathlib.Core.Path.{_≡_, refl, sym, ap, _∙_, subst}
+use mathlib.Core.Path.{_≡_, sym, subst}
 use mathlib.Core.List.{List, [], _∷_}
 use mathlib.Core.Bool.{false, _&&_}
 use Prim.Native.Nat.{ℕ, suc, _+_, _≤_, _<_}
@@ -9,7 +9,6 @@ use lib.ListN.{length}
 use Rattle.lists.specs.Lists.{every}
 use Rattle.lists.proofs.Laws.{and-l, and-r, and-both}
 use Rattle.syntax.specs.Grammar as G
-use Rattle.syntax.specs.Grammar.{Cond, Test, cond?}
 use Rattle.schema.specs.Schemas.{schema-sound}
 use Rattle.nodes.specs.Nodes.{linked-from}
 use Rattle.nodes.specs.Storing.{size, store}

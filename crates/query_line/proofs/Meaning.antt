@@ -1,38 +1,35 @@
 -- The table of a query that passes its checks, with the words of its conditions, stands for the query that the text says.
 use mathlib.Core.Path.{_≡_, refl, sym, ap, ap₂, _∙_, subst}
 use mathlib.Core.List.{List, [], _∷_, _++_, map, map-append, append-assoc}
-use mathlib.Core.Bool.{Bool, true, false, _&&_, _||_, not, cond}
-use mathlib.Core.Option.{some}
+use mathlib.Core.Bool.{Bool, true, false, _&&_, _||_}
 use Prim.Native.Nat.{ℕ, suc, _+_, _*_, _≤_, _<_, min}
 use native.Mathlib.Omega.{arith}
 use lib.IntN.{ℤ}
-use lib.Dec.{T, eqb, ltb, leb, lt→ltb}
-use lib.ListN.{length, getD, take, set, length-map}
+use lib.Dec.{T, ltb, lt→ltb}
+use lib.ListN.{length, getD, length-map}
 use borrow.Author.Tests.{lt-ltb}
 use Rattle.lists.specs.Lists.{every, gather, distinct}
-use Rattle.lists.proofs.Laws.{and-l, and-r, and-both, parts, true-T, T-true, every-both, every-all, every-append-l, every-append-r, every-map, all-weaken, append-nil, never}
+use Rattle.lists.proofs.Laws.{and-l, and-r, and-both, true-T, every-both, every-all, every-append-l, every-append-r, all-weaken, append-nil, never}
 use Rattle.lists.proofs.Gathers.{every-of-map}
 use Rattle.syntax.specs.Grammar as G
 use Rattle.syntax.specs.Grammar.{Bytes, Fn, Ref, Test, Cond, Form, Entry, cond?}
-use Rattle.syntax.specs.Limits.{not-above, natural}
+use Rattle.syntax.specs.Limits.{natural}
 use Rattle.model.specs.Conditions.{tests, map-cond}
 use Rattle.model.proofs.Conditions.{tests-map, cond-same}
 use Rattle.model.specs.Queries as M
-use Rattle.model.specs.Queries.{Schema, Col, same-col, columns-of, sources, header}
+use Rattle.model.specs.Queries.{Schema, Col, same-col, columns-of, header}
 use Rattle.model.specs.Checks.{has, within, pick-left, pick-right, pickable, cond-cols, no-aggregate, side, linked, allowed, keeps}
 use Rattle.model.proofs.Distinct.{once-few}
-use Rattle.calls.specs.Names.{term-of, column-of, operand-of, compare-of, stream-number, resolve, form-conds}
+use Rattle.calls.specs.Names.{term-of, column-of, operand-of, compare-of, resolve}
 use Rattle.schema.specs.Schemas.{streams-in, schema-of, schema-sound}
-use Rattle.masks.specs.Masks.{bit?}
-use Rattle.orders.specs.Orders.{codes-in, order-of}
+use Rattle.orders.specs.Orders.{order-of}
 use Rattle.orders.proofs.Codes.{codes-of, codes-fit}
 use Rattle.terms.specs.Terms.{ref-code, operand-value, left-code, right-code, test-value}
-use Rattle.terms.proofs.Resolving.{fine, Stands, code-alone, code-range}
+use Rattle.terms.proofs.Resolving.{fine, code-alone, code-range}
 use Rattle.text.specs.Keywords.{fn-number}
 use Rattle.columns.specs.Columns.{stream-place}
-use Rattle.nodes.specs.declared.Node.{Node}
 use Rattle.nodes.specs.Nodes.{coded-term, node-compare, cond-in}
-use Rattle.nodes.specs.Storing.{size, store, list-size, store-list}
+use Rattle.nodes.specs.Storing.{size, store, list-size}
 use Rattle.nodes.proofs.Reaching.{Same}
 use Rattle.nodes.proofs.Reaching as N
 use Rattle.nodes.proofs.Sizes.{size-append, length-store, same-list}
@@ -41,16 +38,16 @@ use Rattle.conditions.specs.Seeing.{test-node, nodes-of}
 use Rattle.conditions.proofs.Storable.{cond-fits}
 use Rattle.grant_line.proofs.Known.{good-test, test-declared, test-fine}
 use Rattle.grant_line.proofs.Meaning.{ops-back, column-back, operand-back, bounded-right, fused}
-use Rattle.query.specs.Forms.{Words, coded-col, cols-in, numbered-fn, cond-at, query-in}
+use Rattle.query.specs.Forms.{Words, coded-col, cols-in, numbered-fn, cond-at}
 use Rattle.query.specs.Tables.{query-forms, query-with}
 use Rattle.query.specs.declared.Form as Q
 use Rattle.query.specs.declared.Query.{Query}
 use Rattle.query.proofs.Rewritten.{keep-order}
-use Rattle.query.proofs.Shapes.{Laid, laid-rows, laid-pick, laid-keep, laid-join, laid-aggregate, laid-query}
+use Rattle.query.proofs.Shapes.{Laid, laid-rows, laid-pick, laid-keep, laid-join, laid-aggregate}
 use Rattle.query.proofs.Tables.{query-added}
 use Rattle.query_read.specs.Parts as R
 use Rattle.query_read.specs.Parts.{Part, rows, pick, keep, join, aggregate, Inner, inner}
-use Rattle.query_read.specs.Seeing.{span-kept, span-of, rows-own, pick-own, keep-own, join-own, aggregate-own, own-of, part-stored, put-at, with-own, with-part, with-parts, no-reading, reading-ended, form-read, form-stored}
+use Rattle.query_read.specs.Seeing.{span-kept, span-of, rows-own, pick-own, keep-own, join-own, aggregate-own, own-of, part-stored, put-at, with-own, with-part, with-parts, no-reading}
 use Rattle.query_read.specs.declared.Reading.{Reading}
 use Rattle.query_read.proofs.Owning.{fn-forth}
 use Rattle.query_read.proofs.Answering.{conds-in, part-conds, store-parts, parts-stored, pick-over, over-before, over-first, words-then}
@@ -58,8 +55,8 @@ use Rattle.query_read.proofs.Answering as A
 use Rattle.query_line.specs.Placing.{begun}
 use Rattle.query_line.proofs.Known.{part-good}
 use Rattle.query_line.proofs.Headers.{Shows, ref-cases, nowhere}
-use Rattle.query_line.proofs.Running.{Full, full-then, nothing-full, nothing-counted, count-then, run-parts}
-use Rattle.query_line.proofs.Standing.{both-left, both-right, side-plain, known, known-rows, known-pick, known-keep, known-join, known-aggregate, span-natural, Fits, Runs, runs}
+use Rattle.query_line.proofs.Running.{Full, full-then, count-then, run-parts}
+use Rattle.query_line.proofs.Standing.{both-left, both-right, known, known-rows, known-pick, known-keep, known-join, known-aggregate, span-natural, Fits, runs}
 
 false-T : (a : Bool) → a ≡ false → T a → ⊥
 false-T true e t = never e

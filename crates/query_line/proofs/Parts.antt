@@ -1,22 +1,22 @@
 -- What a query's parts hold, all together, is what its form holds.
 use mathlib.Core.Path.{_≡_, refl, sym, ap, ap₂, _∙_}
 use mathlib.Core.List.{List, [], _∷_, _++_, append-nil}
-use mathlib.Core.Bool.{Bool, true, false, _&&_, _||_, not, and-true}
-use Prim.Native.Nat.{ℕ, suc, _+_, _-_, _≤_, _<_, max}
+use mathlib.Core.Bool.{Bool, true, false, _&&_, and-true}
+use Prim.Native.Nat.{ℕ, suc, _+_, _-_, _≤_, max}
 use native.Mathlib.Omega.{arith}
 use lib.IntN.{ℤ}
 use lib.Dec.{leb, ltb}
 use lib.ListN.{length, length-append}
-use borrow.Author.Tests.{le-leb, lt-leb, le-ltb, lt-ltb, leb-true, leb-false}
+use borrow.Author.Tests.{le-ltb, lt-ltb, leb-true, leb-false}
 use Rattle.lists.specs.Lists.{every, gather}
 use Rattle.lists.proofs.Laws.{gather-append}
 use Rattle.lists.proofs.Gathers.{every-append-same}
 use Rattle.syntax.specs.Grammar as G
 use Rattle.syntax.specs.Grammar.{Bytes, Ref, Fn, Test, Cond, Form, Span}
-use Rattle.syntax.specs.Limits.{cond-depth, conds-depth, form-depth}
+use Rattle.syntax.specs.Limits.{cond-depth, form-depth}
 use Rattle.calls.specs.Names.{cond-refs, form-streams, form-refs, form-conds, form-keeps, form-spans}
 use Rattle.calls.specs.Bounds.{form-count}
-use Rattle.query_read.specs.Parts.{Part, rows, pick, keep, join, aggregate, Inner, inner, parts}
+use Rattle.query_read.specs.Parts.{Part, rows, pick, keep, join, aggregate, inner, parts}
 use Rattle.query_read.proofs.Answering.{conds-in}
 
 -- ---- what one part holds

@@ -1,19 +1,18 @@
 -- The table of a query's forms, passed from the last to the first, is its parts passed so.
-use mathlib.Core.Path.{_≡_, refl, sym, ap, _∙_}
+use mathlib.Core.Path.{_≡_, refl, ap, _∙_}
 use mathlib.Core.List.{List, [], _∷_, _++_, map}
-use mathlib.Core.Bool.{Bool, true, false, _&&_, cond}
+use mathlib.Core.Bool.{Bool, true, false, cond}
 use mathlib.Core.Option.{some}
 use Prim.Native.Nat.{ℕ, zero, suc, _+_, _-_, _≤_, _<_, min}
 use native.Mathlib.Omega.{arith}
 use lib.Dec.{T, leb, ltb}
-use lib.ListN.{length, getD, set, replicate, length-set, length-replicate}
+use lib.ListN.{length, getD, set, length-set, length-replicate}
 use lib.Seq.{getD-set-same, getD-set-other}
 use borrow.Author.Tests.{lt-ltb}
 use Rattle.lists.specs.Lists.{every}
 use Rattle.lists.proofs.Laws.{and-l, and-r, T-true}
 use Rattle.syntax.specs.Grammar.{Bytes, Form}
 use Rattle.syntax.specs.Limits.{cond-depth}
-use Rattle.syntax.specs.Readers.{Read}
 use Rattle.model.specs.Conditions.{tests}
 use Rattle.masks.specs.Masks.{mask-of}
 use Rattle.terms.specs.Terms.{ref-code, left-code, right-code}
@@ -21,14 +20,14 @@ use Rattle.columns.specs.Columns.{stream-place}
 use Rattle.conditions.specs.Seeing.{seen-of}
 use Rattle.query.specs.declared.Form as Q
 use Rattle.query.specs.Tables.{blank}
-use Rattle.query_read.specs.Parts.{Part, rows, pick, keep, join, aggregate, Inner, inner, parts}
+use Rattle.query_read.specs.Parts.{Part, rows, pick, keep, join, aggregate, Inner, parts}
 use Rattle.query_read.specs.Seeing.{level, span-kept, span-of, rows-own, pick-own, keep-own, join-own, aggregate-own, picked, own-of, put-at, with-own, with-part, with-parts, no-form, no-reading, reading-ended, form-read}
 use Rattle.query_read.specs.declared.Reading.{Reading}
 use Rattle.query_line.specs.declared.Placing.{Placing}
 use Rattle.query_line.specs.Placing.{begun, with-rows, with-pick, with-keep, with-join, with-aggregate, with-form, placed-from}
 use Rattle.query_line.specs.Asking.{placing-of}
 use Rattle.query_line.proofs.Parts.{shallow-part}
-use Rattle.query_line.proofs.Bounds.{part-bounded, part-fine}
+use Rattle.query_line.proofs.Bounds.{part-fine}
 
 -- ---- one part
 

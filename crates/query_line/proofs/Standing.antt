@@ -1,33 +1,31 @@
 -- Checks 4 and 5 of a query by its parts, where nothing is above its bound or undeclared.
 use mathlib.Core.Path.{_≡_, refl, sym, ap, ap₂, _∙_, subst}
 use mathlib.Core.List.{List, [], _∷_, _++_, map}
-use mathlib.Core.Bool.{Bool, true, false, _&&_, _||_, not, cond}
+use mathlib.Core.Bool.{Bool, true, false, _&&_, _||_, not}
 use Prim.Native.Nat.{ℕ, suc, _+_, _≤_, _<_, _^_}
 use native.Mathlib.Omega.{arith}
-use lib.IntN.{ℤ, pos, negsuc}
+use lib.IntN.{ℤ}
 use lib.Bits.{bitOr}
-use lib.Dec.{T, eqb, leb, ltb, lt→ltb, ltb→lt, leb→le}
+use lib.Dec.{T, eqb, ltb, lt→ltb, ltb→lt}
 use lib.ListN.{length, length-append}
-use borrow.Author.Tests.{lt-ltb}
 use Rattle.lists.specs.Lists.{every, some?, distinct}
 use Rattle.lists.proofs.Counting.{map-length}
 use Rattle.lists.proofs.Laws.{and-l, and-r, and-both, parts, true-T, T-true, every-both, every-append, every-append-l, every-append-r, never}
 use Rattle.syntax.specs.Grammar as G
-use Rattle.syntax.specs.Grammar.{Bytes, Fn, Ref, Test, Cond, Form, name?, ref?, cond?}
-use Rattle.syntax.specs.Limits.{short, short-ref, not-above, natural, cond-depth}
+use Rattle.syntax.specs.Grammar.{Bytes, Fn, Ref, Test, Cond, Form, name?, ref?}
+use Rattle.syntax.specs.Limits.{short-ref, not-above, natural}
 use Rattle.model.specs.Conditions.{tests, map-cond}
 use Rattle.model.specs.Queries as M
-use Rattle.model.specs.Queries.{Schema, Col, same-col, columns-of, sources, header}
+use Rattle.model.specs.Queries.{Schema, same-col, columns-of, sources, header}
 use Rattle.model.specs.Checks.{within, has, pickable, cond-cols, no-aggregate, side, linked, allowed, placed, fitting, sized, keeps}
 use Rattle.model.proofs.Distinct.{once-few}
-use Rattle.calls.specs.Names.{operand-refs, cond-refs, stream-number, column-of, compare-of, resolve}
-use Rattle.calls.specs.Bounds.{cond-bounded}
+use Rattle.calls.specs.Names.{cond-refs, stream-number, column-of, compare-of, resolve}
 use Rattle.calls.specs.Tables.{declared, ref-declared}
 use Rattle.schema.specs.Schemas.{streams-in, width-in, schema-of, schema-sound}
 use Rattle.schema.proofs.Lookups.{stream-columns}
 use Rattle.schema.proofs.Soundness.{width-most}
 use Rattle.schema.proofs.Tests.{streams-most}
-use Rattle.masks.specs.Masks.{bit?, with-bit, mask-of, inside}
+use Rattle.masks.specs.Masks.{bit?, with-bit, mask-of}
 use Rattle.masks.proofs.Bits.{bit-or, bit-alone}
 use Rattle.masks.proofs.Lists.{bit-none}
 use Rattle.terms.specs.Terms.{ref-code, left-code, right-code}
@@ -36,8 +34,6 @@ use Rattle.columns.specs.Columns.{stream-place}
 use Rattle.columns.proofs.Closing.{eqb-sym}
 use Rattle.columns.proofs.Declared.{columns-fine}
 use Rattle.columns.proofs.StreamLists.{with-small}
-use Rattle.grant.specs.Grants.{streams-mask}
-use Rattle.grant_line.proofs.Folds.{every-gathered}
 use Rattle.grant_line.proofs.Known.{good-test, test-declared}
 use Rattle.query_read.specs.Parts as R
 use Rattle.query_read.specs.Parts.{Part, rows, pick, keep, join, aggregate, Inner, inner}
@@ -45,7 +41,7 @@ use Rattle.query_read.specs.Seeing.{span-kept}
 use Rattle.query_read.proofs.Answering.{conds-in}
 use Rattle.query_line.specs.declared.Side.{Side}
 use Rattle.query_line.specs.declared.Placing.{Placing}
-use Rattle.query_line.specs.Placing.{no-side, sideless, begun, with-rows, unpicked, with-pick, unkept, with-keep, links, unjoined, with-join, ungrouped, unfitting, with-aggregate}
+use Rattle.query_line.specs.Placing.{sideless, begun, with-rows, unpicked, with-pick, unkept, with-keep, links, unjoined, with-join, ungrouped, unfitting, with-aggregate}
 use Rattle.query_line.proofs.Parts.{streams-in as streams-held, refs-in, spans-in, shallow-part}
 use Rattle.query_line.proofs.Bounds.{part-bounded, part-fine}
 use Rattle.query_line.proofs.Known.{part-good, part-declared, conds-good, pick-bounded, join-bounded, aggregate-bounded, spans-bounded, declared-tests}

@@ -1,20 +1,19 @@
 -- The ends of the functions that pass one form, and of those that make what is read.
 use mathlib.Core.Path.{_≡_, refl, sym, ap, _∙_}
 use mathlib.Core.List.{List, [], _∷_}
-use mathlib.Core.Bool.{Bool, true, false, _&&_, _||_, not, cond}
-use Prim.Native.Nat.{ℕ, suc, _+_, _*_, _-_, _≤_, _<_}
+use mathlib.Core.Bool.{Bool, true, false, _&&_, _||_, not}
+use Prim.Native.Nat.{ℕ, suc, _*_, _-_, _≤_, _<_}
 use native.Mathlib.Omega.{arith}
 use lib.Bits.{bitOr}
 use lib.IntN.{ℤ, pos}
-use lib.Dec.{eqb, leb, ltb}
+use lib.Dec.{leb, ltb}
 use lib.ListN.{getD}
-use borrow.Author.Tests.{ne-eqb, le-leb, lt-leb, le-ltb, lt-ltb, ltb-true, ltb-false, not-true, not-false}
+use borrow.Author.Tests.{ne-eqb, le-leb, lt-leb, ltb-true, ltb-false, not-true, not-false}
 use Rattle.refusal.specs.Checks.{unread, shown}
 use Rattle.refusal.specs.declared.Checks.{Checks}
 use Rattle.model.specs.Checks.{fitting}
 use Rattle.masks.specs.Masks.{bit?, with-bit, inside}
-use Rattle.grant.specs.Grants.{places-of, streams-mask}
-use Rattle.lists.specs.Lists.{count-from}
+use Rattle.grant.specs.Grants.{streams-mask}
 use Rattle.query.specs.Tables.{blank, new-query}
 use Rattle.query.specs.declared.Form.{Form}
 use Rattle.query.specs.declared.Query.{Query}
@@ -22,7 +21,6 @@ use Rattle.query_read.specs.declared.Reading.{Reading}
 use Rattle.query_line.specs.declared.Side.{Side}
 use Rattle.query_line.specs.declared.Placing.{Placing}
 use Rattle.query_line.specs.declared.Asked.{Asked}
-use Rattle.query_line.specs.declared.Routed.{Routed}
 use Rattle.query_line.specs.Placing.{no-side, sideless, begun, with-rows, unpicked, with-pick, unkept, with-keep, links, unjoined, with-join, ungrouped, unfitting, with-aggregate, with-form, placed-from}
 use Rattle.query_line.specs.Asking.{placing-of, asked-of}
 use Rattle.query_line.specs.Texts.{unread-asked, unread-routed, routed-of}

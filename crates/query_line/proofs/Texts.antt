@@ -1,25 +1,22 @@
 -- Whole texts: each return of the code that reads them.
 use mathlib.Core.Path.{_≡_, refl, sym, ap, _∙_, subst}
-use mathlib.Core.List.{List, [], _∷_}
+use mathlib.Core.List.{List}
 use mathlib.Core.Bool.{Bool, true, false, not, cond}
 use mathlib.Core.Option.{Option, none, some, Option·none-ne-some, Option·some-injective}
-use Prim.Native.Nat.{ℕ, _+_, _-_, _≤_, _<_, _^_}
+use Prim.Native.Nat.{ℕ, _+_, _-_, _≤_, _<_}
 use native.Mathlib.Omega.{arith}
 use lib.IntN.{ℤ}
-use lib.Dec.{T, leb, ltb}
-use lib.ListN.{length, drop, getD, length-drop, drop-of-length-le}
+use lib.Dec.{T, leb}
+use lib.ListN.{length, drop, getD, length-drop}
 use borrow.Author.Tests.{le-leb, lt-leb, le-ltb, lt-ltb, not-true, not-false, ltb-false}
-use Rattle.refusal.specs.Checks.{Check, refuse, first, table, unread}
+use Rattle.refusal.specs.Checks.{Check, refuse, first, table}
 use Rattle.refusal.specs.declared.Refusal.the-variants.{Bound, Malformed}
-use Rattle.lists.specs.Lists.{empty?}
-use Rattle.lists.proofs.Laws.{T-true, true-T, never}
+use Rattle.lists.proofs.Laws.{never}
 use Rattle.syntax.specs.Grammar as G
-use Rattle.syntax.specs.Grammar.{Bytes, Form, RouteLine, Entry}
+use Rattle.syntax.specs.Grammar.{Bytes, Form, RouteLine}
 use Rattle.syntax.specs.Limits.{form-depth, shallow}
-use Rattle.syntax.specs.Readers.{Read, bind, ensure, _>>=_, _>>_, give, byte, read-int, read-number, read-form, read-body, parse-as, parse-query}
-use Rattle.syntax.proofs.Leaving.{left-within}
+use Rattle.syntax.specs.Readers.{Read, bind, _>>=_, _>>_, give, read-number, read-body, parse-as, parse-query}
 use Rattle.syntax.proofs.Depths.{query-shallow, ask-shallow, line-shallow}
-use Rattle.calls.specs.Names.{resolve}
 use Rattle.calls.specs.Tables.{query-checks}
 use Rattle.calls.specs.Replies.{written}
 use Rattle.text.specs.declared.Line.{Line}
@@ -32,8 +29,6 @@ use Rattle.text.proofs.Views.{left-drop}
 use Rattle.text.proofs.Places.{whole-some, space-is, space-not, number-not, number-is, closed-none, closed-is, closed-not, ask-word, line-word}
 use Rattle.text.proofs.Lines.{as-long, as-unopened, opened-short, as-opened, query-whole}
 use Rattle.schema.specs.Schemas.{schema-of, schema-sound}
-use Rattle.query.specs.Forms.{query-in}
-use Rattle.query.specs.Tables.{query-forms}
 use Rattle.query_read.specs.Seeing.{readable}
 use Rattle.query_line.specs.declared.Asked.{Asked}
 use Rattle.query_line.specs.declared.Routed.{Routed}

@@ -1,15 +1,14 @@
 -- What is read of a query at a place, by its form: the checks that fail first, and the query that its table stands for where none fails.
-use mathlib.Core.Path.{_≡_, refl, sym, ap, ap₂, _∙_, subst}
+use mathlib.Core.Path.{_≡_, refl, sym, ap, ap₂, _∙_}
 use mathlib.Core.List.{List, [], _∷_, _++_, map}
-use mathlib.Core.Bool.{Bool, true, false, _&&_, _||_, not, cond}
+use mathlib.Core.Bool.{Bool, true, false, _&&_, not, cond}
 use mathlib.Core.Option.{Option, none, some, Option·none-ne-some}
-use Prim.Native.Nat.{ℕ, _+_, _-_, _≤_, _<_, suc}
+use Prim.Native.Nat.{ℕ, _+_, _-_, _≤_, suc}
 use native.Mathlib.Omega.{arith}
 use lib.Dec.{T, leb, ltb}
 use lib.ListN.{length, drop, getD, length-drop}
 use borrow.Author.Tests.{not-true, not-false, leb-true, ltb-false}
 use Rattle.refusal.specs.Checks.{Check, refuse, first, table, shown}
-use Rattle.refusal.specs.declared.Refusal.{Refusal}
 use Rattle.refusal.specs.declared.Refusal.the-variants.{Bound, Undeclared, Repeated, Misplaced, WindowSize}
 use Rattle.lists.specs.Lists.{every, distinct}
 use Rattle.lists.proofs.Laws.{and-both, true-T, T-true, every-both, never, by-test}
@@ -20,7 +19,7 @@ use Rattle.syntax.proofs.Queries as S
 use Rattle.syntax.proofs.Exact.{form-length, put-form-length}
 use Rattle.model.specs.Queries.{columns-of}
 use Rattle.model.specs.Checks.{allowed, placed, sized}
-use Rattle.calls.specs.Names.{resolve, form-conds, form-keeps}
+use Rattle.calls.specs.Names.{resolve, form-keeps}
 use Rattle.calls.specs.Bounds.{form-bounded}
 use Rattle.calls.specs.Tables.{same-ref, query-declared, query-checks}
 use Rattle.claims.proofs.Known.{placed-allowed}
@@ -33,7 +32,7 @@ use Rattle.conditions.specs.Seeing.{nodes-of}
 use Rattle.conditions.proofs.Capacity.{form-room}
 use Rattle.query.specs.Forms.{query-in}
 use Rattle.query.specs.declared.Query.{Query}
-use Rattle.query.specs.Tables.{new-query, query-forms}
+use Rattle.query.specs.Tables.{query-forms}
 use Rattle.query.proofs.Shapes.{Laid, laid-query, laid-one}
 use Rattle.query_read.specs.Parts as R
 use Rattle.query_read.specs.Parts.{Inner}

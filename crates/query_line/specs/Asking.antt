@@ -1,8 +1,8 @@
 -- What is read of a query at a place of a line: its checks, and the table of its forms.
 use mathlib.Core.Path.{_≡_}
 use mathlib.Core.List.{List, _∷_}
-use mathlib.Core.Bool.{Bool, true, false, not}
-use mathlib.Core.Option.{Option, none, some}
+use mathlib.Core.Bool.{true, false, not}
+use mathlib.Core.Option.{none, some}
 use Prim.Native.Nat.{ℕ, _-_, _≤_}
 use lib.Dec.{T, leb}
 use lib.ListN.{length, drop}

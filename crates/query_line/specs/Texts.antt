@@ -7,7 +7,7 @@ use Prim.Native.Nat.{ℕ}
 use lib.IntN.{ℤ, pos}
 use lib.Dec.{T, leb}
 use lib.ListN.{length}
-use Rattle.refusal.specs.Checks.{Check, first, table, unread}
+use Rattle.refusal.specs.Checks.{first, table, unread}
 use Rattle.syntax.specs.Grammar as G
 use Rattle.syntax.specs.Grammar.{Bytes, Form, RouteLine}
 use Rattle.syntax.specs.Readers.{parse-as, parse-query}

@@ -1,12 +1,12 @@
 -- What is read of all forms: what is read so far, joined to what is still to be read; each end of the loop, and the way on.
 use mathlib.Core.Path.{_≡_, refl, sym, ap, ap₂, _∙_}
 use mathlib.Core.List.{List, [], _∷_, _++_, map, append-nil, map-append}
-use mathlib.Core.Bool.{Bool, true, false, _||_, not, cond}
+use mathlib.Core.Bool.{Bool, true, false, _||_, not}
 use mathlib.Core.Option.{Option, none, some}
-use Prim.Native.Nat.{ℕ, zero, suc, _+_, _*_, _-_, _≤_, _<_, min}
+use Prim.Native.Nat.{ℕ, zero, suc, _+_, _*_, _-_, _≤_, _<_}
 use native.Mathlib.Omega.{arith}
-use lib.Dec.{eqb, leb, ltb}
-use lib.ListN.{length, drop, getD, set, replicate, length-drop, length-set, length-replicate, drop-of-length-le}
+use lib.Dec.{eqb, leb}
+use lib.ListN.{length, drop, set, replicate, length-drop, length-set, length-replicate, drop-of-length-le}
 use borrow.Author.Tests.{le-leb, lt-leb, le-ltb, lt-ltb, not-true, not-false}
 use Rattle.lists.specs.Lists.{gather}
 use Rattle.lists.proofs.Laws.{gather-append, never, by-test, or-first, or-last}
@@ -15,11 +15,10 @@ use Rattle.syntax.specs.Grammar.{Bytes, Form, Test, Cond}
 use Rattle.syntax.specs.Limits.{cond-depth}
 use Rattle.syntax.specs.Readers as R
 use Rattle.syntax.specs.Readers.{Read, bind}
-use Rattle.model.specs.Conditions.{tests}
 use Rattle.calls.specs.Names.{form-conds}
 use Rattle.text.specs.Readings.{any-form}
 use Rattle.text.proofs.Views.{left-drop}
-use Rattle.nodes.specs.Storing.{size, store, store-list}
+use Rattle.nodes.specs.Storing.{size, store-list}
 use Rattle.nodes.specs.declared.Node.{Node}
 use Rattle.conditions.specs.Seeing.{nodes-of, seen-of, deep-seen}
 use Rattle.conditions.proofs.Skipping.{stack, stack-push}
@@ -27,7 +26,7 @@ use Rattle.query_read.specs.declared.Own.{Own}
 use Rattle.query_read.specs.declared.Next.{Next}
 use Rattle.query_read.specs.declared.Reading.{Reading}
 use Rattle.query_read.specs.Parts.{Part, rows, pick, keep, join, aggregate, Inner, inner, parts, read-own}
-use Rattle.query_read.specs.Seeing.{level, no-own, rows-own, pick-own, keep-own, join-own, aggregate-own, picked, own-of, own-read, own-at, part-stored, own-stored, put-at, with-own, with-part, with-parts, no-reading, reading-ended, form-read, form-stored, readable, FormRead}
+use Rattle.query_read.specs.Seeing.{level, no-own, rows-own, pick-own, keep-own, join-own, aggregate-own, picked, own-of, own-read, own-at, part-stored, own-stored, with-own, with-part, with-parts, no-reading, reading-ended, form-read, form-stored, readable, FormRead}
 use Rattle.query_read.specs.Steps.{OwnRead, after-form}
 use Rattle.query_read.proofs.Walking.{ahead, rest, within, then-own, within-own, cost, own-leaves, own-cost, After, after-law}
 

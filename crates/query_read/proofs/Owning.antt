@@ -1,25 +1,24 @@
 -- One form by itself: each return of the code that reads it.
 use mathlib.Core.Path.{_≡_, refl, sym, ap, _∙_}
-use mathlib.Core.List.{List, [], _∷_, map}
+use mathlib.Core.List.{List, [], _∷_}
 use mathlib.Core.Bool.{Bool, true, false, _&&_, _||_, not, cond}
-use mathlib.Core.Option.{Option, none, some, Option·none-ne-some}
+use mathlib.Core.Option.{Option, none, some}
 use Prim.Native.Nat.{ℕ, suc, _+_, _*_, _-_, _^_, _≤_, _<_}
 use native.Mathlib.Omega.{arith}
-use lib.IntN.{ℤ}
-use lib.Dec.{T, eqb, leb}
-use lib.ListN.{length, drop, getD, length-drop, length-append, drop-of-length-le}
+use lib.Dec.{eqb, leb}
+use lib.ListN.{length, drop, getD, length-drop}
 use mir.Syntax.{w64}
 use mir.Val.{Fits}
 use borrow.Author.Tests.{le-leb, le-ltb, ne-eqb, eqb-true, eqb-false, not-true, not-false}
 use Rattle.lists.specs.Lists.{empty?}
 use Rattle.lists.proofs.Laws.{never, by-test, or-first}
 use Rattle.syntax.specs.Grammar as G
-use Rattle.syntax.specs.Grammar.{Bytes, Fn, Ref, Test, Cond, cond?}
-use Rattle.syntax.specs.Limits.{short, short-ref, cond-depth}
-use Rattle.syntax.specs.Readers.{Read, Reader, bind, ensure, _>>=_, _>>_, give, byte, read-head, read-open, read-ref, read-some, read-items, form-next, opens, Kind, k-in, k-pick, k-keep, k-join, k-fn, kind-word, kinds}
+use Rattle.syntax.specs.Grammar.{Bytes, Fn, Ref, Test, Cond}
+use Rattle.syntax.specs.Limits.{short-ref, cond-depth}
+use Rattle.syntax.specs.Readers.{Read, bind, ensure, _>>=_, _>>_, give, byte, read-head, read-open, read-ref, read-some, form-next, opens, Kind, k-in, k-pick, k-keep, k-join, k-fn, kind-word, kinds}
 use Rattle.syntax.proofs.Steps.{from, done}
 use Rattle.syntax.proofs.Conditions.{cond-read}
-use Rattle.syntax.proofs.Leaving.{left-within, items-ended, items-leaves, ref-leaves}
+use Rattle.syntax.proofs.Leaving.{items-ended, ref-leaves}
 use Rattle.model.specs.Conditions.{tests}
 use Rattle.text.specs.declared.Name.{Name}
 use Rattle.text.specs.declared.Number.{Number}
@@ -29,17 +28,16 @@ use Rattle.text.specs.declared.Class.the-variants.{Plain}
 use Rattle.text.specs.Words.{name-at, number-at}
 use Rattle.text.specs.Keywords.{fn-number, kind-number, kind-coded, coded, numbered, word-at, WordAt, part-at as opening-at}
 use Rattle.text.specs.Readings.{any-cond, any-items, any-some}
-use Rattle.text.proofs.Runs.{first-byte, run-from, run-room, place-left}
-use Rattle.text.proofs.Views.{view-none, view-here, view-beyond, left-drop, left-place}
-use Rattle.text.proofs.Places.{byte-here, byte-inside, byte-is, byte-not, space-is, space-not, close-is, close-not, name-not, name-is, number-not, number-is, open-not, open-is, kind-is, equal-word}
-use Rattle.text.proofs.Fuel.{any-cond-leaves, any-items-leaves, no-form-next, items-step}
+use Rattle.text.proofs.Runs.{first-byte, run-from, place-left}
+use Rattle.text.proofs.Views.{view-none, view-here, left-drop}
+use Rattle.text.proofs.Places.{byte-inside, byte-is, byte-not, space-is, space-not, close-is, close-not, name-not, name-is, number-not, number-is, open-not, open-is, kind-is, equal-word}
+use Rattle.text.proofs.Fuel.{any-cond-leaves, no-form-next, items-step}
 use Rattle.items.specs.Items.{code-short}
 use Rattle.terms.specs.declared.Reference.{Reference}
 use Rattle.terms.specs.Terms.{stream-found, first-code, second-code, ref-read, ref-at, code-in, ref-code}
 use Rattle.terms.proofs.References.{ref-view}
 use Rattle.columns.specs.declared.Columns.{Columns}
 use Rattle.columns.specs.Columns.{stream-place, ends-by, columns-read, columns-at}
-use Rattle.columns.proofs.Closing.{ends-none}
 use Rattle.columns.proofs.ColumnLists.{columns-view}
 use Rattle.nodes.specs.Storing.{size}
 use Rattle.conditions.specs.declared.Seen.{Seen}
@@ -47,7 +45,7 @@ use Rattle.conditions.specs.Seeing.{nodes-of, nothing-seen, seen-of, deep-seen,
 use Rattle.conditions.proofs.Capacity.{cond-bytes}
 use Rattle.query.specs.Forms.{numbered-fn}
 use Rattle.query_read.specs.declared.Own.{Own}
-use Rattle.query_read.specs.Parts.{Part, rows, pick, keep, join, aggregate, read-part, read-own}
+use Rattle.query_read.specs.Parts.{Part, keep, join, read-part, read-own}
 use Rattle.query_read.specs.Seeing.{level, span-of, no-own, rows-own, pick-own, keep-own, join-own, aggregate-own, picked, own-of, own-read, own-at, part-stored, own-stored}
 use Rattle.query_read.specs.Steps.{part-at, PartRead, OwnRead}
 use Rattle.query_read.proofs.Leaves.{span-is}

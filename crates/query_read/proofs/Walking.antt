@@ -1,29 +1,28 @@
 -- A form inside those that are open: what is still to be read, and what is read so far joined to it.
 use mathlib.Core.Path.{_≡_, refl, sym, ap, _∙_}
-use mathlib.Core.List.{List, [], _∷_, _++_, append-assoc, append-nil}
-use mathlib.Core.Bool.{Bool, true, false, not, cond}
-use mathlib.Core.Option.{Option, none, some, Option·none-ne-some}
+use mathlib.Core.List.{List, [], _∷_, _++_, append-assoc}
+use mathlib.Core.Bool.{Bool, true, false, cond}
+use mathlib.Core.Option.{Option, none, some}
 use Prim.Native.Nat.{ℕ, zero, suc, _+_, _*_, _-_, _≤_, _<_}
 use native.Mathlib.Omega.{arith}
 use lib.Dec.{eqb}
-use lib.ListN.{length, drop, getD, set, replicate, length-drop, length-set, length-replicate, length-append, drop-of-length-le}
-use borrow.Author.Tests.{eq-eqb, ne-eqb, eqb-true, eqb-false, not-true, not-false}
+use lib.ListN.{length, drop, getD, length-append}
+use borrow.Author.Tests.{eqb-true, eqb-false}
 use Rattle.lists.proofs.Laws.{never}
 use Rattle.syntax.specs.Grammar as G
-use Rattle.syntax.specs.Grammar.{Bytes, Form, Fn, Cond, Test, Ref, fn-word, put-open, cond?}
-use Rattle.syntax.specs.Readers.{Read, Reader, bind, ensure, _>>=_, _>>_, give, byte, read-head, read-open, read-name, read-int, read-ref, form-next, Kind, k-in, k-pick, k-keep, k-join, k-fn, kind-word, kinds, read-rest}
+use Rattle.syntax.specs.Grammar.{Bytes, Form, Fn, Ref, fn-word, put-open}
+use Rattle.syntax.specs.Readers.{Read, Reader, bind, _>>=_, _>>_, give, byte, read-head, read-open, read-name, read-int, read-ref, form-next, Kind, k-in, k-pick, k-keep, k-join, k-fn, kind-word, kinds, read-rest}
 use Rattle.syntax.proofs.Steps.{from, done, bind-bind, head-read}
 use Rattle.syntax.proofs.Conditions.{cond-read}
 use Rattle.syntax.proofs.Leaving.{Leaves, left-within, ends-both, byte-less, leaves-byte, leaves-item, leaves-give, head-leaves, open-leaves, name-leaves, int-leaves, ref-leaves}
 use Rattle.text.specs.Readings.{any-cond, any-some, any-form}
-use Rattle.text.proofs.Views.{left-drop}
 use Rattle.text.proofs.Runs.{inside as in-text}
-use Rattle.text.proofs.Places.{byte-here, byte-is, byte-not}
-use Rattle.text.proofs.Fuel.{bind-same, form-step, any-cond-leaves, any-form-leaves, any-some-leaves, no-form-next}
+use Rattle.text.proofs.Places.{byte-is, byte-not}
+use Rattle.text.proofs.Fuel.{bind-same, form-step, any-cond-leaves, any-some-leaves, no-form-next}
 use Rattle.nodes.specs.Storing.{size}
 use Rattle.conditions.specs.Seeing.{nodes-of}
 use Rattle.conditions.proofs.Capacity.{cond-bytes}
-use Rattle.conditions.proofs.Skipping.{stack, stack-push}
+use Rattle.conditions.proofs.Skipping.{stack}
 use Rattle.query_read.specs.declared.Next.{Next}
 use Rattle.query_read.specs.Parts.{Part, rows, pick, keep, join, aggregate, Inner, inner, parts, read-part, read-own}
 use Rattle.query_read.specs.Steps.{stuck, after-form}

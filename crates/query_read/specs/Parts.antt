@@ -1,11 +1,10 @@
 -- A form as its own part and the forms inside it: a query is the list of such parts, a form before the forms inside it.
 use mathlib.Core.List.{List, [], _∷_, _++_}
-use mathlib.Core.Option.{Option, some}
 use Prim.Native.Nat.{ℕ, suc}
 use lib.IntN.{ℤ}
 use Rattle.syntax.specs.Grammar as G
 use Rattle.syntax.specs.Grammar.{Bytes, Fn, Ref, Test, Cond, Form, eq, op-word}
-use Rattle.syntax.specs.Readers.{Read, Reader, bind, _>>=_, _>>_, give, byte, read-head, read-open, read-name, read-int, read-ref, form-next, Kind, k-in, k-pick, k-keep, k-join, k-fn, kind-word, kinds}
+use Rattle.syntax.specs.Readers.{Reader, bind, _>>=_, _>>_, give, byte, read-head, read-open, read-name, read-int, read-ref, form-next, Kind, k-in, k-pick, k-keep, k-join, k-fn, kind-word, kinds}
 use Rattle.text.specs.Readings.{any-cond, any-some}
 
 -- what a form says by itself

@@ -8,7 +8,7 @@ use lib.IntN.{ℤ}
 use lib.Dec.{leb, ltb, eqb}
 use lib.ListN.{length, drop, set, replicate}
 use Rattle.lists.specs.Lists.{some?, every}
-use Rattle.syntax.specs.Grammar.{Bytes, Fn, Ref, Test, Cond, Form}
+use Rattle.syntax.specs.Grammar.{Bytes, Test, Cond, Form}
 use Rattle.syntax.specs.Limits.{max-line, max-depth, max-forms, max-streams, short, short-ref, not-above, natural, cond-depth}
 use Rattle.syntax.specs.Readers.{Read}
 use Rattle.model.specs.Conditions.{tests}

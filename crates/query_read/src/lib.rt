@@ -8,7 +8,7 @@ ghost use Rattle.syntax.specs.Limits.{max-line, max-forms};
 ghost use Rattle.syntax.specs.Readers.{k-in, k-pick, k-keep, k-join, k-fn};
 ghost use Rattle.terms.specs.Terms.{unknown-code};
 ghost use Rattle.query.specs.Forms.{numbered-fn};
-ghost use Rattle.query_read.specs.Seeing.{deep, level, span-of, no-form, no-own, rows-own, pick-own, keep-own, join-own, aggregate-own, with-own, no-reading, reading-ended, max-words, readable, FormRead};
+ghost use Rattle.query_read.specs.Seeing.{deep, level, span-of, no-form, no-own, rows-own, pick-own, keep-own, join-own, aggregate-own, with-own, no-reading, reading-ended, max-words, FormRead};
 ghost use Rattle.query_read.specs.Steps.{part-at, PartRead, OwnRead, max-open, stuck, after-form};
 use columns::Columns;
 use conditions::Seen;

@@ -1,7 +1,7 @@
 -- The cells of an answer print the rows of its routes' tables, a line each.
 use mathlib.Core.Path.{_≡_, refl, sym, ap, _∙_}
 use mathlib.Core.List.{List, [], _∷_, _++_, append-assoc}
-use Prim.Native.Nat.{ℕ, zero, suc}
+use Prim.Native.Nat.{ℕ, suc}
 use lib.IntN.{ℤ, pos}
 use lib.ListN.{length}
 use Rattle.lists.specs.Lists.{All, all-nil, all-cons, gather, nth}
@@ -11,7 +11,7 @@ use Rattle.model.specs.Routes.{Route}
 use Rattle.model.specs.Answers.{route-table, row-cells, grant-cells, table-cells, answer-cells}
 use Rattle.model.proofs.Widths.{Wide, route-wide}
 use Rattle.calls.specs.Scripts.{cells}
-use Rattle.report.specs.declared.Due.the-variants.{Routes, Grant, Cell}
+use Rattle.report.specs.declared.Due.the-variants.{Grant, Cell}
 use Rattle.report.specs.Outcomes.{rows-due, row-due, due-after, front-of, cell-end, end-of, put-cell, put-cells, put-outcome, outcome-text, put-each, put-header, put-row, put-table, put-answer}
 
 -- a cell of a row and those that follow it

@@ -1,6 +1,6 @@
 -- How long the texts of outcomes are at most.
-use mathlib.Core.Path.{_≡_, refl, sym, ap, _∙_, subst}
-use mathlib.Core.List.{List, [], _∷_, _++_}
+use mathlib.Core.Path.{_≡_, refl, ap}
+use mathlib.Core.List.{[], _∷_}
 use mathlib.Core.Bool.{Bool, true, false}
 use Prim.Native.Nat.{ℕ, zero, suc, _+_, _*_, _/_, _%_, _-_, _≤_, _<_, min}
 use native.Mathlib.Omega.{arith}
@@ -11,7 +11,7 @@ use mir.Syntax.{w64}
 use mir.Val.{SFits}
 use borrow.Author.Tests.{ltb-true, ltb-false}
 use Rattle.syntax.specs.Grammar.{Bytes, put-nat, put-int}
-use Rattle.calls.specs.Scripts.{refusal, cells, text}
+use Rattle.calls.specs.Scripts.{refusal, text}
 use Rattle.print.specs.Writing.{furthest, next, after, Put}
 use Rattle.print.proofs.Numbers.{nat-one, nat-more}
 use Rattle.report.specs.declared.Due.{Due}

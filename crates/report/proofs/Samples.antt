@@ -1,7 +1,6 @@
 -- The bytes that a script prints, from its texts: examples C, B, D and A, and the line of A's route.
 use mathlib.Core.Path.{_≡_, refl}
 use mathlib.Core.List.{List, [], _∷_, _++_}
-use Prim.Native.Nat.{ℕ}
 use lib.IntN.{pos}
 use lib.ListN.{replicate}
 use Rattle.syntax.specs.Grammar.{Bytes, bytes}

@@ -1,6 +1,6 @@
 -- The tests on numbers are those of the definitions, for sound grants and a checked query.
 use mathlib.Core.Path.{_≡_, refl, sym, ap, ap₂, _∙_, subst}
-use mathlib.Core.List.{List, [], _∷_, _++_, map}
+use mathlib.Core.List.{List, [], _∷_, _++_}
 use mathlib.Core.Bool.{Bool, true, false, _&&_, _||_, not, cond, or-false}
 use Prim.Native.Nat.{ℕ, _+_, _*_, _/_, _≤_, _<_}
 use native.Mathlib.Decide.{ℕ-discrete}
@@ -9,12 +9,12 @@ use lib.Bits.{bitAnd, bitOr, or-self}
 use lib.Dec.{T, leb, ltb, eqb, eqb→eq, leb→le, ltb→lt}
 use borrow.Author.Tests.{eq-eqb, ne-eqb}
 use Rattle.lists.specs.Lists.{select, every, some?, empty?, gather, same-list, distinct}
-use Rattle.lists.proofs.Laws.{All, all-weaken, and-l, and-r, and-both, or-r, parts, T-true, every-all, same-list→eq}
+use Rattle.lists.proofs.Laws.{all-weaken, and-l, or-r, parts, every-all, same-list→eq}
 use Rattle.syntax.specs.Grammar as G
-use Rattle.syntax.specs.Grammar.{Fn, Cond, read, figures}
+use Rattle.syntax.specs.Grammar.{Fn, read, figures}
 use Rattle.model.specs.Queries as M
-use Rattle.model.specs.Queries.{Col, col, figure, same-col, Compare, Query, sources, picks, header}
-use Rattle.model.specs.Grants.{belongs, shown-of}
+use Rattle.model.specs.Queries.{Col, col, figure, same-col, Query, sources, picks, header}
+use Rattle.model.specs.Grants.{shown-of}
 use Rattle.model.specs.Checks.{has, timed, no-aggregate, allowed}
 use Rattle.model.specs.Routes.{reads, fn-number, gives, is-equality, single}
 use Rattle.model.proofs.Asked.{shown-by, left, joins-by}
@@ -33,11 +33,11 @@ use Rattle.grant.proofs.Masked.{declared-stream}
 use Rattle.query.specs.Forms.{coded-col}
 use Rattle.needs.specs.Asking.{no-stream, bits-of, col-code, fn-code, needs-of}
 use Rattle.needs.specs.declared.Needs.{Needs}
-use Rattle.needs.proofs.Fields.{bits-append, need-is, keys-are, header-is, Streams, streams-are}
+use Rattle.needs.proofs.Fields.{bits-append, need-is, keys-are, header-is, streams-are}
 use Rattle.needs.proofs.Shapes.{equality-same, times-are, Below, Figured, none-there, one-there, figured-is, fn-some}
 use Rattle.routes.specs.Opening.{stream-bits, streams-asked, equality-held, side-opened, right-opened, pair-opened, figures-opened}
 use Rattle.routes.proofs.Shown.{hs, own, every-shown, some-shown, inside-one, inside-two, own-code, own-every, theirs-some, shows-bit, bit-lone, lone-bit, pair-bit, bit-stream}
-use Rattle.routes.proofs.Reach.{own-header, own-asked, own-named}
+use Rattle.routes.proofs.Reach.{own-asked, own-named}
 
 -- ---- rights
 

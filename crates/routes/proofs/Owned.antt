@@ -1,5 +1,5 @@
 -- A grant whose words are laid out as stored ones is the caller's by the walk over its words as by the definition.
-use mathlib.Core.Path.{_≡_, sym, ap, ap₂, _∙_}
+use mathlib.Core.Path.{_≡_, sym, ap, _∙_}
 use mathlib.Core.List.{List, map}
 use mathlib.Core.Bool.{_&&_}
 use Prim.Native.Nat.{ℕ}
@@ -15,7 +15,7 @@ use Rattle.text.specs.Words.{name-of}
 use Rattle.nodes.specs.Nodes.{conditions-of}
 use Rattle.grant.specs.Grants.{grant-of, grant-tidy, laid-out}
 use Rattle.grant.specs.declared.Grant.{Grant}
-use Rattle.comparisons.specs.Compared.{compared, profile-in, compare-known}
+use Rattle.comparisons.specs.Compared.{profile-in, compare-known}
 use Rattle.comparisons.proofs.Walked.{laid-tests}
 use Rattle.routes.specs.Opening.{caller-in, belongs-in}
 

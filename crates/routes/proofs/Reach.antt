@@ -1,10 +1,9 @@
 -- The columns that a query names are those of its streams, or the aggregate's.
-use mathlib.Core.Path.{_≡_, refl, sym, ap, ap₂, _∙_, subst}
 use mathlib.Core.List.{List, [], _∷_, _++_}
-use mathlib.Core.Bool.{Bool, true, _&&_, _||_}
+use mathlib.Core.Bool.{true, _&&_}
 use Prim.Native.Nat.{ℕ}
 use lib.Dec.{T}
-use Rattle.lists.specs.Lists.{every, some?, gather}
+use Rattle.lists.specs.Lists.{every, gather}
 use Rattle.lists.proofs.Laws.{and-l, and-r, and-both, or-l, or-r, or-cases, parts, append-nil, gather-append, every-append, every-weaken}
 use Rattle.model.specs.Queries.{Col, figure, same-col, Query, source, pick, keep, join, aggregate, sources, header}
 use Rattle.model.specs.Checks.{has, within, cond-cols, linked, allowed}

@@ -2,27 +2,26 @@
 use mathlib.Core.Path.{_≡_, refl, sym, ap, ap₂, _∙_, subst}
 use mathlib.Core.List.{List, [], _∷_, _++_, map}
 use mathlib.Core.Bool.{Bool, true, false, _&&_, _||_, not, cond, or-false, and-true}
-use Prim.Native.Nat.{ℕ, zero, suc, _+_, _*_, _-_, _/_, _%_, _^_, _≤_, _<_}
+use Prim.Native.Nat.{ℕ, zero, suc, _+_, _*_, _-_, _/_, _%_, _^_, _<_}
 use native.Mathlib.Nat.{pow-suc, mul-assoc}
-use native.Mathlib.Decide.{decLt, ℕ-discrete}
+use native.Mathlib.Decide.{decLt}
 use native.Mathlib.Omega.{arith}
 use lib.Pow.{pow-add, shl-shr, shr-shr}
-use lib.Bits.{bitAnd, bitOr, and-zero-l}
+use lib.Bits.{bitAnd, bitOr}
 use lib.Dec.{T, ltb, eqb, eqb→eq, ltb→lt, lit<}
 use lib.ListN.{length}
-use borrow.Author.Tests.{eq-eqb, ne-eqb, lt-ltb, le-ltb}
+use borrow.Author.Tests.{eq-eqb, ne-eqb, lt-ltb}
 use Rattle.lists.specs.Lists.{select, every, some?, empty?, nth, gather, count-from}
-use Rattle.lists.proofs.Laws.{All, all-nil, all-cons, and-l, and-r, and-both, or-l, or-r, or-cases, parts, T-true, append-nil, same-truth}
+use Rattle.lists.proofs.Laws.{All, all-nil, all-cons, and-l, and-r, and-both, or-l, or-r, or-cases, parts, append-nil, same-truth}
 use Rattle.lists.proofs.Gathers.{every-gathers, some-append}
 use Rattle.model.specs.Queries.{no-stream, Col, col, figure, same-col, columns-of}
 use Rattle.model.specs.Grants.{shown-of}
 use Rattle.model.specs.Checks.{has}
-use Rattle.model.proofs.Asked.{shown-by}
 use Rattle.model.proofs.Columns.{has-append}
 use Rattle.model.proofs.Forms.{every-same}
 use Rattle.model.proofs.OneRow.{by-every}
 use Rattle.model.proofs.Found.{has-select-both}
-use Rattle.schema.specs.Schemas.{streams-in, width-in, schema-of}
+use Rattle.schema.specs.Schemas.{streams-in, schema-of}
 use Rattle.schema.proofs.Tests.{streams-most}
 use Rattle.masks.specs.Masks.{bit?, inside, mask-of}
 use Rattle.masks.proofs.Bits.{bit-and, bit-or, bit-past}

@@ -1,11 +1,11 @@
 -- Laws of the masks of rows: tests joined, denied and replaced by others, and what each bit says.
 use mathlib.Core.Path.{_≡_, refl, sym, ap, ap₂, _∙_}
-use mathlib.Core.Bool.{Bool, true, false, _&&_, _||_, not, cond}
+use mathlib.Core.Bool.{Bool, true, false, _&&_, _||_, not}
 use Prim.Native.Nat.{ℕ, zero, suc, _+_, _*_, _-_, _/_, _%_, _^_, _<_, _≤_, min, max}
 use native.Mathlib.Nat.{pow-suc, div-one}
 use native.Mathlib.Omega.{arith}
 use lib.Dec.{lit<, ltb, eqb, leb·suc-suc}
-use lib.Pow.{pow-pos, pow-lt, shl-exact, shr-shr}
+use lib.Pow.{pow-pos, shl-exact, shr-shr}
 use lib.Bits.{bitAnd, bitOr, bitXor, and-step, or-step, xor-step, and-zero-l, or-zero-l, xor-zero-l, differ}
 use borrow.Author.Tests.{lt-ltb, le-ltb}
 use Rattle.masks.specs.Masks.{bit?}

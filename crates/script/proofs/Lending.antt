@@ -11,7 +11,7 @@ use base.Logic.{ent, sep, ex}
 use base.Fml.{Lft, GName, Fml, fsep, fat, fdead, flent}
 use prog.Wp.{Heap}
 use ghost.Atoms.{Atoms, sem}
-use types.Kit.{Given, ‵, _⊛_, some, later, _$_, _∵_, !, qed, by, move, use1, use2, drop, split, pick, rewrite, fsplit, fjoin, fpick, fpack, feqI, await, updating, now as at-once, show, done}
+use types.Kit.{Given, ‵, _⊛_, some, later, _$_, !, qed, by, move, use1, use2, drop, split, pick, rewrite, fsplit, fjoin, fpick, fpack, feqI, await, updating, now as at-once, show, done}
 use types.Tokens.{lent-back}
 use types.SemTy.{Arr, cells}
 use types.Share.{PartsLaws, arr-parts, arr-laws}

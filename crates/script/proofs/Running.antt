@@ -29,7 +29,7 @@ use Rattle.calls.specs.Calls as K
 use Rattle.calls.specs.Calls.{Call, stream, clock-line, row-line, clear-line, call-table, caller-table}
 use Rattle.calls.specs.Asking as Q
 use Rattle.calls.specs.Asking.{lent-valid, query-routes, answer, answer-checks, ask-table, no-line, line-given, printed-line, line-checks, line-table}
-use Rattle.calls.specs.Events.{Fixture, call, grant, caller, query, happen, happened-from}
+use Rattle.calls.specs.Events.{Fixture, caller, happen, happened-from}
 use Rattle.calls.specs.Scripts.{Outcome, cells, text, changed, told, on-record, act, perform, step, run-from, script}
 use Rattle.claims.proofs.Running.{events-of, step-runs}
 use Rattle.schema.specs.Schemas.{schema-of}

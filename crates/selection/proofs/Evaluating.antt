@@ -1,19 +1,18 @@
 -- Conditions of nodes, and the rows that they hold of.
 use mathlib.Core.Path.{_≡_, refl, sym, ap, ap₂, _∙_, subst}
-use mathlib.Core.List.{List, [], _∷_, map}
-use mathlib.Core.Bool.{Bool, true, false, _&&_, _||_, not, cond}
-use Prim.Native.Nat.{ℕ, zero, suc, _+_, _*_, _-_, _/_, _%_, _<_, _≤_, min}
+use mathlib.Core.List.{List, [], _∷_}
+use mathlib.Core.Bool.{Bool, true, false, _&&_, _||_}
+use Prim.Native.Nat.{ℕ, zero, suc, _+_, _*_, _-_, _/_, _%_, _<_, _≤_}
 use native.Mathlib.Decide.{decLt}
 use native.Mathlib.Omega.{arith}
 use lib.IntN.{ℤ, pos, negsuc}
 use lib.Signed.{leZ}
 use lib.ListN.{length, getD, List·getD-eq-default}
-use lib.Dec.{T, leb, ltb, eqb}
-use borrow.Author.Tests.{eq-eqb, ne-eqb, lt-ltb, le-ltb, lt-leb, le-leb, eqb-true, eqb-false}
+use lib.Dec.{T, leb, eqb}
+use borrow.Author.Tests.{ne-eqb, lt-ltb, lt-leb, le-leb, eqb-true, eqb-false}
 use Rattle.lists.specs.Lists.{every, some?, empty?}
-use Rattle.lists.proofs.Laws.{or-l, or-r, true-T}
-use Rattle.syntax.specs.Grammar.{Cond, test, all, any, neg, Conds, last, more}
-use Rattle.syntax.specs.Limits.{max-rows}
+use Rattle.lists.proofs.Laws.{or-r}
+use Rattle.syntax.specs.Grammar.{Cond, test, all, any, neg}
 use Rattle.model.specs.Queries.{Compare}
 use Rattle.model.specs.Conditions.{true-of, all-true, any-true, conds-of}
 use Rattle.model.specs.Meaning.{compares, compare-holds, term-value}
@@ -22,7 +21,7 @@ use Rattle.nodes.specs.declared.Node.{Node}
 use Rattle.nodes.specs.Nodes.{no-node, node-at, node-of, node-compare, numbered-op, coded-term, link, some-conds, first-cond, headed, cond-in, list-in}
 use Rattle.nodes.proofs.Reaching.{link-falls, list-step, list-stop, list-before, list-on, list-off, cond-on}
 use Rattle.nodes.proofs.Words.{node-none, node-number, node-entry, node-plain}
-use Rattle.nodes.proofs.Links.{Walk, First, walk-end}
+use Rattle.nodes.proofs.Links.{Walk, walk-end}
 use Rattle.rows.specs.declared.Rows.{Rows}
 use Rattle.rows.specs.Masks.{rows-of, no-rows, first-rows, both-of, either-of, flip-of}
 use Rattle.rows.proofs.Masks.{rows-alike, rows-all, rows-none, rows-and, rows-or, rows-flip}

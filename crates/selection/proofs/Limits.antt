@@ -1,9 +1,9 @@
 -- Rows within a first and a last time, and whether memory is lent for a scope.
 use mathlib.Core.Path.{_≡_, refl, sym, ap, ap₂, _∙_, subst}
-use mathlib.Core.List.{List, [], _∷_, _++_, map}
+use mathlib.Core.List.{List, [], _∷_, _++_}
 use mathlib.Core.Bool.{Bool, true, false, _&&_, _||_, not, cond}
-use mathlib.Core.Option.{Option, none, some}
-use Prim.Native.Nat.{ℕ, zero, suc, _+_, _*_, _-_, _<_, _≤_, min, max}
+use mathlib.Core.Option.{none, some}
+use Prim.Native.Nat.{ℕ, _+_, _*_, _-_, _<_, _≤_, min, max}
 use native.Mathlib.Decide.{decLt}
 use native.Mathlib.Omega.{arith}
 use lib.IntN.{ℤ, pos, negsuc, natAbs}
@@ -16,9 +16,9 @@ use mir.ValLaws.{toZ-ofZ}
 use borrow.Author.Tests.{ne-eqb, le-leb, lt-leb, lt-ltb, le-ltb, ltb-true, ltb-false, not-true, not-false}
 use Rattle.lists.specs.Lists.{every}
 use Rattle.lists.proofs.Laws.{true-T, and-l, and-r, parts}
-use Rattle.syntax.specs.Grammar.{Cond, eq, ge, le}
+use Rattle.syntax.specs.Grammar.{eq, ge, le}
 use Rattle.syntax.specs.Limits.{max-streams, max-rows, top}
-use Rattle.model.specs.Queries.{Col, Row, Compare}
+use Rattle.model.specs.Queries.{Col, Row}
 use Rattle.model.specs.Conditions.{true-of}
 use Rattle.model.specs.Meaning.{term-value, compares, compare-holds, holds}
 use Rattle.model.specs.Grants.{limit}

@@ -1,7 +1,7 @@
 -- What stands for a side of a comparison: a column of either row, the time, a number or a profile entry.
 use mathlib.Core.Path.{_≡_, refl, sym, ap, _∙_}
 use mathlib.Core.List.{List, _++_, map}
-use mathlib.Core.Bool.{Bool, true, false, _&&_, not, cond}
+use mathlib.Core.Bool.{Bool, true, false, _&&_, cond}
 use Prim.Native.Nat.{ℕ, zero, suc, _+_, _*_, _-_, _/_, _%_, _<_, _≤_, min, max}
 use native.Mathlib.Omega.{arith}
 use lib.IntN.{ℤ, pos, negsuc, _-ℤ_}
@@ -16,7 +16,7 @@ use Rattle.lists.proofs.Laws.{T-true, true-T, same-list-refl, parts}
 use Rattle.lists.proofs.Counting.{count-left, count-done}
 use Rattle.syntax.specs.Grammar.{Entry}
 use Rattle.syntax.specs.Limits.{max-streams, max-columns, max-rows, top}
-use Rattle.model.specs.Queries.{Col, col, figure, same-col, Term, column, time, number, Row}
+use Rattle.model.specs.Queries.{Col, col, figure, same-col, Term, column, Row}
 use Rattle.model.specs.Meaning.{value, term-value, both}
 use Rattle.model.specs.Grants.{entry-value, fill-term}
 use Rattle.text.specs.Words.{name-of}

@@ -1,12 +1,12 @@
 -- The rows that conditions are tried on: those of one stream, each beside one row of another where it is given; and those that conditions select.
 use mathlib.Core.List.{List, [], _++_, map}
 use mathlib.Core.Bool.{Bool, _&&_, cond}
-use Prim.Native.Nat.{ℕ, _+_, _*_, _/_, _%_, min}
-use lib.IntN.{ℤ, pos}
+use Prim.Native.Nat.{ℕ, _+_, _*_, min}
+use lib.IntN.{ℤ}
 use lib.Dec.{leb, ltb}
 use lib.ListN.{length, getD}
 use Rattle.lists.specs.Lists.{count-from, every}
-use Rattle.syntax.specs.Grammar.{Entry, Cond, ge, le}
+use Rattle.syntax.specs.Grammar.{Cond, ge, le}
 use Rattle.syntax.specs.Limits.{max-streams, max-rows, top}
 use Rattle.model.specs.Queries.{Col, col, Compare, Row}
 use Rattle.model.specs.Meaning.{holds, both}

@@ -10,13 +10,13 @@ use lib.Dec.{T}
 use lib.ListN.{length}
 use Rattle.lists.specs.Lists.{every, empty?, same-list}
 use Rattle.lists.proofs.Laws.{and-both, parts, all-any, every-all}
-use Rattle.syntax.specs.Grammar.{Bytes, bytes, Form, Entry, Verb, stream, grant, clock, row, clear, caller, ask, line, Body, Line, name?, some-all, form?, entry?, body?, verb-word, put-int, put-name, put-items, put-form, put-part, put-grant, put-entry, put-body, put-line, line-text, query-text}
+use Rattle.syntax.specs.Grammar.{Bytes, bytes, Form, Entry, Verb, stream, grant, clock, row, clear, caller, ask, line, Body, Line, name?, some-all, form?, entry?, body?, verb-word, put-int, put-name, put-items, put-form, put-grant, put-entry, put-body, put-line, line-text, query-text}
 use Rattle.syntax.specs.Readers.{Reader, bind, ensure, give, among, plain, read-name, read-int, read-items, read-some, closes, read-form, read-entry, verbs, read-body, read-as, parse, parse-as, verb-of, parse-line, parse-query}
 use Rattle.syntax.proofs.Steps.{Reads, Follows, space, close, from, ensured, done, byte-step, item-step, give-step, bind-put, byte-put, item-put, Known, head-put, open-put, open-read}
 use Rattle.syntax.proofs.Lexical.{name-put, name-read, int-put, int-read, number-put, number-read}
 use Rattle.syntax.proofs.Items.{items-follow, items-put, items-read, some-put, some-read}
-use Rattle.syntax.proofs.Queries.{form-size, form-put, form-read}
-use Rattle.syntax.proofs.Grants.{part-put, part-read, part-follow, names-closed-put, Grant-fits, grant-body, grant-put, grant-read}
+use Rattle.syntax.proofs.Queries.{form-put, form-read}
+use Rattle.syntax.proofs.Grants.{part-put, part-read, part-follow, names-closed-put, grant-put, grant-read}
 use Rattle.syntax.proofs.Lengths.{name-room, int-room, open-room, part-room, items-room, form-room, grant-room, entry-room}
 
 -- ---- entries and lists

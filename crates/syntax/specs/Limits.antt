@@ -1,5 +1,5 @@
 -- The bounds on what people write, each stated once with the kind of thing that it bounds.
-use mathlib.Core.List.{List, [], _∷_}
+use mathlib.Core.List.{[], _∷_}
 use mathlib.Core.Bool.{Bool, true, false, _&&_, cond}
 use Prim.Native.Nat.{ℕ, suc, _+_, max, pred}
 use lib.IntN.{ℤ, pos, negsuc}

@@ -1,5 +1,5 @@
 -- Readers of lines. They add nothing to the grammar: each is proved to undo its printer, both ways.
-use mathlib.Core.List.{List, [], _∷_, _++_}
+use mathlib.Core.List.{List, [], _∷_}
 use mathlib.Core.Bool.{Bool, true, false, _&&_, _||_, not, cond}
 use mathlib.Core.Option.{Option, none, some}
 use Prim.Native.Nat.{ℕ, zero, suc, _+_, _*_, _-_}
@@ -7,7 +7,7 @@ use lib.IntN.{ℤ, pos, negsuc}
 use lib.Dec.{eqb}
 use lib.ListN.{length}
 use Rattle.lists.specs.Lists.{empty?, same-list}
-use Rattle.syntax.specs.Grammar.{Bytes, bytes, Op, eq, ne, lt, le, gt, ge, Fn, min, max, count, avg, sum, Right, read, figures, Ref, dotted, time, figure, Operand, ref, number, Test, Cond, test, all, any, neg, Conds, last, more, Form, rows, pick, keep, join, aggregate, Show, everything, listed, Span, GrantLine, Entry, Stream, RowLine, Caller, RouteLine, Verb, stream, grant, clock, row, clear, caller, ask, line, Body, Line, digit, letter, alnum, name?, op-word, fn-word, right-word, verb-word, grammar-computes}
+use Rattle.syntax.specs.Grammar.{Bytes, bytes, Op, eq, ne, lt, le, gt, ge, Fn, min, max, count, avg, sum, Right, read, figures, Ref, dotted, time, figure, Operand, ref, number, Test, Cond, test, all, any, neg, Conds, last, more, Form, rows, pick, keep, join, aggregate, Show, everything, listed, Span, GrantLine, Entry, Verb, stream, grant, clock, row, clear, caller, ask, line, Body, Line, digit, letter, alnum, name?, op-word, fn-word, right-word, verb-word, grammar-computes}
 
 -- ---- readers of a type: what was read, and what is left
 

@@ -3,7 +3,6 @@ ghost use mathlib.Core.Path.{_≡_};
 ghost use mathlib.Core.Bool.{cond};
 ghost use Prim.Native.Nat.{_+_, _≤_};
 ghost use lib.Dec.{eqb};
-ghost use lib.ListN.{getD};
 ghost use Rattle.schema.specs.Schemas.{schema-size};
 ghost use Rattle.terms.specs.Terms.{entry-code, found, stream-found, place-in, no-ref, dotted-of, alone-of, ref-at, code-in, biased, no-term, ref-term-at, number-term-at, operand-at, no-comparison, compared, comparison-at};
 use schema::Stream;

@@ -1,5 +1,4 @@
 -- `column_code`: by its two cases.
-use borrow.Author.Needs.{needs}
 use Rattle.comparisons.proofs.Equated.{code-ends}
 use Rattle.comparisons.proofs.column_code.Statement.{statement}
 use Rattle.comparisons.proofs.column_code.Tie as tie

@@ -1,5 +1,4 @@
 -- `has_terms`: by its two cases.
-use borrow.Author.Needs.{needs}
 use Rattle.comparisons.proofs.Equated.{terms-ends}
 use Rattle.comparisons.proofs.has_terms.Statement.{statement}
 use Rattle.comparisons.proofs.has_terms.Tie as tie

@@ -1,4 +1,3 @@
-use borrow.Author.Needs.{needs}
 use native.Mathlib.Omega.{arith}
 use Rattle.ledger.proofs.Bounds.{rising-first, rising-second, rising-third, rising-last}
 use Rattle.ledger.proofs.rising.Statement.{statement}

@@ -1,5 +1,4 @@
 -- `fn_number`: by its three cases.
-use borrow.Author.Needs.{needs}
 use Rattle.needs.proofs.Makes.{fn-ends}
 use Rattle.needs.proofs.fn_number.Statement.{statement}
 use Rattle.needs.proofs.fn_number.Tie as tie

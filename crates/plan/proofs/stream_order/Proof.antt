@@ -2,7 +2,6 @@
 use mathlib.Core.Path.{_≡_}
 use Prim.Native.Nat.{_-_, _≤_}
 use borrow.Author.Needs.{needs}
-use Rattle.schema.specs.Schemas.{width-in}
 use Rattle.plan.specs.Plans.{stream-order}
 use Rattle.plan.proofs.Steps.{order-on, order-ends}
 use Rattle.plan.proofs.stream_order.Statement.{statement}

@@ -1,4 +1,3 @@
-use borrow.Author.Needs.{needs}
 use Rattle.report.proofs.Numbers.{magnitude-ends}
 use Rattle.report.proofs.magnitude.Statement.{statement}
 use Rattle.report.proofs.magnitude.Tie as tie

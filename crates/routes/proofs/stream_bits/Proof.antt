@@ -1,5 +1,4 @@
 -- `stream_bits`: by its five cases.
-use borrow.Author.Needs.{needs}
 use Rattle.routes.proofs.Opened.{bits-ends}
 use Rattle.routes.proofs.stream_bits.Statement.{statement}
 use Rattle.routes.proofs.stream_bits.Tie as tie

@@ -1,5 +1,4 @@
 -- `picks`: by its two cases.
-use borrow.Author.Needs.{needs}
 use Rattle.needs.proofs.Makes.{need-ends}
 use Rattle.needs.proofs.Needs.picks.Statement.{statement}
 use Rattle.needs.proofs.Needs.picks.Tie as tie

@@ -1,5 +1,4 @@
 -- `with_keep`: part by part.
-use borrow.Author.Needs.{needs}
 use Rattle.needs.proofs.Makes.{need-ends}
 use Rattle.needs.proofs.Needs.with_keep.Statement.{statement}
 use Rattle.needs.proofs.Needs.with_keep.Tie as tie

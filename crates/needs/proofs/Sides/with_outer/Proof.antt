@@ -1,5 +1,4 @@
 -- `with_outer`: the second stays.
-use borrow.Author.Needs.{needs}
 use Rattle.needs.proofs.Makes.{side-ends}
 use Rattle.needs.proofs.Sides.with_outer.Statement.{statement}
 use Rattle.needs.proofs.Sides.with_outer.Tie as tie

@@ -1,6 +1,5 @@
 -- `Plan::new`: by its fields.
 use borrow.Author.Needs.{needs}
-use mathlib.Core.Path.{refl}
 use Rattle.plan.specs.Plans.{no-plan}
 use Rattle.plan.proofs.Plan.new.Statement.{statement}
 use Rattle.plan.proofs.Plan.new.Tie as tie

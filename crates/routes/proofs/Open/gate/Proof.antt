@@ -1,5 +1,4 @@
 -- `gate`: part by part.
-use borrow.Author.Needs.{needs}
 use mathlib.Core.Path.{refl}
 use Rattle.routes.specs.Listing.{gate-of}
 use Rattle.routes.proofs.Open.gate.Statement.{statement}

@@ -1,5 +1,4 @@
 -- `new`: no bit and no number.
-use borrow.Author.Needs.{needs}
 use mathlib.Core.Path.{refl}
 use Rattle.routes.specs.Listing.{none-open}
 use Rattle.routes.proofs.Open.new.Statement.{statement}
