@@ -64,21 +64,20 @@ sets-past cells i k (x ∷ xs) ys h = ap (λ l. sets l (suc i) xs) (set-past cel
 sets-before : (cells : List ℤ) (at k : ℕ) (xs ys : List ℤ) → k ≡ at + length xs → sets (sets cells k ys) at xs ≡ sets cells at (xs ++ ys)
 sets-before cells at k xs ys e = sets-past cells at k xs ys (omega arith) ∙ ap (λ n. sets (sets cells at xs) n ys) e ∙ sym (sets-append cells at xs ys)
 
--- ---- a place that the cells of the last route do not go past
+-- ---- a place that the cells of a route do not go past
 
-module _ (last : Bool) (l : Ledger) (ns : List ℕ) (vs : List ℤ) (p : Plan) (w : ℕ) (lefts rights : Rows) (at room : ℕ) where
-  pub bound-made : {n : ℕ} → last ≡ true → p .joined ≡ true → p .number ≡ 0 → MostGiven l ns vs p lefts rights n → Bounds last l ns vs p w lefts rights at room (at + 4 + n * w)
-  bound-made {n} t j e g =
+module _ (l : Ledger) (ns : List ℕ) (vs : List ℤ) (p : Plan) (w : ℕ) (lefts rights : Rows) (at room : ℕ) where
+  pub bound-made : {n : ℕ} → p .joined ≡ true → p .number ≡ 0 → MostGiven l ns vs p lefts rights n → Bounds l ns vs p w lefts rights at room (at + 4 + n * w)
+  bound-made j e g =
       record {
-        only = λ h. t;
         enough = λ h ts ws gs ps s k.
             let m : Memory = record { ledger = l; names = ns; times = ts; values = vs } in
             let a = mul-le-mul {m₁ = w} (g .shown ts ws gs ps j (fit m ws gs ps p s e) k) (le-refl w) in
             omega arith;
       }
 
-  pub bound-none : Bounds last l ns vs p w lefts rights at room (room + 1)
-  bound-none = record { only = λ h. absurd (omega arith); enough = λ h. absurd (omega arith) }
+  pub bound-none : Bounds l ns vs p w lefts rights at room (room + 1)
+  bound-none = record { enough = λ h. absurd (omega arith) }
 
 pub bound-small : {n w : ℕ} → n ≤ 16384 → w ≤ 25 → n * w ≤ 409600
 bound-small a b = mul-le-mul {n₂ = 16384} {m₂ = 25} a b
@@ -111,7 +110,7 @@ module _ (m : Memory) (own gs ps : List ℕ) (fs : List Form) (y : Way) (write :
     pub bound-ready : (q .number ≡ 0 → w ≤ 25) × (at ≤ room) × (room ≤ 67108864)
     bound-ready = (λ z. let a = width-any m own gs ps q (rw f (e .suits)) z in omega arith, e .from, e .near)
 
-    module _ {last : Bool} {lefts rights : Rows} {r : ℕ} (a : lefts ≡ left-mask m (words-of own gs ps) q) (b : rights ≡ right-mask m (words-of own gs ps) q) (k : Bounds last (m .ledger) (m .names) (m .values) q w lefts rights at room r) (h : r ≤ room) where
+    module _ {last : Bool} {lefts rights : Rows} {r : ℕ} (a : lefts ≡ left-mask m (words-of own gs ps) q) (b : rights ≡ right-mask m (words-of own gs ps) q) (k : Bounds (m .ledger) (m .names) (m .values) q w lefts rights at room r) (h : r ≤ room) (d : last ≡ true) where
       within : at + length (way-cells s y) ≤ r
       unfolding way-rows
       within = let x = rows-ready a b in rw (way-long s y (e .suits), sym f, sym g) (k .enough h (m .times) own gs ps (x .0) (x .1))
@@ -119,8 +118,8 @@ module _ (m : Memory) (own gs ps : List ℕ) (fs : List Form) (y : Way) (write :
       pub route-bounded : Turns (record { memory = m; own = own; granted = gs; profile = ps; forms = fs }) y write last at room cells cells r
       route-bounded =
           record {
-            counted = λ z. (refl, λ t. absurd (true≢false (sym (k .only h) ∙ t)), le-leb r room h ∙ sym (le-leb (at + length (way-cells s y)) room (le-trans within h)));
-            written = λ z t. absurd (true≢false (sym (k .only h) ∙ t));
+            counted = λ z. (refl, λ t. absurd (true≢false (sym d ∙ t)), le-leb r room h ∙ sym (le-leb (at + length (way-cells s y)) room (le-trans within h)));
+            written = λ z t. absurd (true≢false (sym d ∙ t));
           }
 
   module _ {w n : ℕ} {cells₁ : List ℤ} (g : w ≡ plan-width q) (h : Gives (plan-width q) (plan-rows m own gs ps q) (record { write = write; at = at + 4; room = room }) cells cells₁ n) where

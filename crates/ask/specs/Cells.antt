@@ -79,9 +79,8 @@ pub record Turns (s : Setting) (y : Way) (write last : Bool) (at room : ℕ) (ce
   pub counted : write ≡ false → (cells′ ≡ cells) × (last ≡ false → Counted (at + length (way-cells s y)) room r) × (leb r room ≡ leb (at + length (way-cells s y)) room)
   pub written : write ≡ true → last ≡ false → (cells′ ≡ sets cells at (way-cells s y)) × (r ≡ at + length (way-cells s y))
 
--- a place in the room is that of the last route, and the cells of a plan's rows, with the header before them, do not go past it
-pub record Bounds (last : Bool) (l : Ledger) (ns : List ℕ) (vs : List ℤ) (p : Plan) (w : ℕ) (lefts rights : Rows) (at room r : ℕ) : Type 0 where
-  pub only : r ≤ room → last ≡ true
+-- the cells of a plan's rows, with the header before them, do not go past a place, where that is in the room
+pub record Bounds (l : Ledger) (ns : List ℕ) (vs : List ℤ) (p : Plan) (w : ℕ) (lefts rights : Rows) (at room r : ℕ) : Type 0 where
   pub enough : r ≤ room → (ts ws gs ps : List ℕ) → Suits (record { ledger = l; names = ns; times = ts; values = vs }) p → Masked (record { ledger = l; names = ns; times = ts; values = vs }) ws gs ps p lefts rights
       → at + (4 + length (plan-rows (record { ledger = l; names = ns; times = ts; values = vs }) ws gs ps p) * w) ≤ r
 
