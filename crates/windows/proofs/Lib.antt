@@ -7,4 +7,5 @@ pub mod Rising
 pub mod Soundness
 pub mod Picks
 pub mod Sums
+pub mod Spans
 pub mod Standing

@@ -10,10 +10,11 @@ use Rattle.lists.specs.Lists.{select, gather, count-from}
 use Rattle.syntax.specs.Grammar.{Fn}
 use Rattle.syntax.specs.Limits.{top, max-rows}
 use Rattle.model.specs.Queries.{Row}
-use Rattle.windows.specs.Events.{in-span, event-window, event-figures, figure-in, window-tally}
+use Rattle.windows.specs.Events.{in-span, event-window, event-figures, figure-in, window-tally, span-tally}
 use Rattle.windows.specs.declared.Event.{Event}
 use Rattle.windows.specs.declared.Windows.{Windows}
 use Rattle.windows.specs.declared.Place.{Place}
+use Rattle.windows.specs.declared.Span.{Span}
 
 -- two streams' rows, each an event
 abbrev pub most-events : ℕ
@@ -111,3 +112,16 @@ pub record Parts (ts cs : List ℕ) (ps : List ℤ) : Type 0 where
   pub some-rows : (i : ℕ) → i < length ts → 1 ≤ getD cs i 0
   pub few-rows : (i : ℕ) → i < length ts → getD cs i 0 ≤ most-rows
   pub small : (i : ℕ) → i < length ts → natAbs (getD ps i (pos 0)) ≤ most-part
+
+-- ---- spans: the tally of the events that stand between two places
+
+-- nothing is said of the tally of no events
+pub record Spans (f : Fn) (ts cs : List ℕ) (ps : List ℤ) (s : Span) : Type 0 where
+  pub within : s .to ≤ length ts
+  pub tallied : s .from < s .to → s .tally ≡ span-tally f ts cs ps (s .from) (s .to)
+
+-- one that may be moved forward to window k: the events before it come before the window, and none of its own after the window
+pub record Kept (w : Windows) (f : Fn) (ts cs : List ℕ) (ps : List ℤ) (k : ℕ) (s : Span) : Type 0 where
+  pub spans : Spans f ts cs ps s
+  pub behind : Before ts (s .from) (k * w .offset)
+  pub ended : Before ts (s .to) (k * w .offset + w .size)

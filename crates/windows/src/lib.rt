@@ -1,16 +1,16 @@
-// Figures of windows over events in order of time: only windows that have ended and hold an event are visited.
+// Figures of windows over events in order of time: only windows that have ended and hold an event are visited, and the tally moves with them.
 ghost use mathlib.Core.Path.{_≡_};
 ghost use mathlib.Core.Bool.{false};
 ghost use mathlib.Core.List.{List, _∷_, []};
-ghost use Prim.Native.Nat.{ℕ, suc, _+_, _*_, _^_, _≤_, _<_, min};
+ghost use Prim.Native.Nat.{ℕ, suc, _+_, _*_, _^_, _≤_, _<_, min, max};
 ghost use lib.IntN.{ℤ, natAbs};
-ghost use lib.ListN.{length};
+ghost use lib.ListN.{length, getD};
 ghost use lib.Seq.{sets};
 ghost use Rattle.syntax.specs.Grammar.{Fn};
 ghost use Rattle.model.specs.Answers.{row-cells};
 ghost use Rattle.figures.specs.Figures.{row-of};
-ghost use Rattle.windows.specs.Events.{fn-of, with-event, figure-in, event-at, events-from, window-tally};
-ghost use Rattle.windows.specs.Windows.{Bounded, Timed, Before, Ordered, Reached, Sought, Parts, Runs, most-events, answers, last-with, run-rows};
+ghost use Rattle.windows.specs.Events.{fn-of, with-event, less-event, figure-in, event-at, events-from, window-tally};
+ghost use Rattle.windows.specs.Windows.{Bounded, Timed, Before, Ordered, Reached, Sought, Parts, Spans, Kept, Runs, most-events, answers, last-with, run-rows};
 ghost use Rattle.windows.specs.Lent.{windows-sound, part-sound, event-sound, events-sound, answers-in, picked-rows, Behind, Written};
 use figures::Answer;
 use text::Time;
@@ -40,6 +40,19 @@ pub struct Event {
 pub struct Tally {
     pub count: u32,
     pub part: i64,
+}
+
+// The tally of the events from a place up to, not including, another.
+pub struct Span {
+    pub from: u32,
+    pub to: u32,
+    pub tally: Tally,
+}
+
+// Where a run of windows ends: how many answer rows there are, and the span of the last window that was visited.
+pub struct Run {
+    pub rows: u32,
+    pub span: Span,
 }
 
 // The first place from i on whose time is not below `start`.
@@ -149,6 +162,17 @@ impl Tally {
         }
     }
 
+    // One event less, of a sum.
+    fn without(self, e: Event) -> Tally
+        requires { ⌜ (natAbs (self .part) ≤ 2 ^ 53) × (natAbs (e .part) ≤ 2 ^ 45) × (e .count ≤ self .count) ⌝ }
+        ensures { λ r. ⌜ r ≡ less-event self e ⌝ }
+    {
+        Tally {
+            count: self.count - e.count,
+            part: self.part - e.part,
+        }
+    }
+
     // The figure of what was seen.
     fn figure(self, f: u32) -> i64
         requires { ⌜ 1 ≤ self .count ⌝ }
@@ -164,35 +188,87 @@ impl Tally {
     }
 }
 
-// The tally of the event at place i and of those after it that come before a time.
-fn tally_at(f: u32, times: &[u32], counts: &[u16], parts: &[i64], i: u32, end: u32) -> Tally
-    requires { ⌜ Ordered (now times) × Parts (now times) (now counts) (now parts) × (i < length (now times)) ⌝ }
-    ensures { λ r. ⌜ (r ≡ window-tally (fn-of f) (now (times .entry)) (now (counts .entry)) (now (parts .entry)) i end) × (1 ≤ r .count) ⌝ }
+// The event at place i alone.
+fn alone(times: &[u32], counts: &[u16], parts: &[i64], i: u32) -> Span
+    requires { ⌜ Parts (now times) (now counts) (now parts) × (i < length (now times)) ⌝ }
+    ensures { λ r. ⌜ ((f : Fn) → Spans f (now (times .entry)) (now (counts .entry)) (now (parts .entry)) r) × (r .from ≡ i) × (r .to ≡ i + 1) ⌝ }
 {
-    let first = event_at(times, counts, parts, i);
-    let mut t = Tally {
-        count: first.count,
-        part: first.part,
-    };
+    let e = event_at(times, counts, parts, i);
+    Span {
+        from: i,
+        to: i + 1,
+        tally: Tally {
+            count: e.count,
+            part: e.part,
+        },
+    }
+}
+
+// A span without its events before place i. Sums are taken back; of a least or a greatest value the tally begins anew.
+fn trimmed(f: u32, times: &[u32], counts: &[u16], parts: &[i64], s: Span, i: u32) -> Span
+    requires { ⌜ Parts (now times) (now counts) (now parts) × (i < length (now times)) × Spans (fn-of f) (now times) (now counts) (now parts) s × (s .from ≤ i) ⌝ }
+    ensures { λ r. ⌜ Spans (fn-of f) (now (times .entry)) (now (counts .entry)) (now (parts .entry)) r × (r .from ≡ i) × (i < r .to) × (r .to ≤ max (s .to) (i + 1)) ⌝ }
+{
+    if s.to <= i {
+        return alone(times, counts, parts, i);
+    }
+    if s.from == i {
+        return s;
+    }
+    if f == 1 {
+        return alone(times, counts, parts, i);
+    }
+    if f == 2 {
+        return alone(times, counts, parts, i);
+    }
+    let mut t = s.tally;
+    let mut k = s.from;
+    while k < i {
+        let e = event_at(times, counts, parts, k);
+        t = t.without(e);
+        k += 1;
+    }
+    Span {
+        from: i,
+        to: s.to,
+        tally: t,
+    }
+}
+
+// A span moved forward to the events from place i on that come before a time.
+fn moved(f: u32, times: &[u32], counts: &[u16], parts: &[i64], s: Span, i: u32, end: u32) -> Span
+    requires { ⌜ Ordered (now times) × Parts (now times) (now counts) (now parts) × (i < length (now times)) × (getD (now times) i 0 < end) × Spans (fn-of f) (now times) (now counts) (now parts) s × (s .from ≤ i) × Before (now times) (s .to) end ⌝ }
+    ensures { λ r. ⌜ Spans (fn-of f) (now (times .entry)) (now (counts .entry)) (now (parts .entry)) r × (r .from ≡ i) × Before (now (times .entry)) (r .to) end × (r .tally ≡ window-tally (fn-of f) (now (times .entry)) (now (counts .entry)) (now (parts .entry)) i end) × (1 ≤ r .tally .count) ⌝ }
+{
+    let l = trimmed(f, times, counts, parts, s, i);
+    let mut t = l.tally;
     let n = times.len() as u32;
-    let mut j = i + 1;
+    let mut j = l.to;
     while j < n {
         let e = event_at(times, counts, parts, j);
         if end <= e.time {
-            return t;
+            return Span {
+                from: i,
+                to: j,
+                tally: t,
+            };
         }
         t = t.with(f, e);
         j += 1;
     }
-    t
+    Span {
+        from: i,
+        to: j,
+        tally: t,
+    }
 }
 
-// The answer row of a window that ends at a time, and whose first event stands at place i.
-fn answer_at(f: u32, times: &[u32], counts: &[u16], parts: &[i64], i: u32, end: u32) -> Answer
-    requires { ⌜ Ordered (now times) × Parts (now times) (now counts) (now parts) × (i < length (now times)) ⌝ }
-    ensures { λ r. ⌜ (r .end ≡ end) × (r .figure ≡ figure-in (fn-of f) (window-tally (fn-of f) (now (times .entry)) (now (counts .entry)) (now (parts .entry)) i end)) ⌝ }
+// The answer row of a window that ends at a time.
+fn answer_of(f: u32, s: Span, end: u32) -> Answer
+    requires { ⌜ 1 ≤ s .tally .count ⌝ }
+    ensures { λ r. ⌜ (r .end ≡ end) × (r .figure ≡ figure-in (fn-of f) (s .tally)) ⌝ }
 {
-    let t = tally_at(f, times, counts, parts, i, end);
+    let t = s.tally;
     Answer {
         end: end,
         figure: t.figure(f),
@@ -360,6 +436,20 @@ fn count_windows(w: Windows, times: &[u32], room: u32) -> u32
     rows
 }
 
+// No answer rows, and the span of no events.
+fn no_rows() -> Run
+    ensures { λ r. ⌜ (r .rows ≡ 0) × (r .span .from ≡ 0) × (r .span .to ≡ 0) ⌝ }
+{
+    Run {
+        rows: 0,
+        span: Span {
+            from: 0,
+            to: 0,
+            tally: Tally { count: 0, part: 0 },
+        },
+    }
+}
+
 // How many answer rows pass with those of the windows from number k to the last, whose first event stands at one place; one more than the room where they are more.
 fn count_run(
     f: u32,
@@ -370,26 +460,34 @@ fn count_run(
     words: &[u32],
     picks: &[u32],
     room: u32,
-    rows: u32,
     event: u32,
     k: u32,
     last: u32,
-) -> u32
-    requires { ⌜ Bounded w × Timed (w .clock) (now times) × Parts (now times) (now counts) (now parts) × (rows ≤ room) × (rows ≤ k) × (k ≤ last) × Runs w (now times) event k (last + 1) ⌝ }
-    ensures { λ r. ⌜ r ≡ min (rows + length (picked-rows (now (words .entry)) (now (picks .entry)) (run-rows w (fn-of f) (now (times .entry)) (now (counts .entry)) (now (parts .entry)) event k (last + 1)))) (suc room) ⌝ }
+    begun: Run,
+) -> Run
+    requires { ⌜ Bounded w × Timed (w .clock) (now times) × Parts (now times) (now counts) (now parts) × (begun .rows ≤ room) × (begun .rows ≤ k) × (k ≤ last) × Runs w (now times) event k (last + 1) × Kept w (fn-of f) (now times) (now counts) (now parts) k (begun .span) ⌝ }
+    ensures { λ r. ⌜ (r .rows ≡ min (begun .rows + length (picked-rows (now (words .entry)) (now (picks .entry)) (run-rows w (fn-of f) (now (times .entry)) (now (counts .entry)) (now (parts .entry)) event k (last + 1)))) (suc room)) × Kept w (fn-of f) (now (times .entry)) (now (counts .entry)) (now (parts .entry)) (last + 1) (r .span) ⌝ }
 {
-    let mut r = rows;
+    let mut r = begun.rows;
+    let mut span = begun.span;
     let mut end = k * w.offset + w.size;
     let last_end = last * w.offset + w.size;
     while end <= last_end {
         if room < r {
-            return r;
+            return Run {
+                rows: r,
+                span: span,
+            };
         }
-        let a = answer_at(f, times, counts, parts, event, end);
+        span = moved(f, times, counts, parts, span, event, end);
+        let a = answer_of(f, span, end);
         r = counted(words, picks, a, r);
         end += w.offset;
     }
-    r
+    Run {
+        rows: r,
+        span: span,
+    }
 }
 
 // How many of them pass; one more than the room where they are more.
@@ -406,15 +504,15 @@ fn count_picked(
     requires { ⌜ Bounded w × Timed (w .clock) (now times) × Parts (now times) (now counts) (now parts) ⌝ }
     ensures { λ r. ⌜ r ≡ min (length (picked-rows (now (words .entry)) (now (picks .entry)) (answers w (fn-of f) (events-from (now (times .entry)) (now (counts .entry)) (now (parts .entry)) 0)))) (suc room) ⌝ }
 {
-    let mut rows: u32 = 0;
+    let mut r = no_rows();
     let mut p = next(w, times, 0, 0);
     while p.found {
-        if room < rows {
-            return rows;
+        if room < r.rows {
+            return r.rows;
         }
         let i = p.event as usize;
         let last = last_with(w, times[i]);
-        rows = count_run(
+        r = count_run(
             f,
             w,
             times,
@@ -423,14 +521,14 @@ fn count_picked(
             words,
             picks,
             room,
-            rows,
             p.event,
             p.window,
             last,
+            r,
         );
         p = next(w, times, last + 1, p.event);
     }
-    rows
+    r.rows
 }
 
 // Returns how many answer rows pass the conditions that end at some places of the words, or one more than the room where they are more; 0 where the events may not be lent.
@@ -466,23 +564,28 @@ fn put_run(
     picks: &[u32],
     cells: &mut [i64],
     at: u32,
-    rows: u32,
     event: u32,
     k: u32,
     last: u32,
-) -> u32
-    requires { ⌜ Bounded w × Timed (w .clock) (now times) × Parts (now times) (now counts) (now parts) × (rows ≤ k) × (k ≤ last) × Runs w (now times) event k (last + 1) ⌝ }
-    ensures { λ r. ⌜ Behind (picked-rows (now (words .entry)) (now (picks .entry)) (run-rows w (fn-of f) (now (times .entry)) (now (counts .entry)) (now (parts .entry)) event k (last + 1))) (now (cells .entry)) at rows (now (cells .exit)) r ⌝ }
+    begun: Run,
+) -> Run
+    requires { ⌜ Bounded w × Timed (w .clock) (now times) × Parts (now times) (now counts) (now parts) × (begun .rows ≤ k) × (k ≤ last) × Runs w (now times) event k (last + 1) × Kept w (fn-of f) (now times) (now counts) (now parts) k (begun .span) ⌝ }
+    ensures { λ r. ⌜ Behind (picked-rows (now (words .entry)) (now (picks .entry)) (run-rows w (fn-of f) (now (times .entry)) (now (counts .entry)) (now (parts .entry)) event k (last + 1))) (now (cells .entry)) at (begun .rows) (now (cells .exit)) (r .rows) × Kept w (fn-of f) (now (times .entry)) (now (counts .entry)) (now (parts .entry)) (last + 1) (r .span) ⌝ }
 {
-    let mut r = rows;
+    let mut r = begun.rows;
+    let mut span = begun.span;
     let mut end = k * w.offset + w.size;
     let last_end = last * w.offset + w.size;
     while end <= last_end {
-        let a = answer_at(f, times, counts, parts, event, end);
+        span = moved(f, times, counts, parts, span, event, end);
+        let a = answer_of(f, span, end);
         r = put(words, picks, a, cells, at, r);
         end += w.offset;
     }
-    r
+    Run {
+        rows: r,
+        span: span,
+    }
 }
 
 // The cells of those that pass.
@@ -500,12 +603,12 @@ fn write_rows(
     requires { ⌜ Bounded w × Timed (w .clock) (now times) × Parts (now times) (now counts) (now parts) ⌝ }
     ensures { λ r. ⌜ Written (picked-rows (now (words .entry)) (now (picks .entry)) (answers w (fn-of f) (events-from (now (times .entry)) (now (counts .entry)) (now (parts .entry)) 0))) (now (cells .entry)) at (now (cells .exit)) r ⌝ }
 {
-    let mut rows: u32 = 0;
+    let mut r = no_rows();
     let mut p = next(w, times, 0, 0);
     while p.found {
         let i = p.event as usize;
         let last = last_with(w, times[i]);
-        rows = put_run(
+        r = put_run(
             f,
             w,
             times,
@@ -515,14 +618,14 @@ fn write_rows(
             picks,
             cells,
             at,
-            rows,
             p.event,
             p.window,
             last,
+            r,
         );
         p = next(w, times, last + 1, p.event);
     }
-    rows
+    r.rows
 }
 
 // Returns how many answer rows pass the conditions that end at some places of the words; 0 where the events may not be lent.
