@@ -17,9 +17,10 @@ static void grants_all(int n) {
     while (n-- > 0) grant(OWN);
     set("(pick (< test.volts 200) (in test))");
 }
-static void windows(int n) { char s[64]; snprintf(s, sizeof s, "(avg test.volts %d 1 (in test))", n); set(s); }
-static void windows_dense(int n) { overlapping(); windows(n); }
-static void windows_sparse(int n) { gaps(); windows(n); }
+static void windows(const char *f, int n) { char s[64]; snprintf(s, sizeof s, "(%s test.volts %d 1 (in test))", f, n); set(s); }
+static void windows_dense(int n) { overlapping(); windows("avg", n); }
+static void windows_sparse(int n) { gaps(); windows("avg", n); }
+static void windows_greatest(int n) { overlapping(); windows("max", n); }
 /* a pick of n comparisons that every row passes */
 static void text_rows(int n) {
     one_grant();
@@ -36,12 +37,13 @@ static const struct curve curves[] = {
     { "rows of a stream", "join of two", rows_join, { 0, 16, 32, 64, 128, -1 } },
     { "grants", "one open", grants_one, { 1, 2, 4, 8, 16, 24, -1 } },
     { "grants", "all open", grants_all, { 1, 2, 4, 8, 16, -1 } },
-    { "windows of a row", "rows 1 apart", windows_dense, { 1, 2, 4, 8, 16, 32, 64, -1 } },
-    { "windows of a row", "rows 15 apart", windows_sparse, { 1, 2, 4, 8, 16, 32, 64, -1 } },
+    { "windows of a row", "averages, rows 1 apart", windows_dense, { 1, 2, 4, 8, 16, 32, 64, -1 } },
+    { "windows of a row", "averages, rows 15 apart", windows_sparse, { 1, 2, 4, 8, 16, 32, 64, -1 } },
+    { "windows of a row", "greatest, rows 1 apart", windows_greatest, { 1, 2, 4, 8, 16, 32, 64, -1 } },
     { "bytes of text", "128 rows", text_rows, { 0, 1, 2, 4, 8, 16, 25, -1 } },
     { "bytes of text", "no rows", text_alone, { 0, 1, 2, 4, 8, 16, 25, -1 } },
 };
-enum { CURVES = sizeof curves / sizeof *curves, SAMPLES = 1 + 5 + 5 + 6 + 5 + 7 + 7 + 7 + 7 };
+enum { CURVES = sizeof curves / sizeof *curves, SAMPLES = 1 + 5 + 5 + 6 + 5 + 7 + 7 + 7 + 7 + 7 };
 static const struct curve *on;
 static int point;
 

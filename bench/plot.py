@@ -9,7 +9,7 @@ TITLES = {
     "windows of a row": ("Overlapping windows", "windows that hold a row (SIZE / OFFSET)"),
     "bytes of text": ("Text", "bytes of the query (a pick of 0 to 25 comparisons)"),
 }
-COLOURS = ["#1b5e9e", "#c2501b"]
+COLOURS = ["#1b5e9e", "#c2501b", "#3a7d44"]
 STYLE = "text{font-family:sans-serif;font-size:12px;fill:#222}.t{font-size:15px;font-weight:bold}.g{stroke:#ddd}.a{stroke:#444}"
 
 
