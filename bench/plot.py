@@ -41,11 +41,11 @@ def line(x1, y1, x2, y2, kind):
 
 
 def marks(curves):
-    """where the axes have numbers: across at the points, where these do not crowd; up at round numbers"""
+    """where the axes have numbers: across at the points, where these do not crowd; up at round numbers, with room for the names of the curves"""
     xs = sorted({x for points in curves.values() for x, _ in points})
     wide = xs[-1]
     kept = [x for i, x in enumerate(xs) if x == wide or (x * 12 >= wide and xs[i + 1] - x >= wide / 12)]
-    high = ticks(max(y for points in curves.values() for _, y in points))
+    high = ticks(max(y for points in curves.values() for _, y in points) * (8 + len(curves)) // 8)
     return ([0] if kept[0] else []) + kept, high
 
 
