@@ -1,9 +1,10 @@
-"""narrow.py IN.ll OUT.ll: the compiler's module for a machine whose memory has fewer than 2^32 bytes.
+"""narrow.py [--numbers] IN.ll OUT.ll: the compiler's module for a machine whose memory has fewer than 2^32 bytes.
 
 - A slice, which the module keeps as a pointer and a length of 64 bits, has a length of 32 bits.
 - A number of 64 bits that is below 2^32 in every run is kept and handed over in 32 bits: a local, an argument or a result of a function that only this module calls.
   That it is below is found by the greatest value each number can have, from constants, narrower numbers, lengths, and the comparisons that a block stands behind; of what is read from memory nothing is known.
-A number that is not found below stays as it is, so that no result changes. Outside every proof, as tools/retarget.py, which comes after it.
+A number that is not found below stays as it is, so that no result changes. With --numbers slices stay as they are too, and the module runs on any machine (tests/narrow).
+Outside every proof, as tools/retarget.py, which comes after it.
 """
 import re
 import sys
@@ -452,5 +453,6 @@ def narrowed(lines):
 
 
 if __name__ == '__main__':
-    module = open(sys.argv[1]).read().split('\n')
-    open(sys.argv[2], 'w').write('\n'.join(narrowed(slices(module))))
+    source, made = sys.argv[-2:]
+    module = open(source).read().split('\n')
+    open(made, 'w').write('\n'.join(narrowed(module if '--numbers' in sys.argv else slices(module))))
