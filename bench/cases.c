@@ -35,7 +35,7 @@ static void entries(void) {
 }
 
 struct sample { const char *label; void (*make)(void); int call; };
-enum { NONE, GRANT, DECLARE, ROW, ROW_LINE, CLOCK, CLOCK_LINE, CLEAR_LINE, CALLER };
+enum { NONE, GRANT, DECLARE, ROW, ROW_LINE, CLOCK, CLOCK_LINE, CLEAR, CLEAR_LINE, CALLER, FRESH, NOBODY };
 static void typical(void) { set("(grant fitter read (of test) (show test.unit test.volts) (when (= test.lot self.lot)))"); }
 static void no_line(void) { set(""); }
 static void wide(void) { fill("(grant a min (of a) (show *) (when", " (= a.a 1)", "))"); }
@@ -78,10 +78,13 @@ static const struct sample samples[] = {
     { "clock call", no_line, CLOCK },
     { "clock line", clock_line, CLOCK_LINE },
     { "clock line, a long number (refused)", clock_digits, CLOCK_LINE },
+    { "clear call", no_line, CLEAR },
     { "clear line", clear_line, CLEAR_LINE },
     { "caller line", caller_line, CALLER },
     { "caller line, many roles (refused)", caller_roles, CALLER },
     { "caller line, many entries (refused)", caller_entries, CALLER },
+    { "a fresh ledger", no_line, FRESH },
+    { "a caller of no role", no_line, NOBODY },
 };
 enum { SAMPLES = sizeof samples / sizeof *samples };
 
@@ -102,8 +105,11 @@ __attribute__((noinline)) uint32_t measured(int k) {
     case ROW_LINE: return maltziru_row_line(ledger, names, NAMES, text(), size, times, PLACES, values, VALUES).refusal;
     case CLOCK: return maltziru_clock(ledger, 5).refusal;
     case CLOCK_LINE: return maltziru_clock_line(ledger, text(), size).refusal;
+    case CLEAR: return maltziru_clear(ledger).refusal;
     case CLEAR_LINE: return maltziru_clear_line(ledger, text(), size).refusal;
     case CALLER: return maltziru_caller(maltziru_nobody(), text(), size).refusal;
+    case FRESH: return maltziru_fresh().clock;
+    case NOBODY: return maltziru_nobody().roles;
     default: return 0;
     }
 }
