@@ -20,6 +20,11 @@ def arguments(text):
     return [a.split(' ') for a in text.split(', ')] if text else []
 
 
+def read_low(v, place):
+    """A number of which the lower half is kept in a place."""
+    return ['  %sn = load i32, ptr %s, align 4' % (v, place), '  %s = zext i32 %sn to i64' % (v, v)]
+
+
 def bodies(lines):
     """Each function with the lines of its body."""
     name = None
@@ -94,7 +99,7 @@ def slices(lines):
                 continue
             m = re.match(r'  (%\w+) = load i64, ptr (%\w+)', line)
             if m and m.group(2) in lengths:
-                out += ['  %sn = load i32, ptr %s, align 4' % m.groups(), '  %s = zext i32 %sn to i64' % (m.group(1), m.group(1))]
+                out += read_low(*m.groups())
                 continue
             m = re.match(r'  store i64 (\S+), ptr (%\w+)', line)
             if m and m.group(2) in lengths:
@@ -423,7 +428,7 @@ def narrowed(lines):
                 continue
             m = re.match(r'  (%\w+) = load i64, ptr (%\w+)', line)
             if m and m.group(2) in small:
-                out += ['  %sn = load i32, ptr %s, align 4' % m.groups(), '  %s = zext i32 %sn to i64' % (m.group(1), m.group(1))]
+                out += read_low(*m.groups())
                 continue
             m = re.match(r'  store i64 (\S+), ptr (%\w+)', line)
             if m and m.group(2) in small:

@@ -13,12 +13,11 @@ import os
 import re
 import sys
 
+from narrow import copy, head
+
 lines = open(sys.argv[1]).read().split('\n')
 apart = {n for n in sys.argv[4:] if n[0] != '+'}
 within = {n[1:] for n in sys.argv[4:] if n[0] == '+'}
-
-head = re.compile(r'define (internal )?(.*?)@("[^"]+"|[\w.]+)\((.*)\) (#\d+) \{')
-copy = re.compile(r'  call void @llvm\.memmove\.p0\.p0\.i64\(ptr (%\w+), ptr (%\w+), i64 (\d+), i1 false\)')
 
 
 def mutable_copies(crates):

@@ -9,6 +9,7 @@ use lib.Dec.{leb}
 use lib.ListN.{length, getD, take, drop, length-drop, drop-of-length-le}
 use lib.Seq.{take-all, drop-cons}
 use borrow.Author.Tests.{lt-leb, le-leb, le-ltb, not-true, not-false}
+use Rattle.lists.proofs.Laws.{and-true}
 use Rattle.syntax.specs.Limits.{max-grants}
 use Rattle.grant.specs.Grants.{grant-words, grant-sound}
 use Rattle.grant.specs.Catalogues.{catalogue-words, words-in, sound-from, catalogue-sound}
@@ -121,13 +122,9 @@ module _ (n : Needs) (ns : List ℕ) (gs : List Grant) (ws roles profile : List 
   too-many zero h = rw (lt-leb (length gs) max-grants h)
   too-many (suc k) h = rw (too-many k h)
 
-  and-true : (b : Bool) → b ≡ (b && true)
-  and-true true = refl
-  and-true false = refl
-
   none-after : (o : Opened) (i : ℕ) → o ≡ and-then o i []
   unfolding open-from sound-from
-  none-after o i = ap (λ (s : Bool). record { opens = o .opens; sound = s }) (and-true (o .sound))
+  none-after o i = ap (λ (s : Bool). record { opens = o .opens; sound = s }) (sym (and-true (o .sound)))
 
   pub taken-all : (k : ℕ) → k ≡ min (length gs) max-grants → taken k ≡ opened-in n ns gs ws roles profile
   taken-all k e = go (decLt max-grants (length gs)) ∙ all-taken k (omega arith)

@@ -8,6 +8,7 @@ use native.Mathlib.Omega.{arith}
 use lib.Dec.{eqb}
 use borrow.Author.Tests.{eq-eqb, ne-eqb, lt-ltb, le-ltb}
 use Rattle.lists.specs.Lists.{some?}
+use Rattle.lists.proofs.Laws.{and-true, and-false}
 use Rattle.lists.proofs.Gathers.{some-append}
 use Rattle.syntax.specs.Grammar.{eq, ne, lt, le, gt, ge, Cond}
 use Rattle.model.specs.Queries.{figure, same-col, column, time, number, self, Compare}
@@ -56,16 +57,8 @@ is-code a code v = go (decLt a 24) (decLt code 24)
             apart (yes f) = rw (eq-eqb (a / 6) (code / 6) f, ne-eqb (a % 6) (code % 6) (λ g. e (omega arith)))
             apart (no f) = rw (ne-eqb (a / 6) (code / 6) f)
     go (no h) (yes l) = ap (is-col (coded-col a)) (column-term code v l) ∙ (unfold is-col coded-col same-col column-code in rw (le-ltb a 24 (omega arith), ne-eqb code 25 (λ e. omega arith)))
-    go (yes h) (no l) = other (omega arith) ∙ (unfold coded-col same-col column-code in rw (lt-ltb a 24 h, ne-eqb code a (λ e. omega arith)) (none (eqb code 25)))
-      where
-        none : (b : Bool) → (b && false) ≡ false
-        none true = refl
-        none false = refl
-    go (no h) (no l) = other (omega arith) ∙ (unfold coded-col same-col column-code in rw (le-ltb a 24 (omega arith)) (lone (eqb code 25)))
-      where
-        lone : (b : Bool) → (b && true) ≡ b
-        lone true = refl
-        lone false = refl
+    go (yes h) (no l) = other (omega arith) ∙ (unfold coded-col same-col column-code in rw (lt-ltb a 24 h, ne-eqb code a (λ e. omega arith)) (and-false (eqb code 25)))
+    go (no h) (no l) = other (omega arith) ∙ (unfold coded-col same-col column-code in rw (le-ltb a 24 (omega arith)) (and-true (eqb code 25)))
 
 -- ---- a node
 

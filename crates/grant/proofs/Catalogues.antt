@@ -7,7 +7,7 @@ use native.Mathlib.Omega.{arith}
 use lib.Dec.{T, leb, le→leb}
 use lib.ListN.{length, length-append}
 use Rattle.lists.specs.Lists.{every}
-use Rattle.lists.proofs.Laws.{and-l, and-r, and-both, and-four}
+use Rattle.lists.proofs.Laws.{and-true, and-l, and-r, and-both, and-four}
 use Rattle.calls.specs.Validity.{valid-grant, valid-catalogue}
 use Rattle.schema.specs.Schemas.{schema-of}
 use Rattle.grant.specs.declared.Grant.{Grant}
@@ -75,11 +75,7 @@ from-add ns ws i (h ∷ gs) g =
 
 sound-add : (ns ws : List ℕ) (i : ℕ) (gs : List Grant) (g : Grant) → sound-from ns ws i (gs ++ (g ∷ [])) ≡ (sound-from ns ws i gs && grant-sound ns g (words-in ws (i + length gs)))
 unfolding sound-from
-sound-add ns ws i [] g = let e : i + 0 ≡ i = omega arith in alone (grant-sound ns g (words-in ws i)) ∙ ap (λ j. grant-sound ns g (words-in ws j)) (sym e)
-  where
-    alone : (a : Bool) → (a && true) ≡ a
-    alone true = refl
-    alone false = refl
+sound-add ns ws i [] g = let e : i + 0 ≡ i = omega arith in and-true (grant-sound ns g (words-in ws i)) ∙ ap (λ j. grant-sound ns g (words-in ws j)) (sym e)
 sound-add ns ws i (h ∷ gs) g =
     let e : suc i + length gs ≡ i + suc (length gs) = omega arith in
     ap (λ b. grant-sound ns h (words-in ws i) && b) (sound-add ns ws (suc i) gs g ∙ ap (λ j. sound-from ns ws (suc i) gs && grant-sound ns g (words-in ws j)) e)

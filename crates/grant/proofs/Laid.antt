@@ -9,7 +9,7 @@ use lib.Dec.{T, eqb, leb, ltb, leb→le, ltb→lt, eqb→eq}
 use lib.ListN.{length, length-append}
 use borrow.Author.Tests.{eq-eqb, ne-eqb}
 use Rattle.lists.specs.Lists.{every, gather}
-use Rattle.lists.proofs.Laws.{and-l, and-r, or-cases, parts, true-T, T-true, append-nil, gather-append, and-four}
+use Rattle.lists.proofs.Laws.{and-true, and-l, and-r, or-cases, parts, true-T, T-true, append-nil, gather-append, and-four}
 use Rattle.lists.proofs.Gathers.{every-append-same}
 use Rattle.syntax.specs.Grammar.{Cond}
 use Rattle.model.specs.Conditions.{tests, tests-of, conds-of}
@@ -177,10 +177,6 @@ module _ (ws : List ℕ) where
     and-assoc true b c = refl
     and-assoc false b c = refl
 
-    and-true : (a : Bool) → a ≡ (a && true)
-    and-true true = refl
-    and-true false = refl
-
     -- a comparison
     compare-between : (k : ℕ) → 0 < k → T (comparing (node-at ws k)) → T (linked-at k) → T (back linked-at (prior k)) → Between (link ws k) k (cond-of ws k ∷ [])
     unfolding linked gather every
@@ -236,7 +232,7 @@ module _ (ws : List ℕ) where
 
     none-compared : (stop : ℕ) → fits stop ≡ (fits stop && every (compare-fit mask) (gather tests []))
     unfolding gather every
-    none-compared stop = and-true (fits stop)
+    none-compared stop = sym (and-true (fits stop))
 
     mutual
       cond-between : (f k : ℕ) → 2 * k ≤ f → 0 < k → T (back linked-at k) → Between (link ws k) k (cond-of ws k ∷ [])

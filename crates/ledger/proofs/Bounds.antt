@@ -9,6 +9,7 @@ use lib.ListN.{getD}
 use borrow.Author.Tests.{le-leb, lt-leb, not-true, not-false}
 use mathlib.Core.List.{List}
 use Rattle.lists.specs.Lists.{every}
+use Rattle.lists.proofs.Laws.{and-true}
 use Rattle.syntax.specs.Limits.{max-rows, top}
 use Rattle.ledger.specs.declared.Ledger.{Ledger}
 use Rattle.ledger.specs.Records.{count-in, ledger-sound, times-steady, stream-steady}
@@ -76,11 +77,7 @@ module _ (times : List ℕ) (low i : ℕ) where
       rising-third h = sym (rising-is ∙ rw (le-leb low (getD times i 0) g, le-leb (getD times i 0) (here 1) k, lt-leb (here 1) (here 2) h))
 
       pub rising-last : here 1 ≤ here 2 → leb (here 2) (here 3) ≡ times-steady times low (here 3) i 4
-      rising-last h = sym (rising-is ∙ rw (le-leb low (getD times i 0) g, le-leb (getD times i 0) (here 1) k, le-leb (here 1) (here 2) h) (both (leb (here 2) (here 3))))
-        where
-          both : (b : Bool) → (b && true) ≡ b
-          both true = refl
-          both false = refl
+      rising-last h = sym (rising-is ∙ rw (le-leb low (getD times i 0) g, le-leb (getD times i 0) (here 1) k, le-leb (here 1) (here 2) h) (and-true (leb (here 2) (here 3))))
 
   steady-four : (k end : ℕ) → i + 4 ≤ end → times-steady times low k i (end - i) ≡ (times-steady times low (here 3) i 4 && times-steady times (here 3) k (i + 4) (end - (i + 4)))
   unfolding times-steady

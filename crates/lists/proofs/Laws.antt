@@ -11,6 +11,14 @@ use Rattle.lists.specs.Lists.{select, every, some?, empty?, nth, gather,
 
 -- ---- tests
 
+pub and-true : (b : Bool) → (b && true) ≡ b
+and-true true = refl
+and-true false = refl
+
+pub and-false : (b : Bool) → (b && false) ≡ false
+and-false true = refl
+and-false false = refl
+
 pub and-l : (a b : Bool) → T (a && b) → T a
 and-l true b t = tt
 and-l false b t = absurd t

@@ -7,6 +7,7 @@ use lib.Dec.{eqb}
 use lib.ListN.{length}
 use borrow.Author.Tests.{eq-eqb, ne-eqb, lt-ltb, le-ltb, le-leb, lt-leb, not-true, not-false}
 use Rattle.lists.specs.Lists.{every, count-from}
+use Rattle.lists.proofs.Laws.{and-true, and-false}
 use Rattle.lists.proofs.Counting.{every-past, every-fails, every-done}
 use native.Mathlib.Omega.{arith}
 use Rattle.schema.specs.Schemas.{filled, streams-in, width-in, zeros, named-from, stream-sound, streams-sound, schema-sound}
@@ -38,17 +39,9 @@ pub columns-undeclared : (ns : List ℕ) (s n : ℕ) {z : Bool} → n ≤ s → 
 unfolding stream-sound
 columns-undeclared ns s n {z} h f = rw (le-leb n s h) (go (filled ns (4 + s * 6) 6) refl)
   where
-    none : (b : Bool) → (b && true) ≡ b
-    none true = refl
-    none false = refl
-
-    some : (b : Bool) → (b && false) ≡ false
-    some true = refl
-    some false = refl
-
     go : (w : ℕ) → w ≡ filled ns (4 + s * 6) 6 → z ≡ (zeros ns (4 + s * 6 + w) (6 - w) && eqb w 0)
-    go zero e = let d : 4 + s * 6 + 0 ≡ 4 + s * 6 = omega arith in rw d (f ∙ sym (none (zeros ns (4 + s * 6) 6)))
-    go (suc w) e = rw (ne-eqb (suc w) 0 (λ q. omega arith)) (f ∙ zeros-not ns (4 + s * 6) 5 (filled-first ns (4 + s * 6) 6 (omega arith)) ∙ sym (some (zeros ns (4 + s * 6 + suc w) (6 - suc w))))
+    go zero e = let d : 4 + s * 6 + 0 ≡ 4 + s * 6 = omega arith in rw d (f ∙ sym (and-true (zeros ns (4 + s * 6) 6)))
+    go (suc w) e = rw (ne-eqb (suc w) 0 (λ q. omega arith)) (f ∙ zeros-not ns (4 + s * 6) 5 (filled-first ns (4 + s * 6) 6 (omega arith)) ∙ sym (and-false (zeros ns (4 + s * 6 + suc w) (6 - suc w))))
 
 module _ (ns : List ℕ) (s n : ℕ) (h : s < n) {w : ℕ} {z : Bool} (e : w ≡ filled ns (4 + s * 6) 6) (f : z ≡ zeros ns (4 + s * 6 + w) (6 - w)) where
   zeros-are : zeros ns (4 + s * 6 + filled ns (4 + s * 6) 6) (6 - filled ns (4 + s * 6) 6) ≡ z
