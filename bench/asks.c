@@ -32,32 +32,87 @@ static void figure_join(void) {
     grant("(grant fitter avg (of test pack) (show *) (when (= test.unit pack.unit)))");
     set("(avg test.volts 64 1 (join (= test.unit pack.unit) (in test) (in pack)))");
 }
-/* two full streams whose rows are all pairs, by sixteen grants and a pick with as many comparisons as fit */
-static void worst_by(const char *when, const char *pick) {
+/* as many grants of a line, each with as many conditions as fit */
+static void full_grants(int n, const char *head, const char *when) {
+    while (n-- > 0) {
+        set(head);
+        while (size + 1 + count(when) + 2 <= LINE) { add(" "); add(when); }
+        add("))");
+        grants[granted] = maltziru_grant(names, NAMES, granted, text(), size, words, WORDS).grant;
+        granted++;
+    }
+}
+/* a query with a pick of as many comparisons as fit before a tail of at most 40 bytes */
+static void full_pick(const char *head, const char *pick, const char *tail) {
+    set(head);
+    while (size + 1 + count(pick) + 40 <= LINE) { add(" "); add(pick); }
+    add(tail);
+}
+/* 24 full grants of the dearest conditions to look over, to a caller's last role */
+#define COMB "(or (or (or (or (or (= a.a 1))))))"
+static void full_catalogue(void) {
+    declare("(stream a a b c d e f)");
+    declare("(stream b a b c d e f)");
+    declare("(stream c a b c d e f)");
+    declare("(stream d a b c d e f)");
+    ledger.clock = 2000000;
+    for (int s = 0; s < 4; s++) rows(s, 128, 0, 1, 1, same);
+    caller("(caller (roles a b c d) (self a 1) (self b 1) (self c 1) (self d -2147483648))");
+}
+static void full_refused(void) { full_catalogue(); full_grants(24, "(grant d max (of a b) (show *) (when (= a.a b.a)", COMB); set("(in a)"); }
+static void full_line(void) {
+    full_catalogue();
+    full_grants(20, "(grant d max (of a) (show *) (when", COMB);
+    full_grants(2, "(grant d read (of a) (show *) (when", COMB);
+    full_grants(2, "(grant d read (of b) (show *) (when", "(= b.a self.d)");
+    full_pick("(pick (and", "(= a.a b.a)", ") (join (= a.a b.a) (in a) (in b)))");
+}
+/* one stream by as many full grants as have room for their answers, the greatest value in 64 windows of each row */
+static void full_windows(void) {
+    declare("(stream a a)");
+    ledger.clock = 2000000000;
+    rows(0, 128, 48, 1, 1, same);
+    caller("(caller (roles a))");
+    full_grants(10, "(grant a read (of a) (show *) (when", "(> a.a 0)");
+    full_pick("(max a.a 64 1 (pick (and", "(> time 0)", ") (in a)))");
+}
+/* two full streams whose rows are all pairs, by some grants with as many comparisons as fit */
+static void all_pairs(int n, const char *grant_head, const char *when) {
     declare("(stream a a)");
     declare("(stream b a)");
     ledger.clock = 2000000;
     rows(0, 128, 0, 0, 1, same);
     rows(1, 128, 0, 1, 1, same);
     caller("(caller (roles a))");
-    for (int i = 0; i < 16; i++) {
-        set("(grant a read (of a b) (show *) (when (= a.a b.a)");
-        while (size + 1 + count(when) + 2 <= LINE) { add(" "); add(when); }
-        add("))");
-        grants[granted] = maltziru_grant(names, NAMES, granted, text(), size, words, WORDS).grant;
-        granted++;
-    }
-    set("(max a.a 64 64 (pick (and");
-    while (size + 1 + count(pick) + 40 <= LINE) { add(" "); add(pick); }
-    add(") (join (= a.a b.a) (in a) (in b))))");
+    full_grants(n, grant_head, when);
 }
-static void worst_pair(void) { worst_by("(= a.a b.a)", "(= a.a b.a)"); }
-static void worst_number(void) { worst_by("(= b.a 1)", "(= b.a 1)"); }
-static void worst_right(void) { worst_by("(= b.a b.a)", "(= b.a b.a)"); }
-static void worst_time(void) { worst_by("(= b.a b.a)", "(< time 9)"); }
-static void worst_same_time(void) { worst_by("(= b.a b.a)", "(= time 9)"); }
-static void worst_time_column(void) { worst_by("(= b.a b.a)", "(> time b.a)"); }
-static void worst_time_same(void) { worst_by("(= b.a b.a)", "(= time b.a)"); }
+/* by read grants, and a pick with as many comparisons as fit */
+static void worst_of(int n, const char *when, const char *pick) {
+    all_pairs(n, "(grant a read (of a b) (show *) (when (= a.a b.a)", when);
+    full_pick("(max a.a 64 64 (pick (and", pick, ") (join (= a.a b.a) (in a) (in b))))");
+}
+static void worst_pair(void) { worst_of(16, "(= a.a b.a)", "(= a.a b.a)"); }
+static void worst_number(void) { worst_of(16, "(= b.a 1)", "(= b.a 1)"); }
+static void worst_right(void) { worst_of(16, "(= b.a b.a)", "(= b.a b.a)"); }
+static void worst_time(void) { worst_of(16, "(= b.a b.a)", "(< time 9)"); }
+static void worst_same_time(void) { worst_of(16, "(= b.a b.a)", "(= time 9)"); }
+static void worst_time_column(void) { worst_of(16, "(= b.a b.a)", "(> time b.a)"); }
+static void worst_time_same(void) { worst_of(16, "(= b.a b.a)", "(= time b.a)"); }
+static void worst_order(void) { worst_of(16, "(<= b.a b.a)", "(> time b.a)"); }
+static void worst_one(void) { worst_of(1, "(<= b.a b.a)", "(> time b.a)"); }
+static void worst_rows(void) {
+    all_pairs(16, "(grant a read (of a b) (show *) (when (= a.a b.a)", "(<= b.a b.a)");
+    full_pick("(pick (and (< b.a 0)", "(> time b.a)", ") (join (= a.a b.a) (in a) (in b)))");
+}
+static void figure_all(void) {
+    all_pairs(0, "", "");
+    grant("(grant a read (of a b) (show *) (when (= a.a b.a)))");
+    set("(max a.a 64 1 (join (= a.a b.a) (in a) (in b)))");
+}
+static void worst_figures(void) {
+    all_pairs(16, "(grant a max (of a b) (show *) (when (= a.a b.a)", "(<= b.a b.a)");
+    set("(max a.a 64 64 (join (= a.a b.a) (in a) (in b)))");
+}
 
 struct sample { const char *label; void (*make)(void); int route; };
 static const struct sample samples[] = {
@@ -78,13 +133,16 @@ static const struct sample samples[] = {
     { "such conditions over a joined pair", deep_join, 0 },
     { "averages over a joined pair", figure_join, 0 },
     { "averages over a joined pair with such conditions", deep_figures, 0 },
+    { "greatest in 64 windows over all pairs of two full streams", figure_all, 0 },
     { "line of the scan", scan, 1 },
     { "line of the join", joined, 1 },
     { "line of sixteen routes, the last", sixteen, 16 },
     { "line of averages over a joined pair", figure_join, 1 },
     { "line of seven nested picks", nested_picks, 1 },
     { "line of such averages", deep_figures, 1 },
-#ifndef CHIP
+    { "24 full grants, query refused 9", full_refused, 0 },
+    { "24 full grants, line of a join, four routes", full_line, 4 },
+    { "one stream by ten full grants, greatest in 64 windows", full_windows, 0 },
     { "worst: comparisons of left with right", worst_pair, 0 },
     { "worst: comparisons of right with a number", worst_number, 0 },
     { "worst: comparisons of right with right", worst_right, 0 },
@@ -92,7 +150,10 @@ static const struct sample samples[] = {
     { "worst: time the same as a number", worst_same_time, 0 },
     { "worst: comparisons of time with right", worst_time_column, 0 },
     { "worst: time the same as right", worst_time_same, 0 },
-#endif
+    { "worst: order of right with right, time with right", worst_order, 0 },
+    { "the same by one grant", worst_one, 0 },
+    { "worst: joined rows by such conditions", worst_rows, 0 },
+    { "figures granted by sixteen full grants", worst_figures, 0 },
 };
 enum { SAMPLES = sizeof samples / sizeof *samples };
 

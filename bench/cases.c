@@ -53,6 +53,7 @@ static void row_call(void) { full_record(); }
 static void clock_line(void) { set("(clock 12345)"); }
 static void clock_digits(void) { fill("(clock ", "9", ")"); }
 static void clear_line(void) { set("(clear)"); }
+static void clear_word(void) { fill("(clear", "a", ")"); }
 static void caller_line(void) { set("(caller (roles fitter) (self lot 7))"); }
 static void caller_roles(void) { fill("(caller (roles", " a", "))"); }
 static void caller_entries(void) { fill("(caller (roles)", " (self a 1)", ")"); }
@@ -80,6 +81,7 @@ static const struct sample samples[] = {
     { "clock line, a long number (refused)", clock_digits, CLOCK_LINE },
     { "clear call", no_line, CLEAR },
     { "clear line", clear_line, CLEAR_LINE },
+    { "clear line, a long word (refused)", clear_word, CLEAR_LINE },
     { "caller line", caller_line, CALLER },
     { "caller line, many roles (refused)", caller_roles, CALLER },
     { "caller line, many entries (refused)", caller_entries, CALLER },

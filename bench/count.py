@@ -1,22 +1,10 @@
-"""count.py ON OFF SAID: instructions between two marks of a trace, case by case, beside what the program said."""
+"""count.py COUNTS SAID: instructions and milliseconds at 48 MHz of each case, from what bench/cycles.c counted, beside what the program said of it. The first case is no call and is taken off."""
 import sys
 
-on, off = (int(x, 16) & ~1 for x in sys.argv[1:3])
-counting, n, counts = False, 0, []
-for line in sys.stdin:
-    if not line.startswith("Trace"):
-        continue
-    pc = int(line.split("/")[1], 16)
-    if pc == on:
-        counting, n = True, 0
-    elif pc == off:
-        counting = False
-        counts.append(n)
-    elif counting:
-        n += 1
-said = [line[1:].rstrip("\n").split("|") for line in open(sys.argv[3]) if line.startswith("#")]
-base = counts[0] if counts else 0
-for (_, label, answer, stack, _), n in zip(said, counts):
-    print(f"{n - base:8d}  {stack:>6}  {answer:>2}  {label}")
+counts = [tuple(int(x) for x in line.split()) for line in open(sys.argv[1])]
+said = [line[1:].rstrip("\n").split("|") for line in open(sys.argv[2]) if line.startswith("#")]
 if len(said) != len(counts) or not said:
-    sys.exit("the program ended early: " + open(sys.argv[3]).read()[:500])
+    sys.exit("the program ended early: " + open(sys.argv[2]).read()[:500])
+none = counts[0]
+for (_, label, answer, stack, _), (n, cycles) in zip(said, counts):
+    print(f"{n - none[0]:10d}  {(cycles - none[1]) / 48000:10.3f}  {stack:>6}  {answer:>4}  {label}")

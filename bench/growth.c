@@ -1,7 +1,13 @@
 /* Queries that grow: in the rows of their streams, the grants, the windows of a row, and their text. */
 #include "fixtures.h"
-#include <stdio.h>
 
+/* a number as text, at the end of the room for it */
+static const char *digits(unsigned n) {
+    static char s[11];
+    char *p = s + 10;
+    do { *--p = (char)('0' + n % 10); n /= 10; } while (n);
+    return p;
+}
 static void rows_scan(int n) { scan(); ledger.rows[0] = n; }
 static void rows_join(int n) { joined(); ledger.rows[0] = ledger.rows[1] = n; }
 static const char *OWN = "(grant fitter read (of test) (show test.unit test.volts) (when (= test.lot self.lot)))";
@@ -17,7 +23,7 @@ static void grants_all(int n) {
     while (n-- > 0) grant(OWN);
     set("(pick (< test.volts 200) (in test))");
 }
-static void windows(const char *f, int n) { char s[64]; snprintf(s, sizeof s, "(%s test.volts %d 1 (in test))", f, n); set(s); }
+static void windows(const char *f, int n) { set("("); add(f); add(" test.volts "); add(digits((unsigned)n)); add(" 1 (in test))"); }
 static void windows_dense(int n) { overlapping(); windows("avg", n); }
 static void windows_sparse(int n) { gaps(); windows("avg", n); }
 static void windows_greatest(int n) { overlapping(); windows("max", n); }
@@ -66,15 +72,24 @@ static __attribute__((noinline)) uint32_t ask(void) {
     return r.refusal ? r.refusal : r.count;
 }
 /* from the same place of the stack whatever is below it: copies there cost a little more or less by their place */
-__attribute__((noipa)) uint32_t measured(int k) {
+#ifdef __clang__
+__attribute__((noinline))
+#else
+__attribute__((noipa))
+#endif
+uint32_t measured(int k) {
     _Alignas(64) volatile uint32_t r = k ? ask() : 0;
     return r;
 }
 static uint32_t left(int k) { (void)k; return sum(1, cells, sizeof cells); }
+static char *joined_to(char *p, const char *s) { while (*s) *p++ = *s++; return p; }
 static const char *label(int k) {
     static char s[64] = "nothing";
     (void)k;
-    if (on) snprintf(s, sizeof s, "%s; %s; %d", on->axis, on->name, point);
+    if (!on) return s;
+    char *p = joined_to(joined_to(s, on->axis), "; ");
+    p = joined_to(joined_to(p, on->name), "; ");
+    *joined_to(p, digits((unsigned)point)) = 0;
     return s;
 }
 #include "main.h"

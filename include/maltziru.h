@@ -3,6 +3,10 @@
  * A C11 header, also C++ clean, with no dependency but the C library's own headers for integers. The library keeps nothing between calls: all memory is lent by the program, and what goes from call to
  * call (the ledger, the grants, the caller) is handed over by value.
  *
+ * A line or query goes in as its bytes and how many they are: a newline or NUL at its end would be one byte more, which no form has (1).
+ * The library has no variables, so that calls are reentrant: one may run in a task or an interrupt while another is under way. A record (ledger, names, times, values) and a catalogue have one writer at
+ * a time, and none while a call that was lent them is under way; calls that only read them, maltziru_ask and maltziru_line, may run side by side.
+ *
  * What every call does, for any text, numbers and contents of lent memory:
  *   - it returns 0 or one of the twelve refusals below, the first in their fixed order whose condition holds;
  *   - refused, it leaves every lent place as it was, and returns the ledger or caller as it was given;
@@ -22,6 +26,11 @@
 extern "C" {
 #endif
 
+/* The version of this header and its library: the first number moves when a program that uses them has to be changed, the second when there is something new. */
+#define MALTZIRU_VERSION_MAJOR 0
+#define MALTZIRU_VERSION_MINOR 9
+#define MALTZIRU_VERSION (MALTZIRU_VERSION_MAJOR * 1000 + MALTZIRU_VERSION_MINOR)
+
 /* How much to lend. */
 #define MALTZIRU_STREAMS 4                                                          /* streams */
 #define MALTZIRU_COLUMNS 6                                                          /* columns of a stream */
@@ -36,9 +45,15 @@ extern "C" {
 #define MALTZIRU_ENTRIES 4                                                          /* profile entries of a caller */
 #define MALTZIRU_ROUTES 16                                                          /* routes of an answer */
 #define MALTZIRU_LINE 512                                                           /* bytes of a line that is read */
-#define MALTZIRU_LINE_BYTES 4096                                                    /* bytes that hold every rewritten line */
+#define MALTZIRU_LINE_BYTES 4096                                                    /* bytes that hold every rewritten line, of grants that calls made */
 
-/* The refusals, in the order in which their conditions are tried. */
+/* How many cells an answer has: four for each route and those of its rows, `width` a row, which is one for time and one for each column; and one for the number of routes.
+ * Routes of different widths or rows have one and the MALTZIRU_ROUTE_CELLS of each; the second macro with the greatest of them is room for all.
+ * One stream has at most MALTZIRU_ROWS rows, a join MALTZIRU_ROWS times as many, an aggregate 64 for each row of its stream or of its two. */
+#define MALTZIRU_ROUTE_CELLS(width, rows) (4 + (width) * (rows))
+#define MALTZIRU_ANSWER_CELLS(routes, width, rows) (1 + (routes) * MALTZIRU_ROUTE_CELLS(width, rows))
+
+/* The refusals, in the order in which their conditions are tried. Structs and results hold them as uint32_t and never as this type, so that it may have any size (-fshort-enums). */
 enum maltziru_refusal {
     MALTZIRU_ACCEPTED = 0,
     MALTZIRU_LENT = 12,        /* something lent that calls cannot have made, or too little of it */
@@ -104,7 +119,8 @@ struct maltziru_ledger_reply maltziru_clock(struct maltziru_ledger ledger, int64
 struct maltziru_ledger_reply maltziru_row(struct maltziru_ledger ledger, const uint64_t *names, maltziru_len names_len, maltziru_len stream, const int32_t *row,
     maltziru_len row_len, uint32_t *times, maltziru_len times_len, int32_t *values, maltziru_len values_len);
 
-/* Drops all rows and keeps the clock. Refusal 12. Times and values stay where they are and are read no more. */
+/* Drops all rows and keeps the clock. Refusal 12. Times and values stay where they are. What stands past a stream's count may still be read, as rows are compared many at once and those past the
+ * count masked off; but no result of any call hangs on it. */
 struct maltziru_ledger_reply maltziru_clear(struct maltziru_ledger ledger);
 
 /* The same by lines: `(clock N)`, `(row S N ..)`, `(clear)`. Refusals 1 and 3 of the text beside those of the call. */
@@ -139,7 +155,9 @@ struct maltziru_reply maltziru_ask(const struct maltziru_grant *grants, maltziru
     struct maltziru_caller caller, const uint8_t *query, maltziru_len query_len, int64_t *cells, maltziru_len cells_len);
 
 /* Writes the line of route number `route` (from 1) of a query: the query as it is put to the record for that route, which run with no grants gives the route's rows.
- * Refusals as above. Accepted: `count` bytes of the line stand in front, without an end mark; all bytes past them are as they were. Refused: all are. */
+ * Refusals as above. Accepted: `count` bytes of the line stand in front, without an end mark; all bytes past them are as they were. Refused: all are.
+ * MALTZIRU_LINE_BYTES hold every line of grants that maltziru_grant made. Lent grants and words that no call made, but that pass 12, can have conditions for which a grant line has no room: their line
+ * can be longer, and is 11 then. */
 struct maltziru_reply maltziru_line(const struct maltziru_grant *grants, maltziru_len grants_len, const uint32_t *words, maltziru_len words_len, struct maltziru_ledger ledger,
     const uint64_t *names, maltziru_len names_len, const uint32_t *times, maltziru_len times_len, const int32_t *values, maltziru_len values_len,
     struct maltziru_caller caller, int64_t route, const uint8_t *query, maltziru_len query_len, uint8_t *bytes, maltziru_len bytes_len);

@@ -1,7 +1,8 @@
-/* Start of a program on a Cortex-M in qemu: output by semihosting, and the stack's high-water mark. */
+/* Start of a program on a Cortex-M in qemu: output by semihosting, and the stack's high-water mark. With NEWLIB, newlib's own start follows. */
 #include <stdint.h>
 extern uint32_t data_from[], data_begin[], data_end[], bss_begin[], bss_end[], stack_top[];
 int main(void);
+void _start(void);
 static void semihost(uint32_t op, const void *p) {
     register uint32_t r0 __asm__("r0") = op;
     register const void *r1 __asm__("r1") = p;
@@ -33,7 +34,11 @@ void reset(void) {
     uint32_t *s = data_from;
     for (uint32_t *d = data_begin; d < data_end;) *d++ = *s++;
     for (volatile uint32_t *d = bss_begin; d < bss_end;) *d++ = 0;
+#ifdef NEWLIB
+    _start();
+#else
     main();
+#endif
     semihost(0x18, (void *)0x20026);
     for (;;) {}
 }

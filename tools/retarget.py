@@ -139,7 +139,9 @@ while changed:
                 if (b in others or b not in f['align']) and (callee, i) in lone:
                     lone.discard((callee, i))
 called = {c for f in functions.values() for c, _ in f['calls']}
-
+gone = (apart | within) - {n.strip('"') for n in functions}
+if gone:
+    sys.exit('retarget.py: no such function: ' + ' '.join(sorted(gone)))
 
 
 def elided(name, f, j):

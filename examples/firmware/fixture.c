@@ -1,5 +1,8 @@
 /* What the fixture's firmware does between two panels: declares its streams, takes rows with the clock, loads grants, asks as a fitter and as a reseller, prints a line, and meets refusals. */
 #include "maltziru.h"
+#if MALTZIRU_VERSION_MAJOR != 0
+#error "written for version 0 of the library"
+#endif
 
 #ifdef CHIP
 void put(const char *s);
@@ -17,7 +20,7 @@ static uint32_t times[MALTZIRU_TIMES];
 static int32_t values[MALTZIRU_VALUES];
 static struct maltziru_grant grants[MALTZIRU_GRANTS];
 static uint32_t words[MALTZIRU_WORDS];
-static int64_t cells[256];
+static int64_t cells[MALTZIRU_ANSWER_CELLS(1, 4, MALTZIRU_ROWS)]; /* one route, three columns, a full stream */
 static uint8_t bytes[MALTZIRU_LINE_BYTES];
 
 /* All that goes from call to call. */

@@ -1,10 +1,14 @@
-/* The header against the library, which nothing else compares: sizes and places of the structs, the amounts to lend, and the refusals' numbers. */
+/* The header against the library, which nothing else compares: sizes and places of the structs, the amounts to lend, how many cells an answer has, and the refusals' numbers. */
 #include "maltziru.h"
 #include <stdio.h>
 #include <string.h>
 
-static int failures;
-#define CHECK(x) do { if (!(x)) { printf("layout.c:%d: %s\n", __LINE__, #x); failures++; } } while (0)
+static int checks, failures;
+#define CHECK(x) do { checks++; if (!(x)) { printf("layout.c:%d: %s\n", __LINE__, #x); failures++; } } while (0)
+
+#if MALTZIRU_VERSION < 9 || MALTZIRU_VERSION / 1000 != MALTZIRU_VERSION_MAJOR || MALTZIRU_VERSION % 1000 != MALTZIRU_VERSION_MINOR
+#error "a program cannot tell the version"
+#endif
 
 _Static_assert(sizeof(struct maltziru_ledger) == 20, "ledger");
 _Static_assert(sizeof(struct maltziru_grant) == 56, "grant");
@@ -19,8 +23,8 @@ static uint32_t times[MALTZIRU_TIMES];
 static int32_t values[MALTZIRU_VALUES];
 static struct maltziru_grant grants[MALTZIRU_GRANTS + 1];
 static uint32_t words[MALTZIRU_WORDS];
-static int64_t cells[64];
-static uint8_t bytes[64];
+static int64_t cells[MALTZIRU_ANSWER_CELLS(MALTZIRU_ROUTES, 1 + MALTZIRU_COLUMNS, MALTZIRU_ROWS)];
+static uint8_t bytes[4 * MALTZIRU_LINE_BYTES];
 
 static const uint8_t *text(const char *s) { return (const uint8_t *)s; }
 static uint32_t stream(const char *s) { return maltziru_stream(names, MALTZIRU_NAMES, text(s), strlen(s)); }
@@ -99,10 +103,94 @@ static void amounts(void) {
     CHECK(maltziru_clock_line(maltziru_fresh(), NULL, 0).refusal == MALTZIRU_MALFORMED);
 }
 
+/* so many cells are an answer's, and with one less it is 11 */
+static int has_cells(maltziru_len g, struct maltziru_ledger l, struct maltziru_caller who, const char *q, maltziru_len n) {
+    struct maltziru_reply r = ask(g, MALTZIRU_WORDS, l, MALTZIRU_NAMES, MALTZIRU_TIMES, MALTZIRU_VALUES, who, q, n);
+    return r.refusal == 0 && r.count == n && ask(g, MALTZIRU_WORDS, l, MALTZIRU_NAMES, MALTZIRU_TIMES, MALTZIRU_VALUES, who, q, n - 1).refusal == MALTZIRU_NO_ROOM;
+}
+/* the macros for cells: no rows, rows of all columns and of some, joined rows, windows, and routes that differ */
+static void answers(void) {
+    memset(names, 0, sizeof names);
+    CHECK(stream("(stream a u v w x y z)") == 0 && stream("(stream b u)") == 0);
+    grants[0] = grant("(grant r read (of a) (show *))", 0).grant;
+    grants[1] = grant("(grant r read (of b) (show *))", 1).grant;
+    for (unsigned i = 2; i < MALTZIRU_ROUTES; i++) grants[i] = grant("(grant r read (of a) (show a.u) (when (> a.u 99)))", i).grant;
+    struct maltziru_caller who = caller("(caller (roles r))").caller;
+    struct maltziru_ledger l = maltziru_fresh();
+    CHECK(has_cells(2, l, who, "(in a)", MALTZIRU_ANSWER_CELLS(1, 7, 0)));
+    for (unsigned i = 0; i < MALTZIRU_ROWS; i++) {
+        const int32_t row[6] = { (int32_t)i };
+        l = maltziru_clock(l, i).ledger;
+        l = maltziru_row(l, names, MALTZIRU_NAMES, 0, row, 6, times, MALTZIRU_TIMES, values, MALTZIRU_VALUES).ledger;
+        if (i < 3) l = maltziru_row(l, names, MALTZIRU_NAMES, 1, row, 1, times, MALTZIRU_TIMES, values, MALTZIRU_VALUES).ledger;
+    }
+    CHECK(has_cells(2, l, who, "(in a)", MALTZIRU_ANSWER_CELLS(1, 7, MALTZIRU_ROWS)));
+    CHECK(has_cells(2, l, who, "(keep a.v a.u (pick (< a.u 5) (in a)))", MALTZIRU_ANSWER_CELLS(1, 3, 5)));
+    CHECK(has_cells(2, l, who, "(join (= a.u b.u) (in a) (in b))", MALTZIRU_ANSWER_CELLS(1, 1 + 6 + 1, 3)));
+    CHECK(has_cells(2, l, who, "(join (= a.v b.u) (in a) (in b))", MALTZIRU_ANSWER_CELLS(1, 1 + 6 + 1, MALTZIRU_ROWS)));
+    CHECK(has_cells(2, l, who, "(sum a.u 1 1 (in a))", MALTZIRU_ANSWER_CELLS(1, 2, MALTZIRU_ROWS - 1)));
+    CHECK(has_cells(2, maltziru_clock(l, 1000).ledger, who, "(max a.u 64 1 (in a))", MALTZIRU_ANSWER_CELLS(1, 2, MALTZIRU_ROWS)));
+    CHECK(has_cells(3, l, who, "(in a)", 1 + MALTZIRU_ROUTE_CELLS(7, MALTZIRU_ROWS) + MALTZIRU_ROUTE_CELLS(2, 28)));
+    for (unsigned i = 0; i < MALTZIRU_ROUTES; i++) grants[i] = grants[0];
+    CHECK(has_cells(MALTZIRU_ROUTES, l, who, "(in a)", MALTZIRU_ANSWER_CELLS(MALTZIRU_ROUTES, 7, MALTZIRU_ROWS)));
+    CHECK(ask(1, MALTZIRU_WORDS, l, MALTZIRU_NAMES, MALTZIRU_TIMES, MALTZIRU_VALUES, who, "(in a)", sizeof cells / sizeof *cells).count == MALTZIRU_ANSWER_CELLS(1, 7, MALTZIRU_ROWS));
+}
+
+/* a line has no end mark: with a newline or NUL it is none of the forms */
+static void ends(void) {
+    static const char *const marks[2] = { "\n", "\0" };
+    memset(names, 0, sizeof names);
+    CHECK(stream("(stream a x)") == 0);
+    grants[0] = grant("(grant r read (of a) (show *))", 0).grant;
+    struct maltziru_caller who = caller("(caller (roles r))").caller;
+    for (int i = 0; i < 2; i++) {
+        char q[] = "(in a)?", c[] = "(clear)?", t[] = "(clock 1)?", s[] = "(stream b x)?", r[] = "(row a 1)?", g[] = "(grant r read (of a) (show *))?", w[] = "(caller (roles r))?";
+        char *const lines[] = { q, c, t, s, r, g, w };
+        const maltziru_len n[] = { sizeof q - 1, sizeof c - 1, sizeof t - 1, sizeof s - 1, sizeof r - 1, sizeof g - 1, sizeof w - 1 };
+        for (int k = 0; k < 7; k++) lines[k][n[k] - 1] = *marks[i];
+        const struct maltziru_ledger l = maltziru_fresh();
+        CHECK(maltziru_ask(grants, 1, words, MALTZIRU_WORDS, l, names, MALTZIRU_NAMES, times, MALTZIRU_TIMES, values, MALTZIRU_VALUES, who, text(q), n[0], cells, 64).refusal == MALTZIRU_MALFORMED);
+        CHECK(maltziru_ask(grants, 1, words, MALTZIRU_WORDS, l, names, MALTZIRU_NAMES, times, MALTZIRU_TIMES, values, MALTZIRU_VALUES, who, text(q), n[0] - 1, cells, 64).refusal == 0);
+        CHECK(maltziru_line(grants, 1, words, MALTZIRU_WORDS, l, names, MALTZIRU_NAMES, times, MALTZIRU_TIMES, values, MALTZIRU_VALUES, who, 1, text(q), n[0], bytes, 64).refusal == MALTZIRU_MALFORMED);
+        CHECK(maltziru_clear_line(l, text(c), n[1]).refusal == MALTZIRU_MALFORMED && maltziru_clear_line(l, text(c), n[1] - 1).refusal == 0);
+        CHECK(maltziru_clock_line(l, text(t), n[2]).refusal == MALTZIRU_MALFORMED && maltziru_clock_line(l, text(t), n[2] - 1).refusal == 0);
+        CHECK(maltziru_stream(names, MALTZIRU_NAMES, text(s), n[3]) == MALTZIRU_MALFORMED);
+        CHECK(maltziru_row_line(l, names, MALTZIRU_NAMES, text(r), n[4], times, MALTZIRU_TIMES, values, MALTZIRU_VALUES).refusal == MALTZIRU_MALFORMED);
+        CHECK(maltziru_row_line(l, names, MALTZIRU_NAMES, text(r), n[4] - 1, times, MALTZIRU_TIMES, values, MALTZIRU_VALUES).refusal == 0);
+        CHECK(maltziru_grant(names, MALTZIRU_NAMES, 0, text(g), n[5], words, MALTZIRU_WORDS).refusal == MALTZIRU_MALFORMED);
+        CHECK(maltziru_caller(who, text(w), n[6]).refusal == MALTZIRU_MALFORMED && maltziru_caller(who, text(w), n[6] - 1).refusal == 0);
+    }
+}
+
+static struct maltziru_reply joined_line(maltziru_len room) {
+    static const char q[] = "(join (= aaaaaaaa.aaaaaaaa bbbbbbbb.bbbbbbbb) (in aaaaaaaa) (in bbbbbbbb))";
+    return maltziru_line(grants, 2, words, MALTZIRU_WORDS, maltziru_fresh(), names, MALTZIRU_NAMES, times, MALTZIRU_TIMES, values, MALTZIRU_VALUES, caller("(caller (roles r))").caller, 1,
+        text(q), sizeof q - 1, bytes, room);
+}
+/* two grants with as many comparisons as their words hold, which no line has room for: not 12, and a line of more than MALTZIRU_LINE_BYTES */
+static void long_line(void) {
+    memset(names, 0, sizeof names);
+    CHECK(stream("(stream aaaaaaaa aaaaaaaa)") == 0 && stream("(stream bbbbbbbb bbbbbbbb)") == 0);
+    grants[0] = grant("(grant r read (of aaaaaaaa) (show *) (when (/= aaaaaaaa.aaaaaaaa aaaaaaaa.aaaaaaaa)))", 0).grant;
+    grants[1] = grant("(grant r read (of bbbbbbbb) (show *) (when (/= bbbbbbbb.bbbbbbbb bbbbbbbb.bbbbbbbb)))", 1).grant;
+    CHECK(joined_line(MALTZIRU_LINE_BYTES).refusal == 0);
+    for (unsigned g = 0; g < 2; g++) {
+        /* a comparison is one word, whose highest byte says how many words stand before it */
+        for (uint32_t k = 1; k < MALTZIRU_GRANT_WORDS; k++) words[g * MALTZIRU_GRANT_WORDS + k] = words[g * MALTZIRU_GRANT_WORDS] + (k << 24);
+        grants[g].words = MALTZIRU_GRANT_WORDS;
+    }
+    CHECK(joined_line(MALTZIRU_LINE_BYTES).refusal == MALTZIRU_NO_ROOM);
+    struct maltziru_reply r = joined_line(sizeof bytes);
+    CHECK(r.refusal == 0 && r.count > MALTZIRU_LINE_BYTES && joined_line(r.count).refusal == 0 && joined_line(r.count - 1).refusal == MALTZIRU_NO_ROOM);
+}
+
 int main(void) {
     fields();
     amounts();
+    answers();
+    ends();
+    long_line();
     for (uint32_t n = 0; n <= 12; n++) CHECK(strcmp(maltziru_refusal_text(n), maltziru_refusal_text(13)) != 0);
-    if (!failures) printf("the header is the library's\n");
+    if (!failures) printf("header of version %d.%d: %d checks hold, enums of %d bytes\n", MALTZIRU_VERSION_MAJOR, MALTZIRU_VERSION_MINOR, checks, (int)sizeof(enum maltziru_refusal));
     return failures != 0;
 }
