@@ -21,7 +21,7 @@ use Rattle.query.specs.Tables.{query-forms}
 use Rattle.catalogue.specs.Callers.{profile-of}
 use Rattle.catalogue.specs.declared.Opened.{Opened}
 use Rattle.ask.specs.declared.Reply.{Reply}
-use Rattle.ask.specs.declared.Told.{Told}
+use Rattle.query_text.specs.declared.Told.{Told}
 use Rattle.ask.specs.Replies.{refused-with, Replies}
 use Rattle.ask.specs.Cells.{run-reply, Ready}
 use Rattle.ask.specs.Lines.{print-reply, Printable}

@@ -37,9 +37,10 @@ use Rattle.pairs.specs.Given.{plan-rows}
 use Rattle.evaluate.specs.Ways.{granted-in, way-of}
 use Rattle.evaluate.proofs.Meant.{Checked, route-in, listed}
 use Rattle.evaluate.proofs.Evaluated.{Evaluates, all-evaluates}
-use Rattle.ask.specs.Rows.{plan-width}
-use Rattle.ask.specs.Cells.{Setting, plan-of, way-rows, second-number, way-header, way-cells, routes-cells, run-cells, run-checks}
-use Rattle.ask.proofs.Plans.{width-is}
+use Rattle.route_rows.specs.Rows.{plan-width}
+use Rattle.route_cells.specs.Routes.{Setting, plan-of, way-rows, second-number, way-header, way-cells}
+use Rattle.ask.specs.Cells.{routes-cells, run-cells, run-checks}
+use Rattle.route_rows.proofs.Plans.{width-is}
 
 -- the numbers of a route's grants
 grants-are : (o : Open) (n : Needs) (x : R.Route) → grant-cells (numbers-of n x) ≡ pos (suc (way-of o n x .left .place)) ∷ (pos (second-number (way-of o n x)) ∷ [])

@@ -33,10 +33,12 @@ use Rattle.pairs.specs.Given.{plan-rows}
 use Rattle.evaluate.specs.Ways.{way-of}
 use Rattle.evaluate.proofs.Meant.{Checked, placing}
 use Rattle.evaluate.proofs.Evaluated.{Evaluates, all-evaluates, spans-some}
-use Rattle.ask.specs.Rows.{room-end, plan-width}
-use Rattle.ask.specs.Cells.{Setting, plan-of, way-rows, way-cells, most-cells, most-a-route, Evaluable, Ready}
-use Rattle.ask.proofs.Routes.{way-long}
-use Rattle.ask.proofs.Sizes.{rows-small, plain-few, figures-few}
+use Rattle.route_rows.specs.Rows.{room-end, plan-width}
+use Rattle.route_cells.specs.Routes.{Setting, plan-of, way-rows, way-cells}
+use Rattle.ask.specs.Cells.{most-cells, Evaluable, Ready}
+use Rattle.route_rows.specs.Rows.{most-a-route}
+use Rattle.route_cells.proofs.Routes.{way-long}
+use Rattle.route_rows.proofs.Sizes.{rows-small, plain-few, figures-few}
 
 -- a plan of one stream
 lone-plan : (p : Plan) (i : ℕ) → plan-streams p ≡ i ∷ [] → (p .joined ≡ false) × (p .left ≡ i)

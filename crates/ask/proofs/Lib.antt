@@ -1,13 +1,7 @@
-pub mod Ones
 pub mod Ends
-pub mod Plans
-pub mod Headers
-pub mod Keeping
-pub mod Routes
 pub mod Loops
 pub mod Most
 pub mod Running
-pub mod Sizes
 pub mod Evaluable
 pub mod Accepted
 pub mod Cells
@@ -15,12 +9,6 @@ pub mod Passed
 pub mod Numbered
 pub mod Replied
 pub mod Called
-pub mod Outer
-pub mod Filling
-pub mod Times
-pub mod Planned
-pub mod Alone
-pub mod Joined
 pub mod Lines
 pub mod Printed
 pub mod Reading

@@ -1,6 +1,6 @@
 -- The line of a route: what the functions return, one law for each return.
-use mathlib.Core.Path.{_≡_, refl, sym, ap, _∙_, subst}
-use mathlib.Core.List.{List, []}
+use mathlib.Core.Path.{_≡_, refl, sym, ap, _∙_}
+use mathlib.Core.List.{List}
 use mathlib.Core.Bool.{true, false, not}
 use mathlib.Core.Option.{none, some}
 use Prim.Native.Nat.{ℕ, zero, suc, _-_, _≤_, _<_}
@@ -8,7 +8,7 @@ use native.Mathlib.Omega.{arith}
 use lib.IntN.{ℤ, pos, negsuc, natAbs}
 use lib.Signed.{ltZ, nonNeg}
 use lib.Dec.{T, leb}
-use lib.ListN.{length, replicate}
+use lib.ListN.{length}
 use mir.Syntax.{w64}
 use mir.Val.{Fits, SFits, toZ, ofZ}
 use mir.Facts.{fits-natAbs}
@@ -25,24 +25,21 @@ use Rattle.syntax.specs.Limits.{natural}
 use Rattle.calls.specs.Names.{map-option}
 use Rattle.calls.specs.Replies.{reply, lent-after}
 use Rattle.calls.specs.Asking.{some-bytes, no-line}
-use Rattle.schema.specs.Schemas.{schema-of}
-use Rattle.query.specs.declared.Form.{Form}
-use Rattle.query.specs.Tables.{table-words, held, forms-in, rewritten-forms, rewritten-table}
 use Rattle.needs.specs.declared.Needs.{Needs}
 use Rattle.routes.specs.declared.Open.{Open}
 use Rattle.routes.specs.declared.Route.{Route}
 use Rattle.routes.specs.declared.Routes.{Routes}
 use Rattle.routes.specs.Listing.{no-route, routes-in, routes-of, route-at}
 use Rattle.routes.proofs.Listed.{route-listed}
-use Rattle.sides.specs.Sides.{words-of}
 use Rattle.print.specs.Writing.{furthest}
-use Rattle.print_query.specs.Texts.{table-text, has-room, Lined}
+use Rattle.print_query.specs.Texts.{has-room, Lined}
 use Rattle.print_query.specs.declared.Printed.{Printed}
-use Rattle.evaluate.specs.Ways.{way-of, way-forms}
+use Rattle.evaluate.specs.Ways.{way-of}
 use Rattle.evaluate.specs.declared.Way.{Way}
 use Rattle.ask.specs.declared.Reply.{Reply}
 use Rattle.ask.specs.Replies.{refused-with, reply-of, Replies}
-use Rattle.ask.specs.Lines.{Wording, written-forms, way-text, place-of, text-at, print-checks, print-reply, Printable}
+use Rattle.route_line.specs.Texts.{Wording, way-text}
+use Rattle.ask.specs.Lines.{place-of, text-at, print-checks, print-reply, Printable}
 
 -- ---- a number that is not below 0
 
@@ -77,13 +74,6 @@ module _ (z : ℤ) (fits : SFits w64 z) where
   natural-here e = rw back (high z (rw back at e) .1)
 
 pub ruleset natural-ends = (natural-low, natural-sign, natural-fits, natural-here, sfits-of)
-
--- ---- the text of a table that was written
-
-pub line-written : (ns own ws ps : List ℕ) (fs : List Form) (y : Way) {table : List ℕ} {n : ℕ} {m m′ : Bytes} {r : Printed} → held table n ≡ rewritten-table (replicate table-words 0) (way-forms ns y fs)
-    → Lined (table-text (schema-of ns) (words-of own ws ps) (forms-in table n) []) m m′ r → Lined (way-text (record { names = ns; own = own; granted = ws; profile = ps; forms = fs }) y) m m′ r
-unfolding way-text written-forms
-line-written ns own ws ps fs y {m = m} {m′ = m′} {r = r} e l = subst (λ t. Lined (table-text (schema-of ns) (words-of own ws ps) (rewritten-forms t) []) m m′ r) e l
 
 -- ---- the place of a number
 

@@ -27,9 +27,10 @@ use Rattle.routes.proofs.Listed.{route-listed}
 use Rattle.pairs.specs.Given.{Counted}
 use Rattle.evaluate.specs.Ways.{way-of}
 use Rattle.evaluate.specs.declared.Way.{Way}
-use Rattle.ask.proofs.Routes.{set-past}
-use Rattle.ask.specs.Kept.{kept-size, kept-at, Keepable, Keeping}
-use Rattle.ask.specs.Cells.{Setting, left-of, way-cells, Enterable, Turns, routes-cells, Evaluable, Runnable, Keeps}
+use Rattle.route_cells.proofs.Routes.{set-past}
+use Rattle.route_cells.specs.Kept.{kept-size, kept-at, Keepable, Keeping}
+use Rattle.route_cells.specs.Routes.{Setting, left-of, way-cells, Enterable, Turns}
+use Rattle.ask.specs.Cells.{routes-cells, Evaluable, Runnable, Keeps}
 
 -- ---- the first of some items
 

@@ -12,7 +12,7 @@ use Rattle.ledger.specs.declared.Ledger.{Ledger}
 use Rattle.ledger.proofs.Bounds.{count-le}
 use Rattle.needs.specs.Asking.{no-stream}
 use Rattle.needs.specs.declared.Needs.{Needs}
-use Rattle.ask.specs.Rows.{room-end}
+use Rattle.route_rows.specs.Rows.{room-end}
 use Rattle.ask.specs.Cells.{most-cells}
 
 pub width-few : (ns : List ℕ) (s : ℕ) {k : ℕ} → k ≡ width-in ns s → k ≤ 6

@@ -22,7 +22,8 @@ use Rattle.routes.specs.declared.Gate.{Gate}
 use Rattle.routes.specs.declared.Route.{Route}
 use Rattle.openings.specs.Made.{pair-kind, figures-kind}
 use Rattle.routes.specs.Listing.{places-in, right-sides, side-route, lone-route, side-routes, opened-routes, leaves-some, gate-of, routes-by, routes-in, most-opened}
-use Rattle.ask.specs.Lines.{Wording, place-of, text-at, print-checks, print-reply}
+use Rattle.route_line.specs.Texts.{Wording}
+use Rattle.ask.specs.Lines.{place-of, text-at, print-checks, print-reply}
 
 -- ---- how many routes there are
 

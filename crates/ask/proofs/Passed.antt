@@ -33,9 +33,10 @@ use Rattle.query_line.specs.Asking.{Means}
 use Rattle.catalogue.specs.Callers.{roles-of, profile-of}
 use Rattle.catalogue.specs.Opened.{opened-in}
 use Rattle.catalogue.specs.declared.Opened.{Opened}
-use Rattle.ask.specs.declared.Told.{Told}
-use Rattle.ask.specs.Texts.{TextRead}
+use Rattle.query_text.specs.declared.Told.{Told}
+use Rattle.query_text.specs.Texts.{TextRead}
 use Rattle.ask.specs.Asking.{Lending, lent-sound}
+use Rattle.query_text.proofs.Firsts.{not-first}
 
 -- ---- tables of checks, one after the other
 
@@ -108,12 +109,6 @@ pub record Passed (m : Memory) (ws : List ℕ) (who : Caller) (t : Told) (form :
 unfoldable pub of-form : (Form → List Check) → Option Form → List Check
 of-form rest none = []
 of-form rest (some f) = rest f
-
--- a check and those behind it hold off
-pub not-first : (a : Bool) (r : Refusal) (cs : List Check) → first (refuse r a ∷ cs) ≡ none → (a ≡ false) × (first cs ≡ none)
-unfolding first refuse
-not-first true r cs h = absurd (Option·none-ne-some r (sym h))
-not-first false r cs h = (refl, h)
 
 module _ (m : Memory) (ws : List ℕ) (who : Caller) (t : Told) (spare : ℕ) (bs : Bytes) (form : Option Form) (gs : List Grant) (text : TextRead spare form (m .names) bs t)
     {x : Opened} (opened : x ≡ opened-in (t .needs) (m .names) gs ws (roles-of who) (profile-of who)) {b : Bool} (may : b ≡ (memory-sound m && x .sound && caller-sound who))

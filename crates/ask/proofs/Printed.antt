@@ -42,7 +42,8 @@ use Rattle.evaluate.specs.Ways.{way-of}
 use Rattle.evaluate.proofs.Meant.{Checked, Meant, all-meant, route-in}
 use Rattle.evaluate.proofs.Short.{line-short}
 use Rattle.ask.proofs.Cells.{routes-are}
-use Rattle.ask.specs.Lines.{Wording, written-forms, way-text, place-of, text-at, Printable}
+use Rattle.route_line.specs.Texts.{Wording, written-forms, way-text}
+use Rattle.ask.specs.Lines.{place-of, text-at, Printable}
 
 below : (i n : ℕ) → ltb (suc i) (suc n) ≡ ltb i n
 below i n = go (decLt i n)

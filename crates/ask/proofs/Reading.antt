@@ -37,14 +37,14 @@ use Rattle.catalogue.specs.Callers.{roles-of, profile-of}
 use Rattle.catalogue.specs.Opened.{opened-in}
 use Rattle.catalogue.specs.declared.Opened.{Opened}
 use Rattle.catalogue.proofs.open_all as opens
-use Rattle.ask.specs.declared.Told.{Told}
-use Rattle.ask.specs.Texts.{QueryRead, AskRead, LineRead}
-use Rattle.ask.proofs.Told as D
-use Rattle.ask.proofs.Told.Laws as D′
-use Rattle.ask.proofs.read_query as reads
-use Rattle.ask.proofs.read_ask as reads-ask
-use Rattle.ask.proofs.read_line as reads-line
-use Rattle.ask.proofs.asks as wants
+use Rattle.query_text.specs.declared.Told.{Told}
+use Rattle.query_text.specs.Texts.{QueryRead, AskRead, LineRead}
+use Rattle.query_text.proofs.Told as D
+use Rattle.query_text.proofs.Told.Laws as D′
+use Rattle.query_text.proofs.read_query as reads
+use Rattle.query_text.proofs.read_ask as reads-ask
+use Rattle.query_text.proofs.read_line as reads-line
+use Rattle.query_text.proofs.asks as wants
 
 module _ {M : Type 1} (𝓤 : URA M) (H : Heap 𝓤) (A : Atoms 𝓤) (mem : Memory → SProp 𝓤) (run : Routine → Fun 𝓤) where
   -- the contracts that the proofs cite

@@ -46,11 +46,13 @@ use Rattle.catalogue.specs.declared.Opened.{Opened}
 use Rattle.catalogue.proofs.Held.{caller-held}
 use Rattle.evaluate.proofs.Meant.{Checked}
 use Rattle.ask.specs.declared.Reply.{Reply}
-use Rattle.ask.specs.declared.Told.{Told}
+use Rattle.query_text.specs.declared.Told.{Told}
 use Rattle.ask.specs.Replies.{refused-with, reply-of, Replies}
-use Rattle.ask.specs.Texts.{TextRead, RouteRead}
-use Rattle.ask.specs.Cells.{Setting, run-reply, run-checks, run-cells, Ready}
-use Rattle.ask.specs.Lines.{Wording, text-at, print-checks, print-reply, Printable}
+use Rattle.query_text.specs.Texts.{TextRead, RouteRead}
+use Rattle.route_cells.specs.Routes.{Setting}
+use Rattle.ask.specs.Cells.{run-reply, run-checks, run-cells, Ready}
+use Rattle.route_line.specs.Texts.{Wording}
+use Rattle.ask.specs.Lines.{text-at, print-checks, print-reply, Printable}
 use Rattle.ask.specs.Asking.{Lending, lent-sound, asked-table, asked, lined-table, lined}
 use Rattle.ask.proofs.Accepted.{checked, asks-is, resolved-is}
 use Rattle.ask.proofs.Evaluable.{routes-ready}

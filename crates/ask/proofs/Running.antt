@@ -25,8 +25,9 @@ use Rattle.routes.specs.Listing.{routes-in, routes-of}
 use Rattle.evaluate.specs.Ways.{way-of}
 use Rattle.ask.specs.declared.Reply.{Reply}
 use Rattle.ask.specs.Replies.{refused-with, reply-of, Replies}
-use Rattle.ask.specs.Rows.{room-end}
-use Rattle.ask.specs.Cells.{Setting, way-cells, routes-cells, most-cells, Runnable, run-cells, run-checks, run-reply, Ready}
+use Rattle.route_rows.specs.Rows.{room-end}
+use Rattle.route_cells.specs.Routes.{Setting, way-cells}
+use Rattle.ask.specs.Cells.{routes-cells, most-cells, Runnable, run-cells, run-checks, run-reply, Ready}
 use Rattle.answer.proofs.Joined.{gather-most}
 
 empty-none : {A : Type 0} (xs : List A) → length xs ≡ 0 → empty? xs ≡ true

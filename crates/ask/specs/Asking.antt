@@ -21,10 +21,10 @@ use Rattle.grant.specs.Catalogues.{catalogue-of, catalogue-sound}
 use Rattle.catalogue.specs.Callers.{roles-of, profile-of}
 use Rattle.catalogue.specs.Opened.{opened-in}
 use Rattle.catalogue.specs.declared.Opened.{Opened}
-use Rattle.ask.specs.declared.Told.{Told}
+use Rattle.query_text.specs.declared.Told.{Told}
 use Rattle.ask.specs.declared.Reply.{Reply}
 use Rattle.ask.specs.Replies.{Replies}
-use Rattle.ask.specs.Texts.{TextRead, RouteRead}
+use Rattle.query_text.specs.Texts.{TextRead, RouteRead}
 
 -- what is lent to a query: the record, the grants with their words, and the caller
 pub record Lending : Type 0 where

@@ -5,7 +5,7 @@ use mathlib.Core.Option.{Option, none, some}
 use Prim.Native.Nat.{ℕ, zero, suc, _<_}
 use lib.IntN.{ℤ, pos, negsuc}
 use lib.Dec.{ltb}
-use lib.ListN.{length, replicate}
+use lib.ListN.{length}
 use Rattle.refusal.specs.Checks.{Check, refuse, first}
 use Rattle.refusal.specs.declared.Refusal.the-variants.{NoRoute, ManyRoutes, NoRoom}
 use Rattle.lists.specs.Lists.{All, nth}
@@ -15,33 +15,13 @@ use Rattle.calls.specs.Names.{map-option}
 use Rattle.calls.specs.Replies as C
 use Rattle.calls.specs.Replies.{reply}
 use Rattle.calls.specs.Asking.{some-bytes, no-line}
-use Rattle.schema.specs.Schemas.{schema-of}
-use Rattle.query.specs.declared.Form.{Form}
-use Rattle.query.specs.Tables.{table-words, rewritten-forms, rewritten-table}
 use Rattle.needs.specs.declared.Needs.{Needs}
 use Rattle.routes.specs.declared.Open.{Open}
 use Rattle.routes.specs.declared.Route.{Route}
 use Rattle.routes.specs.Listing.{no-route, routes-in}
-use Rattle.sides.specs.Sides.{words-of}
 use Rattle.print.specs.Writing.{furthest}
-use Rattle.print_query.specs.Texts.{table-text}
-use Rattle.evaluate.specs.Ways.{way-of, way-forms}
-use Rattle.evaluate.specs.declared.Way.{Way}
-
--- what routes are written by: the names of the schema, the words of the query and of the grants, the profile, and the query's forms
-pub record Wording : Type 0 where
-  pub names : List ℕ
-  pub own : List ℕ
-  pub granted : List ℕ
-  pub profile : List ℕ
-  pub forms : List Form
-
--- the forms of a route's rewritten query, and their text
-unfoldable pub written-forms : Wording → Way → List Form
-written-forms s y = rewritten-forms (rewritten-table (replicate table-words 0) (way-forms (s .names) y (s .forms)))
-
-unfoldable pub way-text : Wording → Way → Bytes
-way-text s y = table-text (schema-of (s .names)) (words-of (s .own) (s .granted) (s .profile)) (written-forms s y) []
+use Rattle.evaluate.specs.Ways.{way-of}
+use Rattle.route_line.specs.Texts.{Wording, way-text}
 
 -- the place of the route of a number; routes are numbered from 1
 unfoldable pub place-of : ℕ → ℤ → Option ℕ

@@ -1,17 +1,17 @@
--- Demand 3, of the contracts of all calls: two whole lists of calls and lines from fresh stores, and then one query.
-use mathlib.Core.Path.{_≡_, refl, sym, ap, _∙_, subst}
+-- Demand 3, of the contracts of all calls: two whole lists of calls on the record from fresh memory, and then one query.
+use mathlib.Core.Path.{_≡_, refl, sym, ap, ap₂, _∙_, subst}
 use mathlib.Core.List.{List}
 use mathlib.Core.Bool.{Bool, true, false, _&&_}
+use mathlib.Core.Option.{Option}
 use Prim.Native.Nat.{ℕ}
 use lib.IntN.{ℤ}
 use lib.Dec.{T}
 use Rattle.lists.proofs.Laws.{T-true, true-T}
-use Rattle.syntax.specs.Grammar.{Bytes}
-use Rattle.syntax.specs.Readers.{parse-query}
+use Rattle.syntax.specs.Grammar.{Bytes, Form, RouteLine}
 use Rattle.model.specs.Queries as M
 use Rattle.model.specs.Alike.{Alike}
-use Rattle.calls.specs.Asking.{ask, line, with-route}
-use Rattle.calls.specs.Events.{Event, happened}
+use Rattle.calls.specs.Asking as A
+use Rattle.calls.specs.Calls.{Call, after}
 use Rattle.calls.specs.Replies as D
 use Rattle.calls.specs.Replies.{lent-after}
 use Rattle.calls.specs.Validity.{valid-record}
@@ -23,23 +23,22 @@ use Rattle.caller.specs.declared.Caller.{Caller}
 use Rattle.caller.specs.Callers.{caller-of, caller-sound}
 use Rattle.grant.specs.declared.Grant.{Grant}
 use Rattle.grant.specs.Catalogues.{catalogue-of, catalogue-sound}
-use Rattle.history.specs.Fixtures.{Store, fixture-of, Trace, Sound, Fresh}
-use Rattle.history.proofs.Events.{left-after}
+use Rattle.history.specs.States.{Sound, Fresh}
 use Rattle.ask.specs.declared.Reply.{Reply}
 use Rattle.ask.specs.Replies.{reply-of, Replies}
 use Rattle.ask.specs.Asking.{Lending, lent-sound, asked, lined}
-use Rattle.demands.proofs.Defined.{ask-is, asked-lent, line-is, lined-lent}
-use Rattle.demands.proofs.Catalogues.{sound-both, catalogue-both}
+use Rattle.demands.specs.Recording.{Recorded}
+use Rattle.demands.specs.Lending.{lending, SameLent}
+use Rattle.demands.proofs.Catalogues.{catalogue-both, sound-both}
+use Rattle.demands.proofs.Left.{left-after}
+use Rattle.demands.proofs.Defined.{asked-is, asked-lent, lined-is, lined-lent}
 
--- what is lent to a query: the record's memory, and any catalogue and caller
-abbrev pub lending : Memory → List Grant → List ℕ → Caller → Lending
-lending m gs ws w = record { memory = m; grants = gs; granted = ws; caller = w }
+-- the same reply leaves the same
+left-same : {A : Type 0} (y z : D.Reply A) → y ≡ z → {lent p q : List A} {i j : Reply} → Replies y lent p i → Replies z lent q j → (i ≡ j) × (p ≡ q)
+left-same y z e {lent} h l = (h .said ∙ ap reply-of e ∙ sym (l .said), h .left ∙ ap (λ x. lent-after x lent) e ∙ sym (l .left))
 
--- Two lists of calls, each from fresh memory, refused calls and queries included. After them grants and words are lent that stand for a catalogue, and a caller, the same both times.
--- If by the definitions the clock, the streams, and under that catalogue the caller's views and admitted figures are the same after both,
--- then every query, with the same cells lent, returned the same and left the same in all cells; and so did every call for a line.
-module _ {s t u v : Store} {es fs : List Event} (f : Fresh s) (r : Trace s es u) (g : Fresh t) (k : Trace t fs v)
-    (grants : List Grant) (words : List ℕ) (caller : Caller) (a : Alike (happened es .record-kept) (happened fs .record-kept) (caller-of caller) (catalogue-of (u .memory .names) grants words)) where
+-- Two lists of calls, each from fresh memory, refused calls included.
+module _ {m n u v : Memory} {cs ds : List Call} (f : Fresh m) (r : Recorded m cs u) (g : Fresh n) (k : Recorded n ds v) where
   sound-u : Sound u
   sound-u = left-after f r .1
 
@@ -47,80 +46,84 @@ module _ {s t u v : Store} {es fs : List Event} (f : Fresh s) (r : Trace s es u)
   sound-v = left-after g k .1
 
   -- what the lists left stands for what the definitions make of them
-  kept-u : record-of (u .memory) ≡ happened es .record-kept
-  unfolding fixture-of
-  kept-u = ap (λ x. x .record-kept) (left-after f r .0)
+  kept-u : record-of u ≡ after cs
+  kept-u = left-after f r .0
 
-  kept-v : record-of (v .memory) ≡ happened fs .record-kept
-  unfolding fixture-of
-  kept-v = ap (λ x. x .record-kept) (left-after g k .0)
+  kept-v : record-of v ≡ after ds
+  kept-v = left-after g k .0
 
-  same-schema : schema-of (u .memory .names) ≡ schema-of (v .memory .names)
-  unfolding record-of
-  same-schema = ap (λ x. x .schema) kept-u ∙ a .schemas ∙ sym (ap (λ x. x .schema) kept-v)
+  valid-u : T (valid-record (record-of u))
+  valid-u = sound-valid u (sound-u .typed .ranges) (sound-u .lent)
 
-  alike : Alike (record-of (u .memory)) (record-of (v .memory)) (caller-of caller) (catalogue-of (u .memory .names) grants words)
-  alike = subst (λ x. Alike x (record-of (v .memory)) (caller-of caller) (catalogue-of (u .memory .names) grants words)) (sym kept-u) (subst (λ y. Alike (happened es .record-kept) y (caller-of caller) (catalogue-of (u .memory .names) grants words)) (sym kept-v) a)
+  valid-v : T (valid-record (record-of v))
+  valid-v = sound-valid v (sound-v .typed .ranges) (sound-v .lent)
 
-  valid-u : T (valid-record (record-of (u .memory)))
-  valid-u = sound-valid (u .memory) (sound-u .memory .typed .ranges) (sound-u .memory .lent)
+  -- The same grants, words and caller lent after both lists, whatever they hold, are the same by the definitions where the streams are.
+  module _ (same : after cs .schema ≡ after ds .schema) (grants : List Grant) (words : List ℕ) (caller : Caller) where
+    same-schema : schema-of (u .names) ≡ schema-of (v .names)
+    unfolding record-of
+    same-schema = ap (λ x. x .schema) kept-u ∙ same ∙ sym (ap (λ x. x .schema) kept-v)
 
-  valid-v : T (valid-record (record-of (v .memory)))
-  valid-v = sound-valid (v .memory) (sound-v .memory .typed .ranges) (sound-v .memory .lent)
+    lent-in : (o : Memory) → Sound o → (b : Bool) → catalogue-sound (o .names) grants words ≡ b → lent-sound (lending o grants words caller) ≡ (b && caller-sound caller)
+    unfolding lent-sound
+    lent-in o k b e = rw (T-true (memory-sound o) (k .lent), e) refl
 
-  -- all of it may be lent, or the reply is 12 both times
-  lent-in : (m : Store) → Sound m → (b : Bool) → catalogue-sound (m .memory .names) grants words ≡ b → (c : Bool) → caller-sound caller ≡ c → lent-sound (lending (m .memory) grants words caller) ≡ (b && c)
-  unfolding lent-sound
-  lent-in m k b e c h = rw (T-true (memory-sound (m .memory)) (k .memory .lent), e, h) refl
+    pub same-structs : SameLent (lending u grants words caller) (lending v grants words caller)
+    same-structs = record {
+      lent =
+          lent-in u sound-u (catalogue-sound (u .names) grants words) refl
+          ∙ sym (lent-in v sound-v (catalogue-sound (u .names) grants words) (sym (sound-both (u .names) (v .names) same-schema grants words)));
+      catalogue = catalogue-both (u .names) (v .names) same-schema grants words;
+      caller = refl;
+    }
 
-  sound-v-is : catalogue-sound (v .memory .names) grants words ≡ catalogue-sound (u .memory .names) grants words
-  sound-v-is = sym (sound-both (u .memory .names) (v .memory .names) same-schema grants words)
+  -- After them grants, words and a caller are lent, by the definitions the same both times. If by the definitions the clock, the streams, and under that catalogue the caller's views and admitted
+  -- figures are the same after both, then every query, whatever text it was read from, with the same cells lent, returned the same and left the same in all cells; and so did every line.
+  module _ (gs hs : List Grant) (ws zs : List ℕ) (w z : Caller) (same : SameLent (lending u gs ws w) (lending v hs zs z))
+      (a : Alike (after cs) (after ds) (caller-of w) (catalogue-of (u .names) gs ws)) where
+    abbrev x : Lending
+    x = lending u gs ws w
 
-  same-lent : lent-sound (lending (u .memory) grants words caller) ≡ lent-sound (lending (v .memory) grants words caller)
-  same-lent =
-      lent-in u sound-u (catalogue-sound (u .memory .names) grants words) refl (caller-sound caller) refl
-      ∙ sym (lent-in v sound-v (catalogue-sound (u .memory .names) grants words) sound-v-is (caller-sound caller) refl)
+    abbrev y : Lending
+    y = lending v hs zs z
 
-  asked-same : (bs : Bytes) (cells : List ℤ) → asked 0 (parse-query bs) (lending (u .memory) grants words caller) bs cells ≡ asked 0 (parse-query bs) (lending (v .memory) grants words caller) bs cells
-  unfolding ask
-  asked-same bs cells = go (lent-sound (lending (u .memory) grants words caller)) refl
-    where
-      go : (b : Bool) → lent-sound (lending (u .memory) grants words caller) ≡ b → asked 0 (parse-query bs) (lending (u .memory) grants words caller) bs cells ≡ asked 0 (parse-query bs) (lending (v .memory) grants words caller) bs cells
-      go true e =
-          ask-is (lending (u .memory) grants words caller) (sound-u .memory .typed .ranges) (true-T _ e) bs cells
-          ∙ same-asked (record-of (u .memory)) (record-of (v .memory)) valid-u valid-v (caller-of caller) (catalogue-of (u .memory .names) grants words) alike 0 bs _ cells
-          ∙ ap (λ cat. ask (record-of (v .memory)) cat (caller-of caller) bs cells) (catalogue-both (u .memory .names) (v .memory .names) same-schema grants words)
-          ∙ sym (ask-is (lending (v .memory) grants words caller) (sound-v .memory .typed .ranges) (true-T _ (sym same-lent ∙ e)) bs cells)
-      go false e =
-          asked-lent (lending (u .memory) grants words caller) (sound-u .memory .typed .ranges) e 0 (parse-query bs) bs cells
-          ∙ sym (asked-lent (lending (v .memory) grants words caller) (sound-v .memory .typed .ranges) (sym same-lent ∙ e) 0 (parse-query bs) bs cells)
+    abbrev cat : List M.Grant
+    cat = catalogue-of (u .names) gs ws
 
-  lined-same : (n : ℤ) (bs out : Bytes) → lined 0 (with-route n (parse-query bs)) (lending (u .memory) grants words caller) bs out ≡ lined 0 (with-route n (parse-query bs)) (lending (v .memory) grants words caller) bs out
-  unfolding line
-  lined-same n bs out = go (lent-sound (lending (u .memory) grants words caller)) refl
-    where
-      go : (b : Bool) → lent-sound (lending (u .memory) grants words caller) ≡ b → lined 0 (with-route n (parse-query bs)) (lending (u .memory) grants words caller) bs out ≡ lined 0 (with-route n (parse-query bs)) (lending (v .memory) grants words caller) bs out
-      go true e =
-          line-is (lending (u .memory) grants words caller) (sound-u .memory .typed .ranges) (true-T _ e) n bs out
-          ∙ same-lined (record-of (u .memory)) (record-of (v .memory)) valid-u valid-v (caller-of caller) (catalogue-of (u .memory .names) grants words) (alike .clocks) (alike .schemas) 0 bs _ out
-          ∙ ap (λ cat. line (record-of (v .memory)) cat (caller-of caller) n bs out) (catalogue-both (u .memory .names) (v .memory .names) same-schema grants words)
-          ∙ sym (line-is (lending (v .memory) grants words caller) (sound-v .memory .typed .ranges) (true-T _ (sym same-lent ∙ e)) n bs out)
-      go false e =
-          lined-lent (lending (u .memory) grants words caller) (sound-u .memory .typed .ranges) e 0 (with-route n (parse-query bs)) bs out
-          ∙ sym (lined-lent (lending (v .memory) grants words caller) (sound-v .memory .typed .ranges) (sym same-lent ∙ e) 0 (with-route n (parse-query bs)) bs out)
+    alike : Alike (record-of u) (record-of v) (caller-of w) cat
+    alike = subst (λ o. Alike o (record-of v) (caller-of w) cat) (sym kept-u) (subst (λ o. Alike (after cs) o (caller-of w) cat) (sym kept-v) a)
 
-  -- the same reply leaves the same
-  left-same : {A : Type 0} (y z : D.Reply A) → y ≡ z → {lent p q : List A} {i j : Reply} → Replies y lent p i → Replies z lent q j → (i ≡ j) × (p ≡ q)
-  left-same y z e {lent} h l = (h .said ∙ ap reply-of e ∙ sym (l .said), h .left ∙ ap (λ x. lent-after x lent) e ∙ sym (l .left))
+    -- all of it may be lent, or the reply is 12 both times
+    asked-same : (spare : ℕ) (o : Option Form) (bs : Bytes) (cells : List ℤ) → asked spare o x bs cells ≡ asked spare o y bs cells
+    asked-same spare o bs cells = go (lent-sound x) refl
+      where
+        go : (b : Bool) → lent-sound x ≡ b → asked spare o x bs cells ≡ asked spare o y bs cells
+        go true e =
+            asked-is x (sound-u .typed .ranges) (true-T _ e) spare o bs cells
+            ∙ same-asked (record-of u) (record-of v) valid-u valid-v (caller-of w) cat alike spare bs o cells
+            ∙ ap₂ (λ (c : List M.Grant) (who : M.Caller). A.asked (record-of v) c who spare bs o cells) (same .catalogue) (same .caller)
+            ∙ sym (asked-is y (sound-v .typed .ranges) (true-T _ (sym (same .lent) ∙ e)) spare o bs cells)
+        go false e =
+            asked-lent x (sound-u .typed .ranges) e spare o bs cells
+            ∙ sym (asked-lent y (sound-v .typed .ranges) (sym (same .lent) ∙ e) spare o bs cells)
 
-  pub same-answers : (query : Bytes) (cells : List ℤ) {p q : List ℤ} {i j : Reply}
-      → Replies (asked 0 (parse-query query) (lending (u .memory) grants words caller) query cells) cells p i
-      → Replies (asked 0 (parse-query query) (lending (v .memory) grants words caller) query cells) cells q j
-      → (i ≡ j) × (p ≡ q)
-  same-answers query cells h l = left-same _ _ (asked-same query cells) h l
+    lined-same : (spare : ℕ) (o : Option RouteLine) (bs out : Bytes) → lined spare o x bs out ≡ lined spare o y bs out
+    lined-same spare o bs out = go (lent-sound x) refl
+      where
+        go : (b : Bool) → lent-sound x ≡ b → lined spare o x bs out ≡ lined spare o y bs out
+        go true e =
+            lined-is x (sound-u .typed .ranges) (true-T _ e) spare o bs out
+            ∙ same-lined (record-of u) (record-of v) valid-u valid-v (caller-of w) cat (alike .clocks) (alike .schemas) spare bs o out
+            ∙ ap₂ (λ (c : List M.Grant) (who : M.Caller). A.lined (record-of v) c who spare bs o out) (same .catalogue) (same .caller)
+            ∙ sym (lined-is y (sound-v .typed .ranges) (true-T _ (sym (same .lent) ∙ e)) spare o bs out)
+        go false e =
+            lined-lent x (sound-u .typed .ranges) e spare o bs out
+            ∙ sym (lined-lent y (sound-v .typed .ranges) (sym (same .lent) ∙ e) spare o bs out)
 
-  pub same-lines : (route : ℤ) (query out : Bytes) {p q : Bytes} {i j : Reply}
-      → Replies (lined 0 (with-route route (parse-query query)) (lending (u .memory) grants words caller) query out) out p i
-      → Replies (lined 0 (with-route route (parse-query query)) (lending (v .memory) grants words caller) query out) out q j
-      → (i ≡ j) × (p ≡ q)
-  same-lines route query out h l = left-same _ _ (lined-same route query out) h l
+    pub same-answers : (spare : ℕ) (o : Option Form) (bs : Bytes) (cells : List ℤ) {p q : List ℤ} {i j : Reply}
+        → Replies (asked spare o x bs cells) cells p i → Replies (asked spare o y bs cells) cells q j → (i ≡ j) × (p ≡ q)
+    same-answers spare o bs cells h l = left-same _ _ (asked-same spare o bs cells) h l
+
+    pub same-lines : (spare : ℕ) (o : Option RouteLine) (bs out : Bytes) {p q : Bytes} {i j : Reply}
+        → Replies (lined spare o x bs out) out p i → Replies (lined spare o y bs out) out q j → (i ≡ j) × (p ≡ q)
+    same-lines spare o bs out h l = left-same _ _ (lined-same spare o bs out) h l

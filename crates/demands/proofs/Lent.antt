@@ -3,6 +3,7 @@ use mathlib.Core.Path.{_≡_, refl, sym, ap, _∙_}
 use mathlib.Core.List.{List, _∷_}
 use mathlib.Core.Option.{Option, none, some}
 use mathlib.Core.Bool.{true, not, _&&_}
+use Prim.Native.Nat.{ℕ}
 use native.Mathlib.Omega.{arith}
 use lib.IntN.{ℤ}
 use lib.Dec.{T}
@@ -14,11 +15,10 @@ use Rattle.refusal.proofs.Passing.{first-skip}
 use Rattle.refusal.proofs.Verdicts.{never, never-first}
 use Rattle.lists.specs.Lists.{every}
 use Rattle.lists.proofs.Laws.{and-both, true-T}
-use Rattle.syntax.specs.Grammar.{Bytes}
-use Rattle.syntax.specs.Readers.{parse-query}
+use Rattle.syntax.specs.Grammar.{Bytes, Form, RouteLine}
 use Rattle.calls.specs.Replies.{reply}
 use Rattle.calls.specs.Tables.{query-checks}
-use Rattle.calls.specs.Asking.{answer-checks, line-checks, with-route}
+use Rattle.calls.specs.Asking.{answer-checks, line-checks}
 use Rattle.calls.specs.Events.{Event}
 use Rattle.calls.proofs.Order.{never-written}
 use Rattle.ledger.specs.Records.{memory-sound}
@@ -30,10 +30,11 @@ use Rattle.history.proofs.Events.{left-after}
 use Rattle.ask.specs.declared.Reply.{Reply}
 use Rattle.ask.specs.Replies.{reply-of, Replies}
 use Rattle.ask.specs.Asking.{Lending, lent-sound, asked-table, asked, lined-table, lined}
+use Rattle.demands.specs.Lending.{lending}
 
 -- what a store lends to a query of a caller
 abbrev lends : Store → Caller → Lending
-lends s w = record { memory = s .memory; grants = s .grants; granted = s .words; caller = w }
+lends s w = lending (s .memory) (s .grants) (s .words) w
 
 store-lent : (s : Store) (w : Caller) → Sound s → caller-sound w ≡ true → T (lent-sound (lends s w))
 unfolding lent-sound
@@ -53,10 +54,10 @@ module _ {s u : Store} {es : List Event} (f : Fresh s) (r : Trace s es u) where
   skipped cs n g e = never-first 12 cs g n (sym (first-skip Lent (lent-sound (lends u (u .caller))) cs (store-lent u (u .caller) (left-after f r .1) (left-after f r .1 .caller))) ∙ e)
 
   -- of what any list of calls and lines leaves, its caller's queries and lines are never refused by 12
-  pub never-lent-query : (bs : Bytes) (cells : List ℤ) {p : List ℤ} {y : Reply} → Replies (asked 0 (parse-query bs) (lends u (u .caller)) bs cells) cells p y → y .refusal ≡ 12 → ⊥
+  pub never-lent-query : (spare : ℕ) (o : Option Form) (bs : Bytes) (cells : List ℤ) {p : List ℤ} {y : Reply} → Replies (asked spare o (lends u (u .caller)) bs cells) cells p y → y .refusal ≡ 12 → ⊥
   unfolding asked asked-table query-checks answer-checks every refuse
-  never-lent-query bs cells h = not-twelve _ _ cells (skipped _ (never-written 12 0 bs (parse-query bs) _ tt tt (λ q. tt))) h
+  never-lent-query spare o bs cells h = not-twelve _ _ cells (skipped _ (never-written 12 spare bs o _ tt tt (λ q. tt))) h
 
-  pub never-lent-line : (n : ℤ) (bs out : Bytes) {p : Bytes} {y : Reply} → Replies (lined 0 (with-route n (parse-query bs)) (lends u (u .caller)) bs out) out p y → y .refusal ≡ 12 → ⊥
+  pub never-lent-line : (spare : ℕ) (o : Option RouteLine) (bs out : Bytes) {p : Bytes} {y : Reply} → Replies (lined spare o (lends u (u .caller)) bs out) out p y → y .refusal ≡ 12 → ⊥
   unfolding lined lined-table query-checks line-checks every refuse
-  never-lent-line n bs out h = not-twelve _ _ out (skipped _ (never-written 12 0 bs (with-route n (parse-query bs)) _ tt tt (λ q. tt))) h
+  never-lent-line spare o bs out h = not-twelve _ _ out (skipped _ (never-written 12 spare bs o _ tt tt (λ q. tt))) h

@@ -10,7 +10,7 @@ use lib.ListN.{length, getD}
 use Rattle.lists.specs.Lists.{every, empty?, select, gather, distinct}
 use Rattle.lists.proofs.Laws.{and-l, and-r, and-both, or-l, or-r, or-cases, parts, T-true, every-weaken, every-both, same-truth}
 use Rattle.lists.proofs.Counting.{map-length}
-use Rattle.syntax.specs.Grammar.{Fn, read, figures, Cond}
+use Rattle.syntax.specs.Grammar.{Fn, read, figures, Cond, numbered-right}
 use Rattle.syntax.specs.Limits.{top}
 use Rattle.model.specs.Queries.{Col, columns-of, Compare}
 use Rattle.model.specs.Checks.{within, cond-cols, grantable, in-order, grant-placed}
@@ -22,7 +22,7 @@ use Rattle.schema.proofs.Lookups.{length-schema}
 use Rattle.masks.specs.Masks.{inside}
 use Rattle.nodes.specs.Nodes.{conditions-of, column-in, nodes-sound}
 use Rattle.grant.specs.declared.Grant.{Grant}
-use Rattle.grant.specs.Grants.{no-time, numbered-right, places-of, streams-of, limit-of, grant-of, streams-mask, streams-sound, limit-sound, limits-sound, window-sound, shown-sound, when-sound, grant-sound, laid-out, grant-tidy}
+use Rattle.grant.specs.Grants.{no-time, places-of, streams-of, limit-of, grant-of, streams-mask, streams-sound, limit-sound, limits-sound, window-sound, shown-sound, when-sound, grant-sound, laid-out, grant-tidy}
 use Rattle.grant.proofs.Laid.{nodes-are}
 use Rattle.grant.proofs.Masked.{declared-stream, within-theirs, shows-some, shows-none}
 

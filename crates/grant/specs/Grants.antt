@@ -7,7 +7,7 @@ use lib.Dec.{leb, ltb, eqb}
 use lib.ListN.{length, getD}
 use Rattle.lists.specs.Lists.{every, select, gather, distinct, count-from}
 use Rattle.syntax.specs.Grammar as G
-use Rattle.syntax.specs.Grammar.{Right, read, figures}
+use Rattle.syntax.specs.Grammar.{numbered-right}
 use Rattle.model.specs.Queries as M
 use Rattle.model.specs.Queries.{columns-of}
 use Rattle.syntax.specs.Limits.{max-streams, max-columns, max-granted, top}
@@ -28,10 +28,6 @@ abbrev pub no-time : ℕ
 no-time = 4294967295
 
 -- ---- the grant that they stand for, whatever they hold
-
--- 0 is `read`
-unfoldable pub numbered-right : ℕ → Right
-numbered-right n = cond (eqb n 0) read (figures (cond (eqb n 1) G.min (cond (eqb n 2) G.max (cond (eqb n 3) G.count (cond (eqb n 4) G.avg G.sum)))))
 
 -- the first of the places
 unfoldable pub places-of : ℕ → List ℕ → List ℕ

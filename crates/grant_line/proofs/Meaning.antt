@@ -13,7 +13,7 @@ use Rattle.lists.specs.Lists.{every, select, gather}
 use Rattle.lists.proofs.Laws.{and-l, and-r, parts, T-true, not-not, every-append-l, every-append-r, every-all, all-weaken, select-every}
 use Rattle.lists.proofs.Gathers.{every-of-map, every-good}
 use Rattle.syntax.specs.Grammar as G
-use Rattle.syntax.specs.Grammar.{Bytes, Op, Right, Ref, Operand, Test, Cond, Conds, Show, Span, name?, ref?, test?}
+use Rattle.syntax.specs.Grammar.{Bytes, Op, Right, Ref, Operand, Test, Cond, Conds, Show, Span, name?, ref?, test?, numbered-right, right-number}
 use Rattle.syntax.specs.Limits.{short, short-ref, is-value, is-time, natural}
 use Rattle.model.specs.Conditions.{tests, map-cond, map-conds}
 use Rattle.model.specs.Queries as M
@@ -25,7 +25,7 @@ use Rattle.calls.specs.Bounds.{is-limit, is-span}
 use Rattle.calls.specs.Names as C
 use Rattle.calls.specs.Names.{is-self, column-of, operand-of, shown-columns, map-option, show-refs, size-of, offset-of}
 use Rattle.text.specs.Words.{name-of}
-use Rattle.text.specs.Keywords.{op-number, right-number}
+use Rattle.text.specs.Keywords.{op-number}
 use Rattle.text.proofs.Codes.{name-back}
 use Rattle.items.specs.Items.{code-short}
 use Rattle.schema.specs.Schemas.{streams-in, schema-of, schema-sound}
@@ -40,7 +40,7 @@ use Rattle.nodes.specs.Nodes.{unbiased, coded-term, numbered-op, node-compare, 
 use Rattle.columns.specs.Columns.{columns-read}
 use Rattle.columns.proofs.ColumnBits.{operand-fine, listed-bit, bit-above, refs-inside}
 use Rattle.conditions.specs.Seeing.{test-node, nodes-of}
-use Rattle.grant.specs.Grants.{numbered-right, column-codes, streams-mask}
+use Rattle.grant.specs.Grants.{column-codes, streams-mask}
 use Rattle.grant.specs.Grants as S
 use Rattle.grant.proofs.Masked.{low, cols-low, column-theirs}
 use Rattle.grant.proofs.Compared.{compare-fit, terms-are, cond-fit, conditions-are}
@@ -55,15 +55,6 @@ use Rattle.grant_line.proofs.Placing.{kept-time}
 pub role-back : (w : Bytes) → T (name? w) → T (short w) → name-of (code-short w) ≡ w
 unfolding code-short
 role-back w t u = rw (T-true (short w) u) (name-back w t u)
-
-pub right-back : (r : Right) → numbered-right (right-number r) ≡ r
-unfolding numbered-right right-number
-right-back G.read = refl
-right-back (G.figures G.min) = refl
-right-back (G.figures G.max) = refl
-right-back (G.figures G.count) = refl
-right-back (G.figures G.avg) = refl
-right-back (G.figures G.sum) = refl
 
 pub limit-back : (o : Option ℤ) → T (is-limit o) → S.limit-of (limit-kept o) ≡ map-option natural o
 unfolding S.limit-of limit-kept map-option is-limit

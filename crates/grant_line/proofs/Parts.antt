@@ -13,15 +13,16 @@ use mir.Val.{Fits}
 use borrow.Author.Tests.{eq-eqb, ne-eqb, eqb-true}
 use Rattle.lists.specs.Lists.{empty?}
 use Rattle.syntax.specs.Grammar as G
-use Rattle.syntax.specs.Grammar.{Bytes, bytes, Right, right-word, Ref, Show}
+use Rattle.syntax.specs.Grammar.{Bytes, bytes, Right, right-word, Ref, Show, right-number}
 use Rattle.syntax.proofs.Steps.{from, done}
 use Rattle.syntax.proofs.Leaving.{Leaves, left-within, items-ended, word-leaves, name-leaves, ref-leaves}
 use Rattle.syntax.specs.Readers.{Read, Reader, bind, ensure, _>>=_, _>>_, give, byte, read-word, rights, itself, read-name, read-ref, read-some, closes, read-star, star-next, read-show}
+use Rattle.syntax.proofs.Aggregates.{fn-range}
 use Rattle.text.specs.declared.Name.{Name}
 use Rattle.text.specs.declared.Word.{Word}
 use Rattle.text.specs.declared.Class.the-variants.{Plain}
 use Rattle.text.specs.Words.{name-at}
-use Rattle.text.specs.Keywords.{right-number, right-coded, coded, numbered, word-at, WordAt, part-at, keywords-compute}
+use Rattle.text.specs.Keywords.{right-coded, coded, numbered, word-at, WordAt, part-at, keywords-compute}
 use Rattle.text.proofs.Runs.{run-from, run-room, place-left}
 use Rattle.text.proofs.Places.{byte-here, byte-inside, space-is, space-not, close-is, name-not, name-is, word-is, right-is, part-absent, part-present, of-word, show-word}
 use Rattle.text.proofs.Fuel.{no-close, items-step}
@@ -92,11 +93,7 @@ word-within s p v h =
 pub right-low : (h : Right) → right-number h ≤ 5
 unfolding right-number
 right-low G.read = omega arith
-right-low (G.figures G.min) = omega arith
-right-low (G.figures G.max) = omega arith
-right-low (G.figures G.count) = omega arith
-right-low (G.figures G.avg) = omega arith
-right-low (G.figures G.sum) = omega arith
+right-low (G.figures f) = fn-range f .1
 
 -- a right by its number, or that there is none
 right-cases : {X : Type 0} (o : Option Right) {m : ℕ} → m ≡ numbered right-number 6 o → (m ≡ 6 → o ≡ none → X) → ((h : Right) → m ≡ right-number h → o ≡ some h → X) → X

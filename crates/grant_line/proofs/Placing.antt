@@ -14,8 +14,9 @@ use Rattle.lists.specs.Lists.{every, empty?, gather, count-from}
 use Rattle.lists.proofs.Laws.{parts, T-true, every-map, empty-map, and-four}
 use Rattle.lists.proofs.Gathers.{every-append-same, every-of-map, every-good}
 use Rattle.syntax.specs.Grammar as G
-use Rattle.syntax.specs.Grammar.{Bytes, Test, Cond, Show, Span, Right, GrantLine, some-all, grant?}
+use Rattle.syntax.specs.Grammar.{Bytes, Test, Cond, Show, Span, Right, GrantLine, some-all, grant?, fn-number, right-number}
 use Rattle.syntax.specs.Limits.{is-time, natural}
+use Rattle.syntax.proofs.Aggregates.{fn-range}
 use Rattle.model.specs.Conditions.{tests, map-cond}
 use Rattle.model.specs.Queries as M
 use Rattle.model.specs.Queries.{Col, columns-of}
@@ -26,7 +27,6 @@ use Rattle.calls.specs.Bounds.{is-limit, grant-bounded}
 use Rattle.calls.specs.Names.{stream-number, term-of, column-of, operand-of, compare-of, shown-columns, map-option, cond-refs, show-refs, resolve-grant}
 use Rattle.calls.specs.Tables.{declared, ref-declared, window-allowed, show-placed}
 use Rattle.text.specs.Words.{time-kept}
-use Rattle.text.specs.Keywords.{right-number}
 use Rattle.schema.specs.Schemas.{streams-in, schema-of, schema-sound}
 use Rattle.masks.specs.Masks.{bit?, mask-of, inside}
 use Rattle.masks.proofs.Lists.{inside-map}
@@ -134,11 +134,7 @@ window-is : (r : Right) (w : Option Span) → (eqb (right-number r) 0 && window-
 unfolding right-number window-of window-allowed
 window-is G.read none = refl
 window-is G.read (some w) = refl
-window-is (G.figures G.min) w = refl
-window-is (G.figures G.max) w = refl
-window-is (G.figures G.count) w = refl
-window-is (G.figures G.avg) w = refl
-window-is (G.figures G.sum) w = refl
+window-is (G.figures f) w = rw (ne-eqb (fn-number f) 0 (λ e. let h = fn-range f .0 in omega arith))
 
 -- ---- the streams
 

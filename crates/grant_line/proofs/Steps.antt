@@ -20,17 +20,17 @@ use Rattle.lists.specs.Lists.{every, empty?, gather}
 use Rattle.lists.proofs.Laws.{and-l, and-r, and-both, parts, true-T, T-true, every-map, every-both}
 use Rattle.lists.proofs.Gathers.{every-of-map}
 use Rattle.syntax.specs.Grammar as G
-use Rattle.syntax.specs.Grammar.{Bytes, Cond, body?, cond?, grant?}
+use Rattle.syntax.specs.Grammar.{Bytes, Cond, body?, cond?, grant?, right-number}
 use Rattle.syntax.specs.Limits.{shallow, cond-depth, natural}
 use Rattle.syntax.specs.Readers.{parse-as}
 use Rattle.syntax.proofs.Lines.{parsed-printed}
 use Rattle.syntax.proofs.Depths.{grant-shallow}
+use Rattle.syntax.proofs.Aggregates.{right-back}
 use Rattle.model.specs.Conditions.{map-cond}
 use Rattle.model.specs.Queries as M
 use Rattle.model.specs.Checks.{within, cond-cols, grantable, in-order, grant-placed}
 use Rattle.calls.specs.Names.{stream-number, column-of, compare-of, shown-columns, map-option, cond-refs, show-refs, resolve-grant}
 use Rattle.text.specs.Words.{name-of}
-use Rattle.text.specs.Keywords.{right-number}
 use Rattle.items.specs.Items.{code-short}
 use Rattle.calls.specs.Bounds.{is-limit, is-span, grant-bounded}
 use Rattle.calls.specs.Validity.{valid-cond, valid-grant, valid-schema, valid-catalogue}
@@ -74,7 +74,7 @@ use Rattle.grant_line.proofs.Bounds.{holder, streams, shows, first-time
 use Rattle.grant_line.proofs.Parts.{right-low}
 use Rattle.grant_line.proofs.Known.{good-test, test-declared, role-good, shown-fine, tests-fine}
 use Rattle.grant_line.proofs.Placing.{when-placed, numbers-below, places-are}
-use Rattle.grant_line.proofs.Meaning.{role-back, right-back, limit-back, limit-tidy, window-back, shown-back, shown-inside, standing, conds-back, nodes-back}
+use Rattle.grant_line.proofs.Meaning.{role-back, limit-back, limit-tidy, window-back, shown-back, shown-inside, standing, conds-back, nodes-back}
 use Rattle.grant_line.proofs.Copies.{copied-length, copied-word, copied-other, copied-full, copied-place}
 
 -- the checks stand in the order of the refusals

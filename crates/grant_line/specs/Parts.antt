@@ -8,10 +8,9 @@ use lib.IntN.{ℤ}
 use lib.Dec.{eqb}
 use lib.ListN.{length, drop, getD}
 use Rattle.syntax.specs.Grammar as G
-use Rattle.syntax.specs.Grammar.{Bytes, bytes, Right, right-word, Show, Span, Test, Cond}
+use Rattle.syntax.specs.Grammar.{Bytes, bytes, Right, right-word, Show, Span, Test, Cond, right-number}
 use Rattle.syntax.specs.Limits.{short, is-time}
 use Rattle.syntax.specs.Readers.{Read, Reader, _>>=_, _>>_, give, byte, closes, itself, read-name, read-word, rights, read-part, read-limit, read-number, read-optional, read-window}
-use Rattle.text.specs.Keywords.{right-number}
 use Rattle.text.specs.Words.{time-kept}
 use Rattle.text.specs.Readings.{any-cond, any-some, any-show}
 use Rattle.items.specs.Items.{code-short}

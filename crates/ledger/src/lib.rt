@@ -274,8 +274,8 @@ pub fn sound(l: Ledger, names: &[u64], times: &[u32], values: &[i32]) -> bool
     rows_sound(l, names, times, values)
 }
 
-// Each value that is lent is a 32-bit number, which is what check 3 asks. It is read so that this is known of it.
-fn known(vs: &[i32])
+// Each value that is lent is a number of 32 bits: it is read so that this is known of it, and the compiler leaves the loop out.
+pub fn known(vs: &[i32])
     ensures { λ _. ⌜ T (every is-value (now (vs .entry))) ⌝ }
 {
     let mut i: usize = 0;
@@ -353,6 +353,7 @@ impl Ledger {
     ) -> Entered
         ensures { λ r. ⌜ Enters (record { ledger = self; names = now (names .entry); times = now (times .entry); values = now (values .entry) }) s (now (vs .entry)) checks (record { ledger = r .ledger; names = now (names .entry); times = now (times .exit); values = now (values .exit) }) (r .verdict) ⌝ }
     {
+        known(values);
         let c = self.row_checks(names, s, vs.len(), times, values, checks);
         let v = c.verdict();
         match v {

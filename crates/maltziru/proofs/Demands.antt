@@ -1,34 +1,37 @@
--- The three demands, of the calls for C and from their contracts alone: `Called` and `Calls` (specs/Lists) say what a call, and a list of calls, returned and left.
-use mathlib.Core.Path.{_≡_, ap}
+-- The three demands, of the calls for C and from their contracts alone: `Called`, `Calls` and `Recorded` (specs/Lists) say what a call, and a list of calls, returned and left.
+use mathlib.Core.Path.{_≡_}
 use mathlib.Core.List.{List}
-use mathlib.Core.Option.{Option, none, some}
 use Prim.Native.Nat.{ℕ}
 use lib.IntN.{ℤ}
 use lib.Dec.{T}
-use Rattle.refusal.specs.declared.Refusal.{Refusal}
-use Rattle.refusal.specs.Numbers.{verdict-of}
+use Rattle.refusal.specs.Checks.{Ordered}
 use Rattle.lists.specs.Lists.{every}
-use Rattle.syntax.specs.Limits.{is-value}
 use Rattle.syntax.specs.Grammar.{Bytes}
+use Rattle.syntax.specs.Limits.{is-value}
 use Rattle.syntax.specs.Readers.{parse-query}
 use Rattle.model.specs.Alike.{Alike}
-use Rattle.calls.specs.Asking.{with-route}
+use Rattle.calls.specs.Calls.{Call, after}
 use Rattle.calls.specs.Events.{Event, query, happen, happened}
-use Rattle.calls.specs.Replies.{reply, lent-after}
+use Rattle.calls.specs.Asking.{with-route}
+use Rattle.ledger.specs.Records.{Memory}
 use Rattle.caller.specs.declared.Caller.{Caller}
 use Rattle.caller.specs.Callers.{caller-of}
 use Rattle.grant.specs.declared.Grant.{Grant}
 use Rattle.grant.specs.Catalogues.{catalogue-of}
+use Rattle.history.specs.States as M
 use Rattle.history.specs.Fixtures.{Store, fixture-of, Sound, Fresh}
 use Rattle.history.proofs.Events.{step, left-after}
 use Rattle.ask.specs.declared.Reply.{Reply}
-use Rattle.ask.specs.Replies.{reply-of, Replies}
+use Rattle.ask.specs.Replies.{Replies}
 use Rattle.ask.specs.Asking.{Lending, asked-table, asked, lined-table, lined}
+use Rattle.demands.specs.Lending.{lending, SameLent}
+use Rattle.demands.specs.Holding.{Answered, Lined}
+use Rattle.demands.specs.Refusing.{first-number}
+use Rattle.demands.proofs.Refused.{asked-refusal, lined-refusal, asked-ordered, lined-ordered}
 use Rattle.demands.proofs.Answered as A
 use Rattle.demands.proofs.Interference as I
-use Rattle.maltziru.specs.Calls.{said}
-use Rattle.maltziru.specs.Lists.{lending, Called, Calls, table-of, first-number}
-use Rattle.maltziru.proofs.Lists.{happens, trace}
+use Rattle.maltziru.specs.Lists.{Recorded, Called, Calls, table-of}
+use Rattle.maltziru.proofs.Lists.{recorded, happens, trace}
 use Rattle.maltziru.proofs.Refusals as R
 
 -- ---- demand 1: every call is answered or refused by its table, and a refusal changes nothing
@@ -49,53 +52,57 @@ does c = step (happens c)
 pub leaves : {es : List Event} {s t : Store} → Fresh s → Calls s es t → (fixture-of t ≡ happened es) × Sound t
 leaves f r = left-after f (trace r)
 
--- a reply by its table: the number of the first check that fails and every cell as it was
-refusal-of : {A : Type 0} (o : Option Refusal) (out lent : List A) {p : List A} {r : Reply} → Replies (reply o out lent) lent p r → (r .refusal ≡ said (verdict-of o)) × ((r .refusal ≡ 0 → ⊥) → p ≡ lent)
-unfolding reply reply-of lent-after
-refusal-of none out lent h = let e = ap (λ (x : Reply). x .refusal) (h .said) in (e, λ ne. absurd (ne e))
-refusal-of (some f) out lent h = (ap (λ (x : Reply). x .refusal) (h .said), λ ne. h .left)
-
--- a query, whatever is lent: 0 or the number of the first check that fails; refused, every cell as it was
+-- a query, whatever is lent: 0 or the number of the first check that fails; refused, every cell as it was; and its checks stand in the paper's order
 pub ask-refusal : (x : Lending) (bs : Bytes) (cells : List ℤ) {p : List ℤ} {r : Reply} → Replies (asked 0 (parse-query bs) x bs cells) cells p r
     → (r .refusal ≡ first-number (asked-table 0 (parse-query bs) x bs cells)) × ((r .refusal ≡ 0 → ⊥) → p ≡ cells)
-unfolding asked first-number
-ask-refusal x bs cells h = refusal-of _ _ cells h
+ask-refusal x bs cells h = asked-refusal x 0 (parse-query bs) bs cells h
+
+pub ask-ordered : (x : Lending) (bs : Bytes) (cells : List ℤ) → Ordered (asked-table 0 (parse-query bs) x bs cells)
+ask-ordered x bs cells = asked-ordered x 0 (parse-query bs) bs cells
 
 -- and the line of a route
 pub line-refusal : (x : Lending) (route : ℤ) (bs out : Bytes) {p : Bytes} {r : Reply} → Replies (lined 0 (with-route route (parse-query bs)) x bs out) out p r
     → (r .refusal ≡ first-number (lined-table 0 (with-route route (parse-query bs)) x bs out)) × ((r .refusal ≡ 0 → ⊥) → p ≡ out)
-unfolding lined first-number
-line-refusal x route bs out h = refusal-of _ _ out h
+line-refusal x route bs out h = lined-refusal x 0 (with-route route (parse-query bs)) bs out h
+
+pub line-ordered : (x : Lending) (route : ℤ) (bs out : Bytes) → Ordered (lined-table 0 (with-route route (parse-query bs)) x bs out)
+line-ordered x route bs out = lined-ordered x 0 (with-route route (parse-query bs)) bs out
 
 -- ---- demand 2: an answer holds exactly the rows of the granted views, and a line gives them again
 
--- what `maltziru_ask` wrote where it returned 0: of every route that the caller's grants open its rows, in order; all cells past them as they were (`Answered`)
-pub answered : (x : Lending) (bs : Bytes) (cells : List ℤ) {p : List ℤ} {r : Reply} → Replies (asked 0 (parse-query bs) x bs cells) cells p r → r .refusal ≡ 0 → A.Answered x bs cells p r
-answered x bs cells h e = A.answered x bs cells _ _ h e
+-- what `maltziru_ask` wrote where it returned 0: of every route that the caller's grants open its rows, in order; all cells past them as they were
+pub answered : (x : Lending) (bs : Bytes) (cells : List ℤ) {p : List ℤ} {r : Reply} → Replies (asked 0 (parse-query bs) x bs cells) cells p r → r .refusal ≡ 0 → Answered x (parse-query bs) cells p r
+answered x bs cells h e = A.answered x 0 (parse-query bs) bs cells h e
 
--- what `maltziru_line` wrote where it returned 0: the route's line; read, checked and run with no grants it gives the route's rows (`Lined`). Values are those of 32 bits, which lent ones are.
+-- what `maltziru_line` wrote where it returned 0: the route's line; read, checked and run with no grants it gives the route's rows. Values are those of 32 bits, which lent ones are.
 pub printed : (x : Lending) → T (every is-value (x .memory .values)) → (route : ℤ) (bs out : Bytes) {p : Bytes} {r : Reply}
-    → Replies (lined 0 (with-route route (parse-query bs)) x bs out) out p r → r .refusal ≡ 0 → A.Lined x route bs out p r
-printed x t route bs out h e = A.lined-holds x t route bs out _ _ h e
+    → Replies (lined 0 (with-route route (parse-query bs)) x bs out) out p r → r .refusal ≡ 0 → Lined x (with-route route (parse-query bs)) out p r
+printed x t route bs out h e = A.lined-holds x t 0 (with-route route (parse-query bs)) bs out h e
 
 -- ---- demand 3: an answer hangs on nothing but what is shown
 
--- Two lists of calls, each from fresh memory, refused calls included, and grant, caller, ask and line calls between them. After each, the same grants, words and caller are lent to a query.
--- If by the definitions the clock and the streams are the same after both, and so are, under the catalogue that is lent, the caller's views and admitted figures (`Alike`),
+-- Two lists of calls on the record, each from fresh memory, refused calls included, with any grant, caller, ask and line calls between them. After each, grants, words and a caller are lent to a
+-- query; by the definitions the catalogue and the caller are the same both times (`SameLent`).
+-- If by the definitions the clock and the streams are the same after both, and so are, under that catalogue, the caller's views and admitted figures (`Alike`),
 -- then every query with the same cells lent returned the same count and left the same cells, or the same refusal.
-pub same-answers : {s t u v : Store} {es fs : List Event} → Fresh s → Calls s es u → Fresh t → Calls t fs v
-    → (grants : List Grant) (words : List ℕ) (caller : Caller) → Alike (happened es .record-kept) (happened fs .record-kept) (caller-of caller) (catalogue-of (u .memory .names) grants words)
-    → (query : Bytes) (cells : List ℤ) {p q : List ℤ} {i j : Reply}
-    → Replies (asked 0 (parse-query query) (lending (u .memory) grants words caller) query cells) cells p i
-    → Replies (asked 0 (parse-query query) (lending (v .memory) grants words caller) query cells) cells q j
-    → (i ≡ j) × (p ≡ q)
-same-answers f r g k gs ws w a bs cells h l = I.same-answers f (trace r) g (trace k) gs ws w a bs cells h l
+module _ {m n u v : Memory} {cs ds : List Call} (f : M.Fresh m) (r : Recorded m cs u) (g : M.Fresh n) (k : Recorded n ds v) where
+  pub same-answers : (gs hs : List Grant) (ws zs : List ℕ) (w z : Caller) → SameLent (lending u gs ws w) (lending v hs zs z)
+      → Alike (after cs) (after ds) (caller-of w) (catalogue-of (u .names) gs ws)
+      → (query : Bytes) (cells : List ℤ) {p q : List ℤ} {i j : Reply}
+      → Replies (asked 0 (parse-query query) (lending u gs ws w) query cells) cells p i
+      → Replies (asked 0 (parse-query query) (lending v hs zs z) query cells) cells q j
+      → (i ≡ j) × (p ≡ q)
+  same-answers gs hs ws zs w z s a bs cells h l = I.same-answers f (recorded r) g (recorded k) gs hs ws zs w z s a 0 (parse-query bs) bs cells h l
 
--- and every call for a line
-pub same-lines : {s t u v : Store} {es fs : List Event} → Fresh s → Calls s es u → Fresh t → Calls t fs v
-    → (grants : List Grant) (words : List ℕ) (caller : Caller) → Alike (happened es .record-kept) (happened fs .record-kept) (caller-of caller) (catalogue-of (u .memory .names) grants words)
-    → (route : ℤ) (query out : Bytes) {p q : Bytes} {i j : Reply}
-    → Replies (lined 0 (with-route route (parse-query query)) (lending (u .memory) grants words caller) query out) out p i
-    → Replies (lined 0 (with-route route (parse-query query)) (lending (v .memory) grants words caller) query out) out q j
-    → (i ≡ j) × (p ≡ q)
-same-lines f r g k gs ws w a n bs out h l = I.same-lines f (trace r) g (trace k) gs ws w a n bs out h l
+  -- and every call for a line
+  pub same-lines : (gs hs : List Grant) (ws zs : List ℕ) (w z : Caller) → SameLent (lending u gs ws w) (lending v hs zs z)
+      → Alike (after cs) (after ds) (caller-of w) (catalogue-of (u .names) gs ws)
+      → (route : ℤ) (query out : Bytes) {p q : Bytes} {i j : Reply}
+      → Replies (lined 0 (with-route route (parse-query query)) (lending u gs ws w) query out) out p i
+      → Replies (lined 0 (with-route route (parse-query query)) (lending v hs zs z) query out) out q j
+      → (i ≡ j) × (p ≡ q)
+  same-lines gs hs ws zs w z s a n bs out h l = I.same-lines f (recorded r) g (recorded k) gs hs ws zs w z s a 0 (with-route n (parse-query bs)) bs out h l
+
+  -- the same structs and words, whatever they hold, are the same by the definitions where the streams are
+  pub same-structs : after cs .schema ≡ after ds .schema → (grants : List Grant) (words : List ℕ) (caller : Caller) → SameLent (lending u grants words caller) (lending v grants words caller)
+  same-structs e grants words caller = I.same-structs f (recorded r) g (recorded k) e grants words caller

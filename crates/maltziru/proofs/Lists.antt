@@ -9,20 +9,22 @@ use Rattle.refusal.specs.declared.Verdict.the-variants.{Accepted, Refused}
 use Rattle.refusal.specs.declared.Refusal.{Refusal}
 use Rattle.refusal.specs.declared.Refusal.the-variants.{Lent, Malformed, Bound, Undeclared, Repeated, Misplaced, WindowSize, ClockBack, StreamFull, NoRoute, ManyRoutes, NoRoom}
 use Rattle.refusal.specs.Numbers.{number-of}
+use Rattle.calls.specs.Calls.{Call}
 use Rattle.calls.specs.Events.{Event, grant, caller}
 use Rattle.grant.specs.declared.Grant.{Grant}
 use Rattle.grant_line.specs.Granting.{grants-after}
 use Rattle.ledger.specs.declared.Ledger.{Ledger}
 use Rattle.ledger.specs.Calls.{clock-call, clear-call}
 use Rattle.record_lines.specs.Calls.{clock-line-call, clear-line-call}
-use Rattle.ledger.specs.Records.{with-ledger}
-use Rattle.history.specs.States.{declared, clocked, rowed, cleared, clock-lined, row-lined, clear-lined}
-use Rattle.history.specs.Fixtures.{Store, with-memory, with-grants, with-caller, Happens, called, granted, named, asked, Trace, stop, then}
+use Rattle.ledger.specs.Records.{Memory, with-ledger}
+use Rattle.history.specs.States.{Promise, declared, clocked, rowed, cleared, clock-lined, row-lined, clear-lined}
+use Rattle.history.specs.Fixtures.{Store, with-grants, with-caller, Happens, called, granted, named, asked, Trace, stop, then}
+use Rattle.demands.specs.Recording as D
 use Rattle.maltziru.specs.declared.GrantReply.{GrantReply}
 use Rattle.maltziru.specs.declared.CallerReply.{CallerReply}
 use Rattle.maltziru.specs.Calls.{said, caller-said}
 use Rattle.maltziru.specs.Lists as C
-use Rattle.maltziru.specs.Lists.{grants-kept, Called, Calls}
+use Rattle.maltziru.specs.Lists.{OnRecord, Recorded, grants-kept, Called, Calls}
 use Rattle.maltziru.proofs.Said.{same-ledger}
 
 -- a refusal's number is not 0
@@ -47,18 +49,29 @@ kept-after Accepted gs g = refl
 kept-after (Refused f) gs g = rw (some-number f) refl
 
 -- what a call on the record leaves, by its ledger
-relaid : {e : Event} (s : Store) {l k : Ledger} → l ≡ k → Happens e s (with-memory s (with-ledger (s .memory) l)) → Happens e s (with-memory s (with-ledger (s .memory) k))
-relaid {e} s h = subst (λ l. Happens e s (with-memory s (with-ledger (s .memory) l))) h
+relaid : {c : Call} (m : Memory) {l k : Ledger} → l ≡ k → Promise c m (with-ledger m l) → Promise c m (with-ledger m k)
+relaid {c} m h = subst (λ l. Promise c m (with-ledger m l)) h
+
+pub promised : {c : Call} {m n : Memory} {k : ℕ} → OnRecord c m n k → Promise c m n
+promised (C.stream-called c) = declared (c .call)
+promised (C.clock-called {m} {t} {r} h) = relaid m (same-ledger (clock-call (m .ledger) t) h) (clocked refl)
+promised (C.row-called c) = rowed (c .call)
+promised (C.clear-called {m} {r} h) = relaid m (same-ledger (clear-call (m .ledger)) h) (cleared refl)
+promised (C.clock-line-called {m} {bs} {r} h) = relaid m (same-ledger (clock-line-call (m .ledger) bs) h) (clock-lined refl)
+promised (C.row-line-called c) = row-lined (c .call)
+promised (C.clear-line-called {m} {bs} {r} h) = relaid m (same-ledger (clear-line-call (m .ledger) bs) h) (clear-lined refl)
+
+pub recorded : {cs : List Call} {m u : Memory} → Recorded m cs u → D.Recorded m cs u
+recorded C.stop = D.stop
+recorded (C.next c r) = D.then (promised c) (recorded r)
+recorded (C.grant-between n bs ws h r) = recorded r
+recorded (C.caller-between w bs h r) = recorded r
+recorded (C.ask-between gs ws w bs cells h r) = recorded r
+recorded (C.line-between gs ws w n bs out h r) = recorded r
 
 pub happens : {e : Event} {s t : Store} {n : ℕ} → Called e s t n → Happens e s t
 unfolding caller-said
-happens (C.stream-called c) = called (declared (c .call))
-happens (C.clock-called {s} {t} {r} h) = relaid s (same-ledger (clock-call (s .memory .ledger) t) h) (called (clocked refl))
-happens (C.row-called c) = called (rowed (c .call))
-happens (C.clear-called {s} {r} h) = relaid s (same-ledger (clear-call (s .memory .ledger)) h) (called (cleared refl))
-happens (C.clock-line-called {s} {bs} {r} h) = relaid s (same-ledger (clock-line-call (s .memory .ledger) bs) h) (called (clock-lined refl))
-happens (C.row-line-called c) = called (row-lined (c .call))
-happens (C.clear-line-called {s} {bs} {r} h) = relaid s (same-ledger (clear-line-call (s .memory .ledger) bs) h) (called (clear-lined refl))
+happens (C.record-called c) = called (promised c)
 happens (C.grant-called {s} {bs} {ws} {r} c) =
     let v = c .granted .verdict in
     let k : grants-after v (s .grants) (c .granted .grant) ≡ grants-kept (r .refusal) (s .grants) (r .grant) =

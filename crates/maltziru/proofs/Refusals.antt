@@ -1,12 +1,15 @@
 -- Demand 1, of the calls for C: what Demands states, call by call.
 use mathlib.Core.Path.{_≡_, refl, sym, ap, _∙_}
 use mathlib.Core.List.{List}
+use mathlib.Core.Option.{Option, none, some}
 use Prim.Native.Nat.{ℕ}
+use Rattle.refusal.specs.declared.Refusal.{Refusal}
+use Rattle.refusal.specs.Numbers.{verdict-of}
+use Rattle.refusal.specs.Checks.{Check, first}
 use Rattle.refusal.specs.declared.Verdict.{Verdict}
 use Rattle.refusal.specs.declared.Verdict.the-variants.{Accepted, Refused}
-use Rattle.syntax.specs.Grammar as G
 use Rattle.calls.specs.Events.{Event, query}
-use Rattle.calls.specs.Calls as D
+use Rattle.calls.specs.Calls.{Call}
 use Rattle.stream_line.specs.Declaring.{names-after}
 use Rattle.ledger.specs.declared.Ledger.{Ledger}
 use Rattle.ledger.specs.Records.{Memory, with-ledger, with-names}
@@ -20,30 +23,46 @@ use Rattle.grant.proofs.Catalogues.{catalogue-length}
 use Rattle.grant_line.specs.Granting.{words-after, grants-after}
 use Rattle.history.specs.Fixtures.{Store, with-memory, with-grants, with-caller}
 use Rattle.history.proofs.Steps.{entered-verdict}
+use Rattle.demands.specs.Refusing.{refused-number, first-number}
 use Rattle.maltziru.specs.declared.GrantReply.{GrantReply}
 use Rattle.maltziru.specs.declared.CallerReply.{CallerReply}
 use Rattle.maltziru.specs.Calls.{said, caller-said}
 use Rattle.maltziru.specs.Lists as C
-use Rattle.maltziru.specs.Lists.{grants-kept, Called, table-of, first-number}
+use Rattle.maltziru.specs.Lists.{OnRecord, grants-kept, Called, record-table, table-of}
 use Rattle.maltziru.proofs.Said.{same-ledger, same-number}
 use Rattle.maltziru.proofs.Lists.{kept-after}
 
 -- ---- the number that is returned
 
+-- by the verdict of a table
+by-verdict : (o : Option Refusal) → said (verdict-of o) ≡ refused-number o
+by-verdict none = refl
+by-verdict (some f) = refl
+
+said-first : (cs : List Check) → said (verdict-of (first cs)) ≡ first-number cs
+unfolding first-number
+said-first cs = by-verdict (first cs)
+
+record-said : {c : Call} {m m′ : Memory} {n : ℕ} → OnRecord c m m′ n → n ≡ said (verdict-of (first (record-table c m)))
+unfolding record-table clock-call clear-call clock-line-call clear-line-call
+record-said (C.stream-called c) = c .says ∙ ap said (c .call .said)
+record-said (C.clock-called {m} {t} {r} h) = same-number (clock-call (m .ledger) t) h ∙ ap said (entered-verdict _ _ _)
+record-said (C.row-called c) = c .says ∙ ap said (c .call .said)
+record-said (C.clear-called {m} {r} h) = same-number (clear-call (m .ledger)) h ∙ ap said (entered-verdict _ _ _)
+record-said (C.clock-line-called {m} {bs} {r} h) = same-number (clock-line-call (m .ledger) bs) h ∙ ap said (entered-verdict _ _ _)
+record-said (C.row-line-called c) = c .says ∙ ap said (c .call .said)
+record-said (C.clear-line-called {m} {bs} {r} h) = same-number (clear-line-call (m .ledger) bs) h ∙ ap said (entered-verdict _ _ _)
+
+says : {e : Event} {s t : Store} {n : ℕ} → Called e s t n → (e ≡ query → ⊥) → n ≡ said (verdict-of (first (table-of e s)))
+unfolding table-of identified caller-said
+says (C.record-called c) o = record-said c
+says (C.grant-called {s} {bs} {ws} {r} c) o = ap (λ (x : GrantReply). x .refusal) (c .says) ∙ ap said (c .call .said _ (catalogue-length (s .memory .names) (s .grants) (s .words)))
+says (C.caller-called {s} {bs} {r} h) o = ap (λ (x : CallerReply). x .refusal) h ∙ ap said (outcome-said _ _ _)
+says (C.ask-called gs ws w bs cells h) o = absurd (o refl)
+says (C.line-called gs ws w n bs out h) o = absurd (o refl)
+
 pub says-first : {e : Event} {s t : Store} {n : ℕ} → Called e s t n → (e ≡ query → ⊥) → n ≡ first-number (table-of e s)
-unfolding first-number table-of clock-call clear-call clock-line-call clear-line-call identified caller-said
-says-first (C.stream-called c) o = c .says ∙ ap said (c .call .said)
-says-first (C.clock-called {s} {t} {r} h) o = same-number (clock-call (s .memory .ledger) t) h ∙ ap said (entered-verdict _ _ _)
-says-first (C.row-called c) o = c .says ∙ ap said (c .call .said)
-says-first (C.clear-called {s} {r} h) o = same-number (clear-call (s .memory .ledger)) h ∙ ap said (entered-verdict _ _ _)
-says-first (C.clock-line-called {s} {bs} {r} h) o = same-number (clock-line-call (s .memory .ledger) bs) h ∙ ap said (entered-verdict _ _ _)
-says-first (C.row-line-called c) o = c .says ∙ ap said (c .call .said)
-says-first (C.clear-line-called {s} {bs} {r} h) o = same-number (clear-line-call (s .memory .ledger) bs) h ∙ ap said (entered-verdict _ _ _)
-says-first (C.grant-called {s} {bs} {ws} {r} c) o =
-    ap (λ (x : GrantReply). x .refusal) (c .says) ∙ ap said (c .call .said _ (catalogue-length (s .memory .names) (s .grants) (s .words)))
-says-first (C.caller-called {s} {bs} {r} h) o = ap (λ (x : CallerReply). x .refusal) h ∙ ap said (outcome-said _ _ _)
-says-first (C.ask-called gs ws w bs cells h) o = absurd (o refl)
-says-first (C.line-called gs ws w n bs out h) o = absurd (o refl)
+says-first {e} {s} c o = says c o ∙ said-first (table-of e s)
 
 -- ---- what a refusal leaves
 
@@ -81,28 +100,27 @@ same-grants (Refused f) gs g ne = refl
 other : {n m : ℕ} → n ≡ m → (n ≡ 0 → ⊥) → m ≡ 0 → ⊥
 other e ne h = ne (e ∙ h)
 
--- a ledger that stays leaves the store
-ledger-stays : (s : Store) {l : Ledger} → l ≡ s .memory .ledger → with-memory s (with-ledger (s .memory) l) ≡ s
-unfolding with-memory
-ledger-stays s e = ap (λ l. with-memory s (with-ledger (s .memory) l)) e
+record-stays : {c : Call} {m m′ : Memory} {n : ℕ} → OnRecord c m m′ n → (n ≡ 0 → ⊥) → m′ ≡ m
+unfolding clock-call clear-call clock-line-call clear-line-call
+record-stays (C.stream-called {m} c) ne = ap (with-names m) (c .call .left ∙ same-names (c .verdict) _ _ (other (c .says) ne))
+record-stays (C.clock-called {m} {t} {r} h) ne =
+    let e = clock-call (m .ledger) t in
+    ap (with-ledger m) (sym (same-ledger e h) ∙ same-entered _ _ _ (other (same-number e h ∙ ap said (entered-verdict _ _ _)) ne))
+record-stays (C.row-called c) ne = c .call .left ∙ same-memory (c .verdict) _ _ (other (c .says) ne)
+record-stays (C.clear-called {m} {r} h) ne =
+    let e = clear-call (m .ledger) in
+    ap (with-ledger m) (sym (same-ledger e h) ∙ same-entered _ _ _ (other (same-number e h ∙ ap said (entered-verdict _ _ _)) ne))
+record-stays (C.clock-line-called {m} {bs} {r} h) ne =
+    let e = clock-line-call (m .ledger) bs in
+    ap (with-ledger m) (sym (same-ledger e h) ∙ same-entered _ _ _ (other (same-number e h ∙ ap said (entered-verdict _ _ _)) ne))
+record-stays (C.row-line-called c) ne = c .call .left ∙ same-memory (c .verdict) _ _ (other (c .says) ne)
+record-stays (C.clear-line-called {m} {bs} {r} h) ne =
+    let e = clear-line-call (m .ledger) bs in
+    ap (with-ledger m) (sym (same-ledger e h) ∙ same-entered _ _ _ (other (same-number e h ∙ ap said (entered-verdict _ _ _)) ne))
 
 pub refused-stays : {e : Event} {s t : Store} {n : ℕ} → Called e s t n → (n ≡ 0 → ⊥) → t ≡ s
-unfolding with-memory with-grants with-caller clock-call clear-call clock-line-call clear-line-call identified caller-said
-refused-stays (C.stream-called {s} c) ne = ap (λ ns. with-memory s (with-names (s .memory) ns)) (c .call .left ∙ same-names (c .verdict) _ _ (other (c .says) ne))
-refused-stays (C.clock-called {s} {t} {r} h) ne =
-    let e = clock-call (s .memory .ledger) t in
-    ledger-stays s (sym (same-ledger e h) ∙ same-entered _ _ _ (other (same-number e h ∙ ap said (entered-verdict _ _ _)) ne))
-refused-stays (C.row-called {s} c) ne = ap (λ m. with-memory s m) (c .call .left ∙ same-memory (c .verdict) _ _ (other (c .says) ne))
-refused-stays (C.clear-called {s} {r} h) ne =
-    let e = clear-call (s .memory .ledger) in
-    ledger-stays s (sym (same-ledger e h) ∙ same-entered _ _ _ (other (same-number e h ∙ ap said (entered-verdict _ _ _)) ne))
-refused-stays (C.clock-line-called {s} {bs} {r} h) ne =
-    let e = clock-line-call (s .memory .ledger) bs in
-    ledger-stays s (sym (same-ledger e h) ∙ same-entered _ _ _ (other (same-number e h ∙ ap said (entered-verdict _ _ _)) ne))
-refused-stays (C.row-line-called {s} c) ne = ap (λ m. with-memory s m) (c .call .left ∙ same-memory (c .verdict) _ _ (other (c .says) ne))
-refused-stays (C.clear-line-called {s} {bs} {r} h) ne =
-    let e = clear-line-call (s .memory .ledger) bs in
-    ledger-stays s (sym (same-ledger e h) ∙ same-entered _ _ _ (other (same-number e h ∙ ap said (entered-verdict _ _ _)) ne))
+unfolding with-memory with-grants with-caller identified caller-said
+refused-stays (C.record-called {s} c) ne = ap (with-memory s) (record-stays c ne)
 refused-stays (C.grant-called {s} {bs} {ws} {r} c) ne =
     let v = c .granted .verdict in
     let ne′ : said v ≡ 0 → ⊥ = other (ap (λ (x : GrantReply). x .refusal) (c .says)) ne in

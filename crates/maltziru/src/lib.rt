@@ -215,17 +215,9 @@ pub extern "C" fn maltziru_ask(
 ) -> Reply
     ensures { λ r. ⌜ Replies (asked 0 (parse-query (now (query .entry))) (record { memory = record { ledger = ledger; names = now (names .entry); times = now (times .entry); values = now (values .entry) }; grants = now (grants .entry); granted = now (words .entry); caller = caller }) (now (query .entry)) (now (cells .entry))) (now (cells .entry)) (now (cells .exit)) r ⌝ }
 {
-    ask::ask(
-        grants,
-        words,
-        ledger,
-        names,
-        times,
-        values,
-        caller,
-        query,
-        cells,
-    )
+    let t = query_text::read_query(query, names);
+    let x = catalogue::open_all(grants, query_text::asks(t), names, words, caller);
+    ask::answered(t, x, ledger, names, times, values, words, caller, cells)
 }
 
 // Writes the line of a route of a query into lent bytes. Routes are numbered from 1.
@@ -245,16 +237,18 @@ pub extern "C" fn maltziru_line(
 ) -> Reply
     ensures { λ r. ⌜ Replies (lined 0 (with-route route (parse-query (now (query .entry)))) (record { memory = record { ledger = ledger; names = now (names .entry); times = now (times .entry); values = now (values .entry) }; grants = now (grants .entry); granted = now (words .entry); caller = caller }) (now (query .entry)) (now (bytes .entry))) (now (bytes .entry)) (now (bytes .exit)) r ⌝ }
 {
-    ask::line(
-        grants,
-        words,
+    let t = query_text::read_query(query, names);
+    let x = catalogue::open_all(grants, query_text::asks(t), names, words, caller);
+    ask::lined(
+        t,
+        x,
         ledger,
         names,
         times,
         values,
+        words,
         caller,
         route,
-        query,
         bytes,
     )
 }

@@ -9,12 +9,13 @@ use lib.Dec.{T, eqb→eq, eqb-refl}
 use lib.ListN.{length}
 use Rattle.lists.specs.Lists.{some?, gather, count-from, same-list}
 use Rattle.lists.proofs.Laws.{and-both, or-l, or-r, or-cases, parts, same-list→eq, same-list-refl}
-use Rattle.syntax.specs.Grammar.{Bytes, Fn, min, max, count, avg, sum, Right, read, figures, Cond, test, all, any, neg, Entry}
+use Rattle.syntax.specs.Grammar.{Bytes, Fn, Right, read, figures, fn-number, numbered-fn, Cond, test, all, any, neg, Entry}
+use Rattle.syntax.proofs.Aggregates.{fn-forth}
 use Rattle.model.specs.Queries.{Schema, Col, same-col, columns-of, Term, column, time, number, self, Compare, Grant}
 use Rattle.model.specs.Meaning.{equality}
 use Rattle.model.specs.Grants.{has-entry, shown-of}
 use Rattle.model.specs.Checks.{has}
-use Rattle.model.specs.Routes.{reads, fn-number, gives, is-eq, is-col, is-equality, Numbered, numbered}
+use Rattle.model.specs.Routes.{reads, gives, is-eq, is-col, is-equality, Numbered, numbered}
 use Rattle.model.proofs.Columns.{same-col→eq, same-col-refl}
 use Rattle.model.proofs.Rewriting.{is-eq→eq}
 use Rattle.model.proofs.Found.{has-select-both}
@@ -27,32 +28,7 @@ reads-right read = (λ t. refl, λ e. tt)
 reads-right (figures f) = (λ t. absurd t, λ e. let z : _≡_ {A = ℕ} 0 1 = cc in absurd (omega arith))
 
 same-fn : (f g : Fn) → fn-number f ≡ fn-number g → f ≡ g
-unfolding fn-number
-same-fn min min e = refl
-same-fn min max e = absurd (omega arith)
-same-fn min count e = absurd (omega arith)
-same-fn min avg e = absurd (omega arith)
-same-fn min sum e = absurd (omega arith)
-same-fn max min e = absurd (omega arith)
-same-fn max max e = refl
-same-fn max count e = absurd (omega arith)
-same-fn max avg e = absurd (omega arith)
-same-fn max sum e = absurd (omega arith)
-same-fn count min e = absurd (omega arith)
-same-fn count max e = absurd (omega arith)
-same-fn count count e = refl
-same-fn count avg e = absurd (omega arith)
-same-fn count sum e = absurd (omega arith)
-same-fn avg min e = absurd (omega arith)
-same-fn avg max e = absurd (omega arith)
-same-fn avg count e = absurd (omega arith)
-same-fn avg avg e = refl
-same-fn avg sum e = absurd (omega arith)
-same-fn sum min e = absurd (omega arith)
-same-fn sum max e = absurd (omega arith)
-same-fn sum count e = absurd (omega arith)
-same-fn sum avg e = absurd (omega arith)
-same-fn sum sum e = refl
+same-fn f g e = sym (fn-forth f) ∙ ap numbered-fn e ∙ fn-forth g
 
 pub gives-right : (f : Fn) (r : Right) → T (gives f r) ↔ (r ≡ figures f)
 unfolding gives

@@ -4,7 +4,7 @@ use mathlib.Core.Bool.{Bool, true, false, _&&_, _||_, not, cond}
 use Prim.Native.Nat.{ℕ, suc}
 use lib.Dec.{leb, eqb}
 use Rattle.lists.specs.Lists.{select, some?, empty?, gather, same-list}
-use Rattle.syntax.specs.Grammar.{Op, eq, ne, lt, le, gt, ge, Fn, min, max, count, avg, sum, Right, read, figures, Cond, test, all, any, neg}
+use Rattle.syntax.specs.Grammar.{Op, eq, ne, lt, le, gt, ge, Fn, Right, read, figures, fn-number, Cond, test, all, any, neg}
 use Rattle.model.specs.Queries.{Schema, Col, same-col, columns-of, Term, column, time, number, self, Compare, Query, source, pick, keep, join, aggregate, sources, picks, header, Grant, Caller}
 use Rattle.model.specs.Grants.{belongs, shown-of}
 use Rattle.model.specs.Checks.{has, within, cond-cols, timed, linked, checks-compute}
@@ -14,13 +14,6 @@ use Rattle.model.specs.Checks.{has, within, cond-cols, timed, linked, ch
 unfoldable pub reads : Right → Bool
 reads read = true
 reads (figures f) = false
-
-unfoldable pub fn-number : Fn → ℕ
-fn-number min = 0
-fn-number max = 1
-fn-number count = 2
-fn-number avg = 3
-fn-number sum = 4
 
 unfoldable pub gives : Fn → Right → Bool
 gives f read = false

@@ -10,6 +10,7 @@ use lib.Pow.{pow-lt}
 use lib.Bits.{bitAnd, and-mask}
 use lib.Dec.{leb, ltb, eqb, lit<}
 use borrow.Author.Tests.{eq-eqb, ne-eqb, lt-ltb, le-ltb, le-leb}
+use Rattle.syntax.specs.Grammar.{fn-number, numbered-fn}
 use Rattle.lists.specs.Lists.{some?, gather}
 use Rattle.lists.proofs.Gathers.{some-append}
 use Rattle.syntax.specs.Grammar as G
@@ -18,9 +19,9 @@ use Rattle.masks.specs.Masks.{bit?, mask-of}
 use Rattle.masks.proofs.Bits.{bit-and, bit-past}
 use Rattle.masks.proofs.Lists.{bits-same, bit-mask, inside-alone}
 use Rattle.orders.specs.Orders.{codes-in}
-use Rattle.query.specs.Forms.{coded-col, cols-in, numbered-fn}
+use Rattle.query.specs.Forms.{coded-col, cols-in}
 use Rattle.comparisons.specs.Compared.{col-codes, column-code}
-use Rattle.needs.specs.Asking.{all-columns, bits-of, col-code, fn-code, fn-number}
+use Rattle.needs.specs.Asking.{all-columns, bits-of, col-code, form-fn}
 
 -- ---- one column
 
@@ -73,20 +74,3 @@ unfolding bits-of cols-in
 order-columns m =
     bits-same (bitAnd (mask-of (codes-in m)) all-columns) (mask-of (gather col-codes (map coded-col (codes-in m))))
     (λ i. bit-and (mask-of (codes-in m)) all-columns i ∙ ap₂ _&&_ (bit-mask (codes-in m) i) (bit-all i) ∙ low-codes (codes-in m) i ∙ sym (bit-mask (gather col-codes (map coded-col (codes-in m))) i))
-
--- ---- aggregates
-
-pub fn-of-number : (n : ℕ) → fn-code (numbered-fn n) ≡ fn-number n
-unfolding fn-code numbered-fn fn-number
-fn-of-number n = go (ℕ-discrete n 1) (ℕ-discrete n 2) (ℕ-discrete n 3) (ℕ-discrete n 4)
-  where
-    go : Dec (n ≡ 1) → Dec (n ≡ 2) → Dec (n ≡ 3) → Dec (n ≡ 4) → fn-code (numbered-fn n) ≡ fn-number n
-    go (yes a) b c d = rw a
-    go (no a) (yes b) c d = rw b
-    go (no a) (no b) (yes c) d = rw c
-    go (no a) (no b) (no c) (yes d) = rw d
-    go (no a) (no b) (no c) (no d) = rw (ne-eqb n 1 a, ne-eqb n 2 b, ne-eqb n 3 c, ne-eqb n 4 d) (sym (other (decLt n 5)))
-      where
-        other : Dec (n < 5) → cond (leb 1 n && ltb n 5) n 5 ≡ 5
-        other (yes h) = let e : n ≡ 0 = omega arith in rw e
-        other (no h) = rw (le-leb 1 n (omega arith), le-ltb n 5 (omega arith))

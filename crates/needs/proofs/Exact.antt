@@ -8,6 +8,7 @@ use native.Mathlib.Omega.{arith}
 use lib.Bits.{bitAnd}
 use lib.Dec.{T, ltb, ltb→lt}
 use borrow.Author.Tests.{eq-eqb, ne-eqb}
+use Rattle.syntax.specs.Grammar.{fn-number, numbered-fn}
 use Rattle.lists.specs.Lists.{every}
 use Rattle.lists.proofs.Laws.{and-l, and-r, and-both, parts}
 use Rattle.model.specs.Queries.{Col, Query, source, pick, keep, join, aggregate}
@@ -16,14 +17,14 @@ use Rattle.masks.specs.Masks.{mask-of}
 use Rattle.orders.specs.Orders.{codes-in}
 use Rattle.nodes.specs.Nodes.{link}
 use Rattle.grant.specs.Grants.{linked-from}
-use Rattle.query.specs.Forms.{Words, coded-col, cols-in, form-order, numbered-fn, cond-at, outer, inner, with-form, queries-in, query-in}
+use Rattle.query.specs.Forms.{Words, coded-col, cols-in, form-order, cond-at, outer, inner, with-form, queries-in, query-in}
 use Rattle.query.specs.declared.Form.{Form}
 use Rattle.comparisons.specs.Compared.{compared, named-by, column-code}
 use Rattle.comparisons.proofs.Walked.{cond-tests}
 use Rattle.needs.specs.declared.Sides.{Sides}
-use Rattle.needs.specs.Asking.{all-columns, col-code, fn-code, fn-number, rows-needs, pick-needs, keep-needs, join-needs, aggregate-needs, needs-of, outer-needs, wide-needs, form-needs, no-needs, needs-from, needs-in}
+use Rattle.needs.specs.Asking.{all-columns, col-code, form-fn, rows-needs, pick-needs, keep-needs, join-needs, aggregate-needs, needs-of, outer-needs, wide-needs, form-needs, no-needs, needs-from, needs-in}
 use Rattle.query.specs.Shapes.{laid-form, laid-forms}
-use Rattle.needs.proofs.Codes.{code-of-col, order-columns, fn-of-number}
+use Rattle.needs.proofs.Codes.{code-of-col, order-columns}
 
 -- ---- joins
 
@@ -101,12 +102,12 @@ module _ (ns : List ℕ) (w : Words) where
       second = λ u v. absurd u;
     }
 
-    aggregate-fit : (f c size offset : ℕ) → Fits (outer-needs (aggregate-needs (fn-number f) (column-code c) size offset (s .outer)) s) (aggregate (numbered-fn f) (coded-col c) size offset (outer qs) ∷ inner qs)
-    unfolding outer inner needs-of outer-needs lean joinless
+    aggregate-fit : (f c size offset : ℕ) → Fits (outer-needs (aggregate-needs (form-fn f) (column-code c) size offset (s .outer)) s) (aggregate (numbered-fn f) (coded-col c) size offset (outer qs) ∷ inner qs)
+    unfolding outer inner needs-of outer-needs form-fn lean joinless
     aggregate-fit f c size offset = record {
       first = λ u.
-          ap₂ (λ x y. aggregate-needs x y size offset (s .outer)) (sym (fn-of-number f)) (sym (code-of-col c))
-          ∙ ap (aggregate-needs (fn-code (numbered-fn f)) (col-code (coded-col c)) size offset) (h .first u);
+          ap (λ y. aggregate-needs (fn-number (numbered-fn f)) y size offset (s .outer)) (sym (code-of-col c))
+          ∙ ap (aggregate-needs (fn-number (numbered-fn f)) (col-code (coded-col c)) size offset) (h .first u);
       second = λ u v. h .second u v;
     }
 

@@ -1,5 +1,5 @@
 -- What is asked with one form more, part by part.
-use mathlib.Core.Path.{_≡_, refl, ap, _∙_}
+use mathlib.Core.Path.{_≡_, refl, sym, ap, _∙_}
 use mathlib.Core.List.{List, [], _∷_}
 use mathlib.Core.Bool.{Bool, true, false, _||_}
 use Prim.Native.Nat.{ℕ, _^_, _≤_, _<_}
@@ -7,6 +7,7 @@ use native.Mathlib.Omega.{arith}
 use lib.Bits.{bitAnd, bitOr, or-zero-l}
 use lib.Dec.{ltb, eqb}
 use borrow.Author.Tests.{eq-eqb, ne-eqb, lt-ltb, le-ltb, le-leb}
+use Rattle.syntax.proofs.Aggregates.{fn-back, fn-none, fn-past}
 use Rattle.masks.specs.Masks.{bit?, with-bit, mask-of}
 use Rattle.orders.specs.Orders.{codes-in}
 use Rattle.nodes.specs.Nodes.{link}
@@ -14,7 +15,7 @@ use Rattle.grant.specs.Grants.{streams-mask}
 use Rattle.comparisons.specs.Compared.{compared, named-by}
 use Rattle.needs.specs.declared.Needs.{Needs}
 use Rattle.needs.specs.declared.Sides.{Sides}
-use Rattle.needs.specs.Asking.{all-columns, code-bit, fn-number, rows-needs, pick-needs, keep-needs, join-needs, aggregate-needs, outer-needs, no-needs}
+use Rattle.needs.specs.Asking.{all-columns, code-bit, form-fn, rows-needs, pick-needs, keep-needs, join-needs, aggregate-needs, outer-needs, no-needs}
 
 -- ---- codes
 
@@ -29,23 +30,19 @@ bit-set c h e = e ∙ rw (lt-ltb c 24 h, lt-ltb c 32 (omega arith)) (or-zero-l (
 pub ruleset bit-ends = (bit-none, bit-set)
 
 module _ (n : ℕ) where
-  pub fn-none : n ≡ 0 → 5 ≡ fn-number n
-  unfolding fn-number
-  fn-none e = rw e
+  pub fn-zero : n ≡ 0 → 5 ≡ form-fn n
+  unfolding form-fn
+  fn-zero e = rw e (sym fn-none)
 
-  pub fn-past : 5 < n → 5 ≡ fn-number n
-  unfolding fn-number
-  fn-past h = rw (le-leb 1 n (omega arith), le-ltb n 5 (omega arith))
+  pub fn-above : 5 < n → 5 ≡ form-fn n
+  unfolding form-fn
+  fn-above h = sym (fn-past n (omega arith))
 
-  pub fn-one : (n ≡ 0 → ⊥) → n ≤ 5 → n ≡ fn-number n
-  unfolding fn-number
-  fn-one e h = go (ltb n 5) refl
-    where
-      go : (b : Bool) → ltb n 5 ≡ b → n ≡ fn-number n
-      go true f = rw (le-leb 1 n (omega arith), f)
-      go false f = let l = borrow.Author.Tests.ltb-false n 5 f in let g : n ≡ 5 = omega arith in rw g
+  pub fn-one : (n ≡ 0 → ⊥) → n ≤ 5 → n ≡ form-fn n
+  unfolding form-fn
+  fn-one e h = sym (fn-back n (omega arith) h)
 
-pub ruleset fn-ends = (fn-none, fn-past, fn-one)
+pub ruleset fn-ends = (fn-zero, fn-above, fn-one)
 
 -- ---- columns
 

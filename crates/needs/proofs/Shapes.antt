@@ -10,7 +10,8 @@ use Rattle.lists.specs.Lists.{every, some?, empty?, gather}
 use Rattle.lists.proofs.Laws.{and-l, and-r, and-both, or-cases, parts, every-append-l, every-append-r}
 use Rattle.lists.proofs.Gathers.{some-append}
 use Rattle.syntax.specs.Grammar as G
-use Rattle.syntax.specs.Grammar.{Cond, Fn}
+use Rattle.syntax.specs.Grammar.{Cond, Fn, fn-number}
+use Rattle.syntax.proofs.Aggregates.{fn-range}
 use Rattle.model.specs.Conditions.{tests}
 use Rattle.model.specs.Queries.{Col, col, figure, columns-of, Compare, Query, source, pick, keep, join, aggregate, sources, picks, header, Grant, Caller}
 use Rattle.model.specs.Grants.{shown-of}
@@ -27,7 +28,7 @@ use Rattle.grant.proofs.Masked.{low, declared-stream, cols-low}
 use Rattle.masks.specs.Masks.{bit?}
 use Rattle.query.specs.Forms.{coded-col}
 use Rattle.comparisons.specs.Compared.{named-by}
-use Rattle.needs.specs.Asking.{no-stream, col-code, fn-code, rows-needs, pick-needs, keep-needs, join-needs, aggregate-needs, needs-of}
+use Rattle.needs.specs.Asking.{no-stream, col-code, rows-needs, pick-needs, keep-needs, join-needs, aggregate-needs, needs-of}
 use Rattle.needs.proofs.Fields.{named-time, streams-are}
 
 or-swap : (a b : Bool) → (a || b) ≡ (b || a)
@@ -144,7 +145,7 @@ module _ (ns : List ℕ) where
 
   -- an aggregate, and the query below it
   pub record Below (q : Query ℕ) (f : Fn) (c : Col) (q′ : Query ℕ) : Type 0 where
-    pub number : needs-of ns q .aggregate ≡ fn-code f
+    pub number : needs-of ns q .aggregate ≡ fn-number f
     pub code : needs-of ns q .column ≡ col-code c
     pub picked : needs-of ns q .picked ≡ not (empty? (picks q′))
     pub over : T (no-aggregate q′) × T (has (header hs q′) c) × T (allowed hs q′)
@@ -161,13 +162,8 @@ module _ (ns : List ℕ) where
     none-there : T (no-aggregate q) → needs-of ns q .aggregate ≡ 0 → ((who : Caller) (catalogue : List Grant) → third-kind (schema-of ns) who catalogue q ≡ []) → Figured q
     one-there : {f : Fn} {c : Col} {q′ : Query ℕ} → Below q f c q′ → Figured q
 
-  pub fn-some : (f : Fn) → fn-code f ≡ 0 → ⊥
-  unfolding fn-code
-  fn-some G.min e = omega arith
-  fn-some G.max e = omega arith
-  fn-some G.count e = omega arith
-  fn-some G.avg e = omega arith
-  fn-some G.sum e = omega arith
+  pub fn-some : (f : Fn) → fn-number f ≡ 0 → ⊥
+  fn-some f e = let h = fn-range f .0 in omega arith
 
   pick-below : (p : Cond Compare) (q : Query ℕ) (f : Fn) (c : Col) (q′ : Query ℕ) → Below q f c q′ → Below (pick p q) f c q′
   unfolding needs-of pick-needs sources has-equality joins-by header third-kind

@@ -16,7 +16,7 @@ use Rattle.query.specs.declared.Form.{Form}
 use Rattle.comparisons.specs.Compared.{compared, named-by, column-code}
 use Rattle.needs.specs.declared.Needs.{Needs}
 use Rattle.needs.specs.declared.Sides.{Sides}
-use Rattle.needs.specs.Asking.{all-columns, fn-number, rows-needs, pick-needs, keep-needs, join-needs, aggregate-needs, outer-needs, wide-needs, form-needs, no-needs, needs-from, needs-in}
+use Rattle.needs.specs.Asking.{all-columns, form-fn, rows-needs, pick-needs, keep-needs, join-needs, aggregate-needs, outer-needs, wide-needs, form-needs, no-needs, needs-from, needs-in}
 
 -- ---- a form
 
@@ -25,7 +25,7 @@ module _ (f : Form) (s : Sides) {r : Sides} {b : ℕ} (q : b ≡ column-code (f 
   unfolding wide-needs
   wide-join e p i g = g ∙ rw (eq-eqb (f .kind) 3 e) (ap (λ n. outer-needs n s) (i ∙ ap₂ (λ a b. join-needs a b (s .outer) (s .inner)) p q))
 
-  pub wide-aggregate : (f .kind ≡ 3 → ⊥) → f .kind ≡ 4 → {k : ℕ} {n : Needs} → k ≡ fn-number (f .first) → n ≡ aggregate-needs k b (f .third) (f .fourth) (s .outer) → r ≡ outer-needs n s → r ≡ wide-needs f s
+  pub wide-aggregate : (f .kind ≡ 3 → ⊥) → f .kind ≡ 4 → {k : ℕ} {n : Needs} → k ≡ form-fn (f .first) → n ≡ aggregate-needs k b (f .third) (f .fourth) (s .outer) → r ≡ outer-needs n s → r ≡ wide-needs f s
   unfolding wide-needs
   wide-aggregate u e k i g =
       g ∙ rw (ne-eqb (f .kind) 3 u, eq-eqb (f .kind) 4 e)

@@ -6,7 +6,7 @@ use lib.Bits.{bitAnd, bitOr}
 use lib.Dec.{leb, ltb, eqb}
 use Rattle.lists.specs.Lists.{gather}
 use Rattle.syntax.specs.Grammar as G
-use Rattle.syntax.specs.Grammar.{Fn}
+use Rattle.syntax.specs.Grammar.{Fn, fn-number, numbered-fn}
 use Rattle.syntax.specs.Limits.{max-columns}
 use Rattle.model.specs.Conditions.{tests}
 use Rattle.model.specs.Queries.{Col, col, figure, Query, source, pick, keep, join, aggregate}
@@ -44,17 +44,9 @@ unfoldable pub col-code : Col → ℕ
 col-code (col s c) = s * max-columns + c
 col-code figure = figure-code
 
--- the aggregates by number, as rights have them: 1 to 5
-unfoldable pub fn-code : Fn → ℕ
-fn-code G.min = 1
-fn-code G.max = 2
-fn-code G.count = 3
-fn-code G.avg = 4
-fn-code G.sum = 5
-
--- the number of an aggregate's form: any that is none is that of `sum`
-unfoldable pub fn-number : ℕ → ℕ
-fn-number n = cond (leb 1 n && ltb n 5) n 5
+-- the number of the aggregate that a form's number stands for
+unfoldable pub form-fn : ℕ → ℕ
+form-fn n = fn-number (numbered-fn n)
 
 -- ---- by the form of the query
 
@@ -156,7 +148,7 @@ needs-of ns (source s) = rows-needs ns s
 needs-of ns (pick c q) = pick-needs (named-by (tests c)) (needs-of ns q)
 needs-of ns (keep cs q) = keep-needs (bits-of cs) (needs-of ns q)
 needs-of ns (join a b q r) = join-needs (col-code a) (col-code b) (needs-of ns q) (needs-of ns r)
-needs-of ns (aggregate f c size offset q) = aggregate-needs (fn-code f) (col-code c) size offset (needs-of ns q)
+needs-of ns (aggregate f c size offset q) = aggregate-needs (fn-number f) (col-code c) size offset (needs-of ns q)
 
 -- ---- by a table of forms: what the first two of the queries that follow ask
 
@@ -167,7 +159,7 @@ outer-needs n s = record { outer = n; inner = s .inner }
 unfoldable pub wide-needs : Form → Sides → Sides
 wide-needs f s =
     cond (eqb (f .kind) join-form) (outer-needs (join-needs (column-code (f .first)) (column-code (f .second)) (s .outer) (s .inner)) s)
-    (cond (eqb (f .kind) aggregate-form) (outer-needs (aggregate-needs (fn-number (f .first)) (column-code (f .second)) (f .third) (f .fourth) (s .outer)) s)
+    (cond (eqb (f .kind) aggregate-form) (outer-needs (aggregate-needs (form-fn (f .first)) (column-code (f .second)) (f .third) (f .fourth) (s .outer)) s)
     s)
 
 unfoldable pub form-needs : List ℕ → List ℕ → Form → Sides → Sides

@@ -6,7 +6,7 @@ ghost use Rattle.orders.specs.Orders.{codes-in};
 ghost use Rattle.query.specs.Tables.{query-forms};
 ghost use Rattle.comparisons.specs.Compared.{compared, named-by};
 ghost use Rattle.nodes.specs.Nodes.{link};
-ghost use Rattle.needs.specs.Asking.{all-columns, code-bit, fn-number, rows-needs, pick-needs, keep-needs, join-needs, aggregate-needs, outer-needs, wide-needs, form-needs, no-needs, needs-in};
+ghost use Rattle.needs.specs.Asking.{all-columns, code-bit, form-fn, rows-needs, pick-needs, keep-needs, join-needs, aggregate-needs, outer-needs, wide-needs, form-needs, no-needs, needs-in};
 use query::Form;
 use query::Query;
 use terms::Term;
@@ -48,7 +48,7 @@ fn code_bit(code: u32) -> u32
 
 // The number of an aggregate's form: any that is none is that of `sum`.
 fn fn_number(n: u32) -> u32
-    ensures { λ r. ⌜ r ≡ fn-number n ⌝ }
+    ensures { λ r. ⌜ r ≡ form-fn n ⌝ }
 {
     if n == 0 {
         return Needs::SUM;

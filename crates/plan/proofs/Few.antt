@@ -12,13 +12,13 @@ use Rattle.lists.specs.Lists.{select, gather, count-from, distinct}
 use Rattle.lists.proofs.Laws.{all-any, all-select, parts}
 use Rattle.lists.proofs.Counting.{count-length}
 use Rattle.lists.proofs.Gathers.{select-fewer}
-use Rattle.syntax.specs.Grammar.{Fn, Cond}
+use Rattle.syntax.specs.Grammar.{Fn, Cond, numbered-fn}
 use Rattle.model.specs.Queries.{Col, Compare, Row, Table, Record}
 use Rattle.model.specs.Aggregates.{in-window, closed, answer-row, window, figures-of}
 use Rattle.model.specs.Meaning.{both, kept-row, kept, pairs, aggregated, table-of}
 use Rattle.model.specs.Grants.{limited}
 use Rattle.model.proofs.Distinct.{distinct-select, distinct-few, count-distinct}
-use Rattle.query.specs.Forms.{Words, numbered-fn, coded-col, cols-in}
+use Rattle.query.specs.Forms.{Words, coded-col, cols-in}
 use Rattle.plan.specs.declared.Plan.{Plan}
 use Rattle.plan.specs.Plans.{left-conds, right-conds, pair-conds, outer-conds, inner-table, figure-table, planned}
 use Rattle.plan.proofs.Tables.{link, inner-joined, inner-alone}

@@ -10,7 +10,7 @@ use lib.Dec.{T, leb, ltb, eqb, leb→le, ltb→lt}
 use lib.ListN.{length, length-set}
 use Rattle.lists.specs.Lists.{distinct}
 use Rattle.lists.proofs.Laws.{parts, All, T-true, T-false, true-T}
-use Rattle.syntax.specs.Grammar.{Cond, all}
+use Rattle.syntax.specs.Grammar.{Cond, all, numbered-fn}
 use Rattle.model.specs.Queries.{Col, col, same-col, columns-of, Compare, Query, source, pick, keep, join, aggregate, sources, picks, header, Table, Record}
 use Rattle.model.specs.Conditions.{conds-of}
 use Rattle.model.specs.Meaning.{picked, kept, pairs, equality, aggregated, table-of, plain}
@@ -31,7 +31,7 @@ use Rattle.lists.proofs.Counting.{map-length}
 use Rattle.orders.specs.Orders.{order-end, codes-in}
 use Rattle.orders.proofs.Codes.{from-below, of-below}
 use Rattle.query.specs.declared.Form.{Form}
-use Rattle.query.specs.Forms.{Words, form-order, numbered-fn, coded-col, cols-in, cond-at, limits-at, outer, inner, with-form, queries-in, query-in}
+use Rattle.query.specs.Forms.{Words, form-order, coded-col, cols-in, cond-at, limits-at, outer, inner, with-form, queries-in, query-in}
 use Rattle.plan.specs.declared.Plan.{Plan}
 use Rattle.plan.specs.Plans.{no-view, view-of, view-limits, no-plan, stream-order, with-rows, with-pick, with-keep, with-join, with-aggregate, with-view, plan-in, picks-in, right-conds, inner-table, figure-table, planned, viewless, form-regular, regular, pick-count}
 use Rattle.plan.proofs.Steps.{step-rows, step-pick, step-keep, step-join, step-aggregate, step-view}

@@ -8,7 +8,7 @@ use lib.Dec.{T, leb, leb→le}
 use lib.ListN.{length}
 use Rattle.lists.specs.Lists.{gather}
 use Rattle.lists.proofs.Laws.{parts, and-l}
-use Rattle.syntax.specs.Grammar.{Cond}
+use Rattle.syntax.specs.Grammar.{Cond, numbered-fn}
 use Rattle.model.specs.Queries.{Col, columns-of, Compare, Query, source, pick, keep, join, aggregate, sources, header}
 use Rattle.model.specs.Checks.{has, linked, no-aggregate, side, allowed, fitting, sized}
 use Rattle.model.specs.Rewriting.{under}
@@ -19,7 +19,7 @@ use Rattle.model.proofs.OneRow.{header-in}
 use Rattle.model.proofs.Rewriting.{stream, side-sources}
 use Rattle.schema.specs.Schemas.{schema-of}
 use Rattle.query.specs.declared.Form.{Form}
-use Rattle.query.specs.Forms.{Words, numbered-fn, coded-col, outer, inner, queries-in, query-in}
+use Rattle.query.specs.Forms.{Words, coded-col, outer, inner, queries-in, query-in}
 use Rattle.query.proofs.Shapes.{form-rows, form-pick, form-keep, form-join, form-aggregate}
 use Rattle.plan.specs.declared.Plan.{Plan}
 use Rattle.plan.specs.Plans.{view-of, view-limits, no-plan, with-rows, with-pick, with-keep, with-join, with-aggregate, with-view, plan-in, form-regular, regular, plan-streams}

@@ -10,7 +10,7 @@ use lib.ListN.{length, getD, set}
 use lib.Seq.{getD-set-same, getD-set-other}
 use Rattle.lists.specs.Lists.{count-from}
 use Rattle.lists.proofs.Counting.{count-more, map-alike}
-use Rattle.syntax.specs.Grammar.{Cond}
+use Rattle.syntax.specs.Grammar.{Cond, numbered-fn}
 use Rattle.model.specs.Queries.{Compare, Table}
 use Rattle.model.specs.Meaning.{picked, pairs, equality, aggregated}
 use Rattle.model.specs.Grants.{limit, limited}
@@ -19,7 +19,7 @@ use Rattle.model.proofs.Tables.{limited-more}
 use Rattle.nodes.specs.Nodes.{conditions-of, list-in}
 use Rattle.grant.specs.Grants.{limit-of}
 use Rattle.query.specs.declared.Form.{Form}
-use Rattle.query.specs.Forms.{Words, numbered-fn, coded-col, cond-at}
+use Rattle.query.specs.Forms.{Words, coded-col, cond-at}
 use Rattle.plan.specs.declared.Plan.{Plan}
 use Rattle.plan.specs.Plans.{no-view, view-of, view-limits, with-rows, with-pick, with-keep, with-join, with-aggregate, with-view, picks-in, inner-end, right-conds, left-conds, pair-conds, outer-conds, inner-table, figure-table}
 use Rattle.plan.proofs.Limits.{same-swap, picked-last, limited-last, picked-before, limited-before}

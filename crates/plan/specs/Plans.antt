@@ -6,7 +6,7 @@ use Prim.Native.Nat.{ℕ, suc, _+_, _*_, _-_}
 use lib.Dec.{leb, ltb, eqb}
 use lib.ListN.{length, getD, set, replicate}
 use Rattle.lists.specs.Lists.{count-from}
-use Rattle.syntax.specs.Grammar.{Cond, ge, le}
+use Rattle.syntax.specs.Grammar.{Cond, ge, le, numbered-fn}
 use Rattle.syntax.specs.Limits.{max-columns, max-forms}
 use Rattle.model.specs.Queries.{Compare, Table, Record}
 use Rattle.model.specs.Meaning.{kept, pairs, equality, aggregated, table-of}
@@ -17,7 +17,7 @@ use Rattle.grant.specs.Catalogues.{words-in}
 use Rattle.nodes.specs.Nodes.{conditions-of}
 use Rattle.orders.specs.Orders.{order-end, codes-in, order-of, order-from}
 use Rattle.query.specs.declared.Form.{Form}
-use Rattle.query.specs.Forms.{Words, rows-form, pick-form, keep-form, form-order, join-form, aggregate-form, numbered-fn, coded-col, cols-in, cond-at, queries-in}
+use Rattle.query.specs.Forms.{Words, rows-form, pick-form, keep-form, form-order, join-form, aggregate-form, coded-col, cols-in, cond-at, queries-in}
 use Rattle.plan.specs.declared.View.{View}
 use Rattle.plan.specs.declared.Plan.{Plan}
 

@@ -7,13 +7,13 @@ use native.Mathlib.Omega.{arith}
 use lib.ListN.{length, take, drop, length-drop, drop-of-length-le}
 use lib.Seq.{take-all}
 use borrow.Author.Tests.{ne-eqb, le-ltb, lt-ltb}
-use Rattle.syntax.specs.Grammar.{Bytes, bytes, Entry, op-word, fn-word, put-name, put-nat, put-int, put-ref, put-open, put-items, put-equality}
+use Rattle.syntax.specs.Grammar.{Bytes, bytes, Entry, op-word, fn-word, put-name, put-nat, put-int, put-ref, put-open, put-items, put-equality, numbered-fn}
 use Rattle.model.specs.Queries.{Schema}
 use Rattle.calls.specs.Names.{ref-of}
 use Rattle.text.specs.Words.{bytes-from, name-of}
 use Rattle.nodes.specs.Profiles.{profile-in}
 use Rattle.grant.specs.Catalogues.{words-in}
-use Rattle.query.specs.Forms.{Words, coded-col, cols-in, form-order, numbered-fn, cond-at}
+use Rattle.query.specs.Forms.{Words, coded-col, cols-in, form-order, cond-at}
 use Rattle.query.specs.declared.Form.{Form}
 use Rattle.print.specs.Writing.{Put, byte-text}
 use Rattle.print.specs.declared.Bounds.{Bounds}

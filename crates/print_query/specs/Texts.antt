@@ -7,13 +7,13 @@ use Prim.Native.Nat.{ℕ, min}
 use lib.IntN.{pos}
 use lib.Dec.{eqb, ltb, leb}
 use lib.ListN.{length, drop}
-use Rattle.syntax.specs.Grammar.{Bytes, bytes, fn-word, put-ref, put-int, put-open, put-items, put-equality, put-cond, put-form}
+use Rattle.syntax.specs.Grammar.{Bytes, bytes, fn-word, put-ref, put-int, put-open, put-items, put-equality, put-cond, put-form, numbered-fn}
 use Rattle.model.specs.Queries.{Schema}
 use Rattle.model.specs.Conditions.{map-cond}
 use Rattle.calls.specs.Names.{ref-of, test-of, form-of}
 use Rattle.nodes.specs.Profiles.{profile-in}
 use Rattle.grant.specs.Catalogues.{words-in}
-use Rattle.query.specs.Forms.{Words, coded-col, cols-in, rows-form, pick-form, keep-form, form-order, join-form, aggregate-form, numbered-fn, cond-at, query-in}
+use Rattle.query.specs.Forms.{Words, coded-col, cols-in, rows-form, pick-form, keep-form, form-order, join-form, aggregate-form, cond-at, query-in}
 use Rattle.query.specs.declared.Form.{Form}
 use Rattle.print.specs.Writing.{furthest, Put}
 use Rattle.print.specs.declared.Bounds.{Bounds}

@@ -7,10 +7,11 @@ use native.Mathlib.Omega.{arith}
 use lib.Dec.{T, ltb, leb, eqb, ltb→lt, lt→ltb, leb→le, le→leb, eqb→eq}
 use lib.ListN.{length}
 use borrow.Author.Tests.{eq-eqb}
+use Rattle.syntax.specs.Grammar.{numbered-fn}
 use Rattle.lists.proofs.Laws.{and-l, and-r, and-both, true-T, append-nil}
 use Rattle.model.specs.Queries as M
 use Rattle.model.specs.Queries.{source, pick, keep, join, aggregate}
-use Rattle.query.specs.Forms.{Words, coded-col, cols-in, form-order, rows-form, pick-form, keep-form, join-form, aggregate-form, under-form, numbered-fn, cond-at, outer, inner, with-form, queries-in, query-in}
+use Rattle.query.specs.Forms.{Words, coded-col, cols-in, form-order, rows-form, pick-form, keep-form, join-form, aggregate-form, under-form, cond-at, outer, inner, with-form, queries-in, query-in}
 use Rattle.query.specs.Shapes.{depth, taken, formed, one-query}
 use Rattle.query.specs.declared.Form.{Form}
 

@@ -4,7 +4,7 @@ use mathlib.Core.Bool.{cond}
 use Prim.Native.Nat.{ℕ, _+_, _*_, _/_, _%_}
 use lib.Dec.{ltb, eqb}
 use Rattle.syntax.specs.Grammar as G
-use Rattle.syntax.specs.Grammar.{Fn, ge, le, Cond, Entry}
+use Rattle.syntax.specs.Grammar.{numbered-fn, ge, le, Cond, Entry}
 use Rattle.syntax.specs.Limits.{max-columns}
 use Rattle.model.specs.Queries.{Col, col, figure, Compare, Query, source, pick, keep, join, aggregate}
 use Rattle.model.specs.Grants.{fill, limit}
@@ -63,10 +63,6 @@ keep-of m = record { kind = keep-form; first = 0; second = 0; third = m % half-e
 
 unfoldable pub form-order : Form → ℕ
 form-order f = f .third + f .fourth * half-end
-
--- the aggregates by number, as rights have them: 1 to 5
-unfoldable pub numbered-fn : ℕ → Fn
-numbered-fn n = cond (eqb n 1) G.min (cond (eqb n 2) G.max (cond (eqb n 3) G.count (cond (eqb n 4) G.avg G.sum)))
 
 -- ---- conditions
 

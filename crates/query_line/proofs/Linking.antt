@@ -6,6 +6,7 @@ use Prim.Native.Nat.{ℕ, suc, _+_, _≤_, _<_}
 use native.Mathlib.Omega.{arith}
 use lib.Dec.{T, lt→ltb, ltb}
 use lib.ListN.{length}
+use Rattle.syntax.specs.Grammar.{fn-number}
 use Rattle.lists.specs.Lists.{every}
 use Rattle.lists.proofs.Laws.{and-l, and-r, and-both}
 use Rattle.syntax.specs.Grammar as G
@@ -15,7 +16,6 @@ use Rattle.nodes.specs.Storing.{size, store}
 use Rattle.nodes.proofs.Reaching.{Same}
 use Rattle.nodes.proofs.Sizes.{size-some}
 use Rattle.nodes.proofs.Stored.{links-further, links-same}
-use Rattle.text.specs.Keywords.{fn-number}
 use Rattle.conditions.specs.Seeing.{nodes-of}
 use Rattle.conditions.proofs.Storable.{cond-fits}
 use Rattle.query.specs.Shapes.{laid-form, laid-forms, has-number}

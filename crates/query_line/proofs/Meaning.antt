@@ -12,7 +12,7 @@ use Rattle.lists.specs.Lists.{every, gather, distinct}
 use Rattle.lists.proofs.Laws.{and-l, and-r, and-both, true-T, every-both, every-all, every-append-l, every-append-r, all-weaken, append-nil, never}
 use Rattle.lists.proofs.Gathers.{every-of-map}
 use Rattle.syntax.specs.Grammar as G
-use Rattle.syntax.specs.Grammar.{Bytes, Fn, Ref, Test, Cond, Form, Entry, cond?}
+use Rattle.syntax.specs.Grammar.{Bytes, Fn, Ref, Test, Cond, Form, Entry, cond?, fn-number, numbered-fn}
 use Rattle.syntax.specs.Limits.{natural}
 use Rattle.model.specs.Conditions.{tests, map-cond}
 use Rattle.model.proofs.Conditions.{tests-map, cond-same}
@@ -26,7 +26,6 @@ use Rattle.orders.specs.Orders.{order-of}
 use Rattle.orders.proofs.Codes.{codes-of, codes-fit}
 use Rattle.terms.specs.Terms.{ref-code, operand-value, left-code, right-code, test-value}
 use Rattle.terms.proofs.Resolving.{fine, code-alone, code-range}
-use Rattle.text.specs.Keywords.{fn-number}
 use Rattle.columns.specs.Columns.{stream-place}
 use Rattle.nodes.specs.Nodes.{coded-term, node-compare, cond-in}
 use Rattle.nodes.specs.Storing.{size, store, list-size}
@@ -38,7 +37,7 @@ use Rattle.conditions.specs.Seeing.{test-node, nodes-of}
 use Rattle.conditions.proofs.Storable.{cond-fits}
 use Rattle.grant_line.proofs.Known.{good-test, test-declared, test-fine}
 use Rattle.grant_line.proofs.Meaning.{ops-back, column-back, operand-back, bounded-right, fused}
-use Rattle.query.specs.Forms.{Words, coded-col, cols-in, numbered-fn, cond-at}
+use Rattle.query.specs.Forms.{Words, coded-col, cols-in, cond-at}
 use Rattle.query.specs.Tables.{query-forms, query-with}
 use Rattle.query.specs.declared.Form as Q
 use Rattle.query.specs.declared.Query.{Query}
@@ -49,7 +48,7 @@ use Rattle.query_read.specs.Parts as R
 use Rattle.query_read.specs.Parts.{Part, rows, pick, keep, join, aggregate, Inner, inner}
 use Rattle.query_read.specs.Seeing.{span-kept, span-of, rows-own, pick-own, keep-own, join-own, aggregate-own, own-of, part-stored, put-at, with-own, with-part, with-parts, no-reading}
 use Rattle.query_read.specs.declared.Reading.{Reading}
-use Rattle.query_read.proofs.Owning.{fn-forth}
+use Rattle.syntax.proofs.Aggregates.{fn-forth}
 use Rattle.query_read.proofs.Answering.{conds-in, part-conds, store-parts, parts-stored, pick-over, over-before, over-first, words-then}
 use Rattle.query_read.proofs.Answering as A
 use Rattle.query_line.specs.Placing.{begun}

@@ -13,12 +13,13 @@ use borrow.Author.Tests.{le-leb, le-ltb, ne-eqb, eqb-true, eqb-false, not-true, 
 use Rattle.lists.specs.Lists.{empty?}
 use Rattle.lists.proofs.Laws.{never, by-test, or-first}
 use Rattle.syntax.specs.Grammar as G
-use Rattle.syntax.specs.Grammar.{Bytes, Fn, Ref, Test, Cond}
+use Rattle.syntax.specs.Grammar.{Bytes, Fn, Ref, Test, Cond, fn-number, numbered-fn}
 use Rattle.syntax.specs.Limits.{short-ref, cond-depth}
 use Rattle.syntax.specs.Readers.{Read, bind, ensure, _>>=_, _>>_, give, byte, read-head, read-open, read-ref, read-some, form-next, opens, Kind, k-in, k-pick, k-keep, k-join, k-fn, kind-word, kinds}
 use Rattle.syntax.proofs.Steps.{from, done}
 use Rattle.syntax.proofs.Conditions.{cond-read}
 use Rattle.syntax.proofs.Leaving.{items-ended, ref-leaves}
+use Rattle.syntax.proofs.Aggregates.{fn-forth, fn-back, fn-range}
 use Rattle.model.specs.Conditions.{tests}
 use Rattle.text.specs.declared.Name.{Name}
 use Rattle.text.specs.declared.Number.{Number}
@@ -26,7 +27,7 @@ use Rattle.text.specs.declared.Word.{Word}
 use Rattle.text.specs.declared.Time.{Time}
 use Rattle.text.specs.declared.Class.the-variants.{Plain}
 use Rattle.text.specs.Words.{name-at, number-at}
-use Rattle.text.specs.Keywords.{fn-number, kind-number, kind-coded, coded, numbered, word-at, WordAt, part-at as opening-at}
+use Rattle.text.specs.Keywords.{kind-number, kind-coded, coded, numbered, word-at, WordAt, part-at as opening-at}
 use Rattle.text.specs.Readings.{any-cond, any-items, any-some}
 use Rattle.text.proofs.Runs.{first-byte, run-from, place-left}
 use Rattle.text.proofs.Views.{view-none, view-here, left-drop}
@@ -43,7 +44,6 @@ use Rattle.nodes.specs.Storing.{size}
 use Rattle.conditions.specs.declared.Seen.{Seen}
 use Rattle.conditions.specs.Seeing.{nodes-of, nothing-seen, seen-of, deep-seen, has-room, cond-seen, cond-stored, cond-at, CondRead}
 use Rattle.conditions.proofs.Capacity.{cond-bytes}
-use Rattle.query.specs.Forms.{numbered-fn}
 use Rattle.query_read.specs.declared.Own.{Own}
 use Rattle.query_read.specs.Parts.{Part, keep, join, read-part, read-own}
 use Rattle.query_read.specs.Seeing.{level, span-of, no-own, rows-own, pick-own, keep-own, join-own, aggregate-own, picked, own-of, own-read, own-at, part-stored, own-stored}
@@ -253,17 +253,6 @@ pub ruleset join-ends = (join-unopened, join-unspaced, join-leftless, join-alone
 
 -- ---- an aggregate
 
-fn-back : (f : ℕ) → 1 ≤ f → f ≤ 5 → fn-number (numbered-fn f) ≡ f
-unfolding numbered-fn fn-number
-fn-back f h k = go (eqb f 1) (eqb f 2) (eqb f 3) (eqb f 4) refl refl refl refl
-  where
-    go : (a b c d : Bool) → eqb f 1 ≡ a → eqb f 2 ≡ b → eqb f 3 ≡ c → eqb f 4 ≡ d → fn-number (cond a G.min (cond b G.max (cond c G.count (cond d G.avg G.sum)))) ≡ f
-    go true b c d p q r s = sym (eqb-true f 1 p)
-    go false true c d p q r s = sym (eqb-true f 2 q)
-    go false false true d p q r s = sym (eqb-true f 3 r)
-    go false false false true p q r s = sym (eqb-true f 4 s)
-    go false false false false p q r s = let w = eqb-false f 1 p in let x = eqb-false f 2 q in let y = eqb-false f 3 r in let z = eqb-false f 4 s in omega arith
-
 module _ (ns : List ℕ) (s : Bytes) (f b n at : ℕ) {c : ℕ} (p : c ≡ getD s at 0) where
   abbrev whole : Own
   whole = part-at ns s b n (k-fn (numbered-fn f)) at
@@ -394,22 +383,6 @@ module _ (ns : List ℕ) (s : Bytes) (b n at : ℕ) (ws : List ℕ) (line : leng
           })
 
 -- ---- any form
-
-pub fn-forth : (f : Fn) → numbered-fn (fn-number f) ≡ f
-unfolding numbered-fn fn-number
-fn-forth G.min = refl
-fn-forth G.max = refl
-fn-forth G.count = refl
-fn-forth G.avg = refl
-fn-forth G.sum = refl
-
-fn-range : (f : Fn) → (1 ≤ fn-number f) × (fn-number f ≤ 5)
-unfolding fn-number
-fn-range G.min = (omega arith, omega arith)
-fn-range G.max = (omega arith, omega arith)
-fn-range G.count = (omega arith, omega arith)
-fn-range G.avg = (omega arith, omega arith)
-fn-range G.sum = (omega arith, omega arith)
 
 -- a form by the number of its first word
 kind-of : ℕ → Option Kind

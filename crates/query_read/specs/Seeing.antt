@@ -8,12 +8,11 @@ use lib.IntN.{ℤ}
 use lib.Dec.{leb, ltb, eqb}
 use lib.ListN.{length, drop, set, replicate}
 use Rattle.lists.specs.Lists.{some?, every}
-use Rattle.syntax.specs.Grammar.{Bytes, Test, Cond, Form}
+use Rattle.syntax.specs.Grammar.{Bytes, Test, Cond, Form, fn-number}
 use Rattle.syntax.specs.Limits.{max-line, max-depth, max-forms, max-streams, short, short-ref, not-above, natural, cond-depth}
 use Rattle.syntax.specs.Readers.{Read}
 use Rattle.model.specs.Conditions.{tests}
 use Rattle.calls.specs.Names.{form-conds}
-use Rattle.text.specs.Keywords.{fn-number}
 use Rattle.text.specs.Readings.{any-form}
 use Rattle.text.specs.declared.Time.{Time}
 use Rattle.masks.specs.Masks.{mask-of}

@@ -10,13 +10,13 @@ use lib.Dec.{T, leb, ltb, eqb, eqb→eq, leb→le, ltb→lt}
 use borrow.Author.Tests.{eq-eqb, ne-eqb}
 use Rattle.lists.specs.Lists.{select, every, some?, empty?, gather, same-list, distinct}
 use Rattle.lists.proofs.Laws.{all-weaken, and-l, or-r, parts, every-all, same-list→eq}
-use Rattle.syntax.specs.Grammar as G
-use Rattle.syntax.specs.Grammar.{Fn, read, figures}
+use Rattle.syntax.specs.Grammar.{Fn, read, figures, fn-number, numbered-fn, numbered-right}
+use Rattle.syntax.proofs.Aggregates.{fn-range, fn-back}
 use Rattle.model.specs.Queries as M
 use Rattle.model.specs.Queries.{Col, col, figure, same-col, Query, sources, picks, header}
 use Rattle.model.specs.Grants.{shown-of}
 use Rattle.model.specs.Checks.{has, timed, no-aggregate, allowed}
-use Rattle.model.specs.Routes.{reads, fn-number, gives, is-equality, single}
+use Rattle.model.specs.Routes.{reads, gives, is-equality, single}
 use Rattle.model.proofs.Asked.{shown-by, left, joins-by}
 use Rattle.model.proofs.RouteKinds.{asked-cols, equal-cols, side-picks, has-equality}
 use Rattle.model.proofs.Columns.{has-within}
@@ -25,13 +25,14 @@ use Rattle.schema.specs.Schemas.{streams-in, schema-of}
 use Rattle.schema.proofs.Tests.{streams-most}
 use Rattle.masks.specs.Masks.{bit?, inside}
 use Rattle.masks.proofs.Bits.{bit-or}
+use Rattle.columns.proofs.Closing.{eqb-sym}
 use Rattle.columns.proofs.ColumnBits.{figure-none}
 use Rattle.nodes.specs.Nodes.{conditions-of}
-use Rattle.grant.specs.Grants.{numbered-right, streams-of, grant-of, window-sound, grant-sound}
+use Rattle.grant.specs.Grants.{streams-of, grant-of, window-sound, grant-sound}
 use Rattle.grant.specs.declared.Grant.{Grant}
 use Rattle.grant.proofs.Masked.{declared-stream}
 use Rattle.query.specs.Forms.{coded-col}
-use Rattle.needs.specs.Asking.{no-stream, bits-of, col-code, fn-code, needs-of}
+use Rattle.needs.specs.Asking.{no-stream, bits-of, col-code, needs-of}
 use Rattle.needs.specs.declared.Needs.{Needs}
 use Rattle.needs.proofs.Fields.{bits-append, need-is, keys-are, header-is, streams-are}
 use Rattle.needs.proofs.Shapes.{equality-same, times-are, Below, Figured, none-there, one-there, figured-is, fn-some}
@@ -43,65 +44,22 @@ use Rattle.routes.proofs.Reach.{own-asked, own-named}
 
 pub reads-is : (r : ℕ) → reads (numbered-right r) ≡ eqb r 0
 unfolding numbered-right reads
-reads-is r = go (eqb r 0) (eqb r 1) (eqb r 2) (eqb r 3) (eqb r 4)
+reads-is r = go (eqb r 0)
   where
-    go : (a b c d e : Bool) → reads (cond a read (figures (cond b G.min (cond c G.max (cond d G.count (cond e G.avg G.sum)))))) ≡ a
-    go true b c d e = refl
-    go false b c d e = refl
+    go : (a : Bool) → reads (cond a read (figures (numbered-fn r))) ≡ a
+    go true = refl
+    go false = refl
 
-gives-code : (f : Fn) (r : ℕ) → r ≤ 5 → gives f (numbered-right r) ≡ eqb r (fn-code f)
-unfolding numbered-right gives fn-number fn-code
-gives-code f r h = go (ℕ-discrete r 0) (ℕ-discrete r 1) (ℕ-discrete r 2) (ℕ-discrete r 3) (ℕ-discrete r 4)
+gives-code : (f : Fn) (r : ℕ) → r ≤ 5 → gives f (numbered-right r) ≡ eqb r (fn-number f)
+unfolding numbered-right gives
+gives-code f r h = go (ℕ-discrete r 0)
   where
-    zero-case : (f : Fn) → gives f (numbered-right 0) ≡ eqb 0 (fn-code f)
-    zero-case G.min = refl
-    zero-case G.max = refl
-    zero-case G.count = refl
-    zero-case G.avg = refl
-    zero-case G.sum = refl
+    none : false ≡ eqb 0 (fn-number f)
+    none = let k = fn-range f .0 in sym (ne-eqb 0 (fn-number f) (λ e. omega arith))
 
-    one-case : (f : Fn) → gives f (numbered-right 1) ≡ eqb 1 (fn-code f)
-    one-case G.min = refl
-    one-case G.max = refl
-    one-case G.count = refl
-    one-case G.avg = refl
-    one-case G.sum = refl
-
-    two-case : (f : Fn) → gives f (numbered-right 2) ≡ eqb 2 (fn-code f)
-    two-case G.min = refl
-    two-case G.max = refl
-    two-case G.count = refl
-    two-case G.avg = refl
-    two-case G.sum = refl
-
-    three-case : (f : Fn) → gives f (numbered-right 3) ≡ eqb 3 (fn-code f)
-    three-case G.min = refl
-    three-case G.max = refl
-    three-case G.count = refl
-    three-case G.avg = refl
-    three-case G.sum = refl
-
-    four-case : (f : Fn) → gives f (numbered-right 4) ≡ eqb 4 (fn-code f)
-    four-case G.min = refl
-    four-case G.max = refl
-    four-case G.count = refl
-    four-case G.avg = refl
-    four-case G.sum = refl
-
-    five-case : (f : Fn) → gives f (numbered-right 5) ≡ eqb 5 (fn-code f)
-    five-case G.min = refl
-    five-case G.max = refl
-    five-case G.count = refl
-    five-case G.avg = refl
-    five-case G.sum = refl
-
-    go : Dec (r ≡ 0) → Dec (r ≡ 1) → Dec (r ≡ 2) → Dec (r ≡ 3) → Dec (r ≡ 4) → gives f (numbered-right r) ≡ eqb r (fn-code f)
-    go (yes a) b c d e = subst (λ x. gives f (numbered-right x) ≡ eqb x (fn-code f)) (sym a) (zero-case f)
-    go (no a) (yes b) c d e = subst (λ x. gives f (numbered-right x) ≡ eqb x (fn-code f)) (sym b) (one-case f)
-    go (no a) (no b) (yes c) d e = subst (λ x. gives f (numbered-right x) ≡ eqb x (fn-code f)) (sym c) (two-case f)
-    go (no a) (no b) (no c) (yes d) e = subst (λ x. gives f (numbered-right x) ≡ eqb x (fn-code f)) (sym d) (three-case f)
-    go (no a) (no b) (no c) (no d) (yes e) = subst (λ x. gives f (numbered-right x) ≡ eqb x (fn-code f)) (sym e) (four-case f)
-    go (no a) (no b) (no c) (no d) (no e) = let g : r ≡ 5 = omega arith in subst (λ x. gives f (numbered-right x) ≡ eqb x (fn-code f)) (sym g) (five-case f)
+    go : Dec (r ≡ 0) → gives f (numbered-right r) ≡ eqb r (fn-number f)
+    go (yes e) = rw e none
+    go (no e) = rw (ne-eqb r 0 e) (ap (eqb (fn-number f)) (fn-back r (omega arith) h) ∙ eqb-sym (fn-number f) r)
 
 -- ---- of a query and grants
 

@@ -1,6 +1,7 @@
 pub mod Taken
-pub mod Lending
+pub mod Opening
 pub mod Verbs
 pub mod Returns
 pub mod Lines
 pub mod Running
+pub mod Demands

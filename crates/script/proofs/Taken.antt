@@ -7,16 +7,11 @@ use native.Mathlib.Omega.{arith}
 use lib.Dec.{ltb}
 use lib.ListN.{length, take, set, length-map, length-take}
 use borrow.Author.Tests.{ltb-true, ltb-false}
-use denote.Slice.{Room}
 use Rattle.syntax.specs.Limits.{max-grants}
 use Rattle.grant.specs.declared.Grant.{Grant}
-use Rattle.grant.proofs.Grant as T
 
 pub take-few : (n : ℕ) (gs : List Grant) → length gs ≡ max-grants → n ≤ max-grants → length (take n gs) ≡ n
 take-few n gs e h = let f = length-take n gs in omega arith
-
-pub take-room : (n : ℕ) (gs : List Grant) → length gs ≡ max-grants → Room T.the-row (length (take n gs))
-take-room n gs e = let f = length-take n gs in (omega arith, omega arith)
 
 -- one more, in the next place
 take-next : {A : Type 0} (n : ℕ) (xs : List A) (x : A) → n < length xs → take (suc n) (set xs n x) ≡ take n xs ++ (x ∷ [])

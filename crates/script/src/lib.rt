@@ -6,6 +6,8 @@ ghost use Rattle.syntax.specs.Grammar as G;
 ghost use Rattle.syntax.specs.Limits.{max-grants};
 ghost use Rattle.syntax.specs.Readers.{parse-as, verb-of};
 ghost use Rattle.grant_line.specs.Lines.{no-grant};
+ghost use Rattle.catalogue.specs.Callers.{roles-of, profile-of};
+ghost use Rattle.catalogue.specs.Opened.{opened-in};
 ghost use Rattle.ask.specs.Replies.{Replies};
 ghost use Rattle.ask.specs.Asking.{asked, lined};
 ghost use Rattle.script.specs.States.{new-state, with-ledger-in, with-grant-in, with-caller-in, store-of, stepped-with};
@@ -13,9 +15,11 @@ ghost use Rattle.script.specs.Steps.{verb-in, verdict-said, reply-said, 
 use ask::Reply;
 use caller::Caller;
 use caller::Identified;
+use catalogue::Opened;
 use grant::Grant;
 use ledger::Entered;
 use ledger::Ledger;
+use needs::Needs;
 use refusal::Refusal;
 use refusal::Verdict;
 use schema::Stream;
@@ -257,7 +261,29 @@ fn granted(s: State, names: &[u64], line: &[u8], words: &mut [u32]) -> Stepped
     }
 }
 
-// An `ask` line under the first grants of an array. It lends them as a slice, so it is proved by a walk of its code.
+// What the first grants of an array open for a caller and a query, and whether they may be lent.
+fn opened(
+    grants: [Grant; Grant::GRANTS],
+    count: usize,
+    n: Needs,
+    names: &[u64],
+    words: &[u32],
+    who: Caller,
+) -> Opened
+    requires { ⌜ count ≤ max-grants ⌝ }
+    ensures { λ r. ⌜ r ≡ opened-in n (now (names .entry)) (take count grants) (now (words .entry)) (roles-of who) (profile-of who) ⌝ }
+{
+    let mut o = Opened::none(count, words.len());
+    let mut i: usize = 0;
+    while i < count {
+        let g = grants[i];
+        o = o.with_caller(n, i as u32, g, names, words, who);
+        i += 1;
+    }
+    o
+}
+
+// An `ask` line under the first grants of an array.
 fn asked(
     grants: [Grant; Grant::GRANTS],
     n: usize,
@@ -273,17 +299,9 @@ fn asked(
     requires { ⌜ n ≤ max-grants ⌝ }
     ensures { λ r. ⌜ Replies (asked 1 (parse-as G.ask (now (line .entry))) (record { memory = record { ledger = l; names = now (names .entry); times = now (times .entry); values = now (values .entry) }; grants = take n grants; granted = now (words .entry); caller = who }) (now (line .entry)) (now (cells .entry))) (now (cells .entry)) (now (cells .exit)) r ⌝ }
 {
-    ask::ask_line(
-        &grants[0..n],
-        words,
-        l,
-        names,
-        times,
-        values,
-        who,
-        line,
-        cells,
-    )
+    let t = query_text::read_ask(line, names);
+    let x = opened(grants, n, query_text::asks(t), names, words, who);
+    ask::answered(t, x, l, names, times, values, words, who, cells)
 }
 
 // A `line` line, likewise.
@@ -302,17 +320,9 @@ fn lined(
     requires { ⌜ n ≤ max-grants ⌝ }
     ensures { λ r. ⌜ Replies (lined 1 (parse-as G.line (now (line .entry))) (record { memory = record { ledger = l; names = now (names .entry); times = now (times .entry); values = now (values .entry) }; grants = take n grants; granted = now (words .entry); caller = who }) (now (line .entry)) (now (bytes .entry))) (now (bytes .entry)) (now (bytes .exit)) r ⌝ }
 {
-    ask::route_line(
-        &grants[0..n],
-        words,
-        l,
-        names,
-        times,
-        values,
-        who,
-        line,
-        bytes,
-    )
+    let t = query_text::read_line(line, names);
+    let x = opened(grants, n, query_text::asks(t), names, words, who);
+    ask::routed(t, x, l, names, times, values, words, who, bytes)
 }
 
 // Does one line of a script, with memory lent for the record, for the words of the grants' conditions, and for what an `ask` and a `line` write.

@@ -8,6 +8,7 @@ pub mod Queries
 pub mod Grants
 pub mod Lengths
 pub mod Lines
+pub mod Aggregates
 pub mod Depths
 pub mod Exact
 pub mod Leaving

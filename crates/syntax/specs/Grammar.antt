@@ -1,13 +1,13 @@
 -- What a line is: its abstract syntax and its text. A text is a line of the stated forms where some well-formed syntax prints it.
 use mathlib.Core.List.{List, [], _∷_, _++_}
-use mathlib.Core.Bool.{Bool, true, false, _&&_, _||_, not}
+use mathlib.Core.Bool.{Bool, true, false, _&&_, _||_, not, cond}
 use mathlib.Core.Option.{Option, none, some}
 use Prim.Native.Nat.{ℕ, zero, suc, _+_, _/_, _%_}
 use Prim.Native.Char.{code}
 use Prim.Native.String as S
 use Prim.Native.String.{String}
 use lib.IntN.{ℤ, pos, negsuc}
-use lib.Dec.{leb, ltb}
+use lib.Dec.{leb, ltb, eqb}
 use Rattle.lists.specs.Lists.{every, empty?, lists-compute}
 
 abbrev pub Bytes : Type 0
@@ -228,6 +228,26 @@ verb-word caller = bytes "caller"
 verb-word ask = bytes "ask"
 verb-word line = bytes "line"
 
+-- ---- numbers that stand for an aggregate and for a right
+
+unfoldable pub fn-number : Fn → ℕ
+fn-number min = 1
+fn-number max = 2
+fn-number count = 3
+fn-number avg = 4
+fn-number sum = 5
+
+-- any number that is none of these stands for `sum`
+unfoldable pub numbered-fn : ℕ → Fn
+numbered-fn n = cond (eqb n 1) min (cond (eqb n 2) max (cond (eqb n 3) count (cond (eqb n 4) avg sum)))
+
+unfoldable pub right-number : Right → ℕ
+right-number read = 0
+right-number (figures f) = fn-number f
+
+unfoldable pub numbered-right : ℕ → Right
+numbered-right n = cond (eqb n 0) read (figures (numbered-fn n))
+
 -- ---- texts, each in front of what follows
 
 -- the decimal digits of a number in front of others; the first argument is at least their number
@@ -336,5 +356,5 @@ query-text q = put-form q []
 
 -- To unfold this is to unfold every definition above.
 unfoldable pub grammar-computes : Unit {0}
-unfolding lists-compute digit letter alnum name? ref? operand? test? cond? some-all form? show? grant? entry? body? op-word fn-word right-word verb-word digits-from put-nat put-int put-name put-ref put-operand put-open put-items put-cond put-equality put-form put-show put-part put-when put-limit put-window put-grant put-entry put-body put-line line-text query-text
+unfolding lists-compute digit letter alnum name? ref? operand? test? cond? some-all form? show? grant? entry? body? op-word fn-word right-word verb-word fn-number numbered-fn right-number numbered-right digits-from put-nat put-int put-name put-ref put-operand put-open put-items put-cond put-equality put-form put-show put-part put-when put-limit put-window put-grant put-entry put-body put-line line-text query-text
 grammar-computes = tt

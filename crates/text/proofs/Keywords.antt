@@ -14,13 +14,13 @@ use mir.Val.{Fits}
 use borrow.Author.Tests.{eq-eqb, ne-eqb, lt-leb, le-leb, lt-ltb, le-ltb, eqb-true, eqb-false}
 use Rattle.lists.specs.Lists.{All, all-nil, all-cons, every, same-list}
 use Rattle.lists.proofs.Laws.{parts, all-head, all-tail, all-weaken, all-every, same-list→eq}
-use Rattle.syntax.specs.Grammar.{Bytes, right-word}
+use Rattle.syntax.specs.Grammar.{Bytes, right-word, right-number}
 use Rattle.syntax.specs.Readers.{bind, ensure, _>>_, byte, run, past, plain, among, read-word, read-head, itself, read-open, head-word, heads, rights, kind-word, kinds}
 use Rattle.syntax.specs.Limits.{short}
 use Rattle.text.specs.declared.Class.the-variants.{Plain}
 use Rattle.text.specs.declared.Word.{Word}
 use Rattle.text.specs.Words.{class-of, run-end, code-from, code-of, name-of}
-use Rattle.text.specs.Keywords.{word-code, octet, keyword?, word-at, WordAt, coded, numbered, head-number, head-coded, right-number, right-coded, kind-number, kind-coded, place, opened-at, part-at, closes-at, line-open, keywords-compute}
+use Rattle.text.specs.Keywords.{word-code, octet, keyword?, word-at, WordAt, coded, numbered, head-number, head-coded, right-coded, kind-number, kind-coded, place, opened-at, part-at, closes-at, line-open, keywords-compute}
 use Rattle.text.proofs.Codes.{T-never, Octets, word-above, words-same, code-back, code-keyword}
 use Rattle.text.proofs.Runs.{first-byte, inside, run-head, run-from, run-length, run-word, run-place, run-room}
 

@@ -7,7 +7,7 @@ use Prim.Native.Nat.{ℕ, _+_, _-_}
 use lib.Dec.{T, ltb, eqb}
 use lib.ListN.{length, drop, getD}
 use Rattle.lists.specs.Lists.{every, same-list}
-use Rattle.syntax.specs.Grammar.{Bytes, Op, eq, ne, lt, le, gt, ge, Fn, min, max, count, avg, sum, Right, read, figures, right-word}
+use Rattle.syntax.specs.Grammar.{Bytes, Op, eq, ne, lt, le, gt, ge, Right, right-word, fn-number, right-number}
 use Rattle.syntax.specs.Limits.{max-line, short}
 use Rattle.syntax.specs.Readers.{Read, plain, run, read-open, Head, compare, and, or, not-of, head-word, heads, rights, Kind, k-in, k-pick, k-keep, k-join, k-fn, kind-word, kinds, readers-compute}
 use Rattle.text.specs.Words.{code-from, code-of, bytes-from, name-of, run-end}
@@ -68,25 +68,10 @@ head-coded c = numbered head-number 0 (coded head-word heads c)
 
 -- ---- rights
 
-unfoldable pub right-number : Right → ℕ
-right-number read = 0
-right-number (figures min) = 1
-right-number (figures max) = 2
-right-number (figures count) = 3
-right-number (figures avg) = 4
-right-number (figures sum) = 5
-
 unfoldable pub right-coded : ℕ → ℕ
 right-coded c = numbered right-number 6 (coded right-word rights c)
 
 -- ---- first words of forms: an aggregate's is four and the number that rights have for it
-
-unfoldable pub fn-number : Fn → ℕ
-fn-number min = 1
-fn-number max = 2
-fn-number count = 3
-fn-number avg = 4
-fn-number sum = 5
 
 unfoldable pub kind-number : Kind → ℕ
 kind-number k-in = 0

@@ -6,10 +6,10 @@ ghost use Prim.Native.Nat.{ℕ, suc, _+_, _*_, _^_, _≤_, _<_, min, max};
 ghost use lib.IntN.{ℤ, natAbs};
 ghost use lib.ListN.{length, getD};
 ghost use lib.Seq.{sets};
-ghost use Rattle.syntax.specs.Grammar.{Fn};
+ghost use Rattle.syntax.specs.Grammar.{Fn, numbered-fn};
 ghost use Rattle.model.specs.Answers.{row-cells};
 ghost use Rattle.figures.specs.Figures.{row-of};
-ghost use Rattle.windows.specs.Events.{fn-of, with-event, less-event, figure-in, event-at, events-from, window-tally};
+ghost use Rattle.windows.specs.Events.{with-event, less-event, figure-in, event-at, events-from, window-tally};
 ghost use Rattle.windows.specs.Windows.{Bounded, Timed, Before, Ordered, Reached, Sought, Parts, Spans, Kept, Runs, most-events, answers, last-with, run-rows};
 ghost use Rattle.windows.specs.Lent.{windows-sound, part-sound, event-sound, events-sound, answers-in, picked-rows, Behind, Written};
 use figures::Answer;
@@ -129,7 +129,7 @@ impl Tally {
     // One event more.
     fn with(self, f: u32, e: Event) -> Tally
         requires { ⌜ (natAbs (self .part) ≤ 2 ^ 53) × (natAbs (e .part) ≤ 2 ^ 45) × (self .count ≤ 4194304) × (e .count ≤ 16384) ⌝ }
-        ensures { λ r. ⌜ r ≡ with-event (fn-of f) self e ⌝ }
+        ensures { λ r. ⌜ r ≡ with-event (numbered-fn f) self e ⌝ }
     {
         let count = self.count + e.count;
         if f == 1 {
@@ -176,7 +176,7 @@ impl Tally {
     // The figure of what was seen.
     fn figure(self, f: u32) -> i64
         requires { ⌜ 1 ≤ self .count ⌝ }
-        ensures { λ r. ⌜ r ≡ figure-in (fn-of f) self ⌝ }
+        ensures { λ r. ⌜ r ≡ figure-in (numbered-fn f) self ⌝ }
     {
         if f == 3 {
             return self.count as i64;
@@ -206,8 +206,8 @@ fn alone(times: &[u32], counts: &[u16], parts: &[i64], i: u32) -> Span
 
 // A span without its events before place i. Sums are taken back; of a least or a greatest value the tally begins anew.
 fn trimmed(f: u32, times: &[u32], counts: &[u16], parts: &[i64], s: Span, i: u32) -> Span
-    requires { ⌜ Parts (now times) (now counts) (now parts) × (i < length (now times)) × Spans (fn-of f) (now times) (now counts) (now parts) s × (s .from ≤ i) ⌝ }
-    ensures { λ r. ⌜ Spans (fn-of f) (now (times .entry)) (now (counts .entry)) (now (parts .entry)) r × (r .from ≡ i) × (i < r .to) × (r .to ≤ max (s .to) (i + 1)) ⌝ }
+    requires { ⌜ Parts (now times) (now counts) (now parts) × (i < length (now times)) × Spans (numbered-fn f) (now times) (now counts) (now parts) s × (s .from ≤ i) ⌝ }
+    ensures { λ r. ⌜ Spans (numbered-fn f) (now (times .entry)) (now (counts .entry)) (now (parts .entry)) r × (r .from ≡ i) × (i < r .to) × (r .to ≤ max (s .to) (i + 1)) ⌝ }
 {
     if s.to <= i {
         return alone(times, counts, parts, i);
@@ -237,8 +237,8 @@ fn trimmed(f: u32, times: &[u32], counts: &[u16], parts: &[i64], s: Span, i: u32
 
 // A span moved forward to the events from place i on that come before a time.
 fn moved(f: u32, times: &[u32], counts: &[u16], parts: &[i64], s: Span, i: u32, end: u32) -> Span
-    requires { ⌜ Ordered (now times) × Parts (now times) (now counts) (now parts) × (i < length (now times)) × (getD (now times) i 0 < end) × Spans (fn-of f) (now times) (now counts) (now parts) s × (s .from ≤ i) × Before (now times) (s .to) end ⌝ }
-    ensures { λ r. ⌜ Spans (fn-of f) (now (times .entry)) (now (counts .entry)) (now (parts .entry)) r × (r .from ≡ i) × Before (now (times .entry)) (r .to) end × (r .tally ≡ window-tally (fn-of f) (now (times .entry)) (now (counts .entry)) (now (parts .entry)) i end) × (1 ≤ r .tally .count) ⌝ }
+    requires { ⌜ Ordered (now times) × Parts (now times) (now counts) (now parts) × (i < length (now times)) × (getD (now times) i 0 < end) × Spans (numbered-fn f) (now times) (now counts) (now parts) s × (s .from ≤ i) × Before (now times) (s .to) end ⌝ }
+    ensures { λ r. ⌜ Spans (numbered-fn f) (now (times .entry)) (now (counts .entry)) (now (parts .entry)) r × (r .from ≡ i) × Before (now (times .entry)) (r .to) end × (r .tally ≡ window-tally (numbered-fn f) (now (times .entry)) (now (counts .entry)) (now (parts .entry)) i end) × (1 ≤ r .tally .count) ⌝ }
 {
     let l = trimmed(f, times, counts, parts, s, i);
     let mut t = l.tally;
@@ -266,7 +266,7 @@ fn moved(f: u32, times: &[u32], counts: &[u16], parts: &[i64], s: Span, i: u32, 
 // The answer row of a window that ends at a time.
 fn answer_of(f: u32, s: Span, end: u32) -> Answer
     requires { ⌜ 1 ≤ s .tally .count ⌝ }
-    ensures { λ r. ⌜ (r .end ≡ end) × (r .figure ≡ figure-in (fn-of f) (s .tally)) ⌝ }
+    ensures { λ r. ⌜ (r .end ≡ end) × (r .figure ≡ figure-in (numbered-fn f) (s .tally)) ⌝ }
 {
     let t = s.tally;
     Answer {
@@ -465,8 +465,8 @@ fn count_run(
     last: u32,
     begun: Run,
 ) -> Run
-    requires { ⌜ Bounded w × Timed (w .clock) (now times) × Parts (now times) (now counts) (now parts) × (begun .rows ≤ room) × (begun .rows ≤ k) × (k ≤ last) × Runs w (now times) event k (last + 1) × Kept w (fn-of f) (now times) (now counts) (now parts) k (begun .span) ⌝ }
-    ensures { λ r. ⌜ (r .rows ≡ min (begun .rows + length (picked-rows (now (words .entry)) (now (picks .entry)) (run-rows w (fn-of f) (now (times .entry)) (now (counts .entry)) (now (parts .entry)) event k (last + 1)))) (suc room)) × Kept w (fn-of f) (now (times .entry)) (now (counts .entry)) (now (parts .entry)) (last + 1) (r .span) ⌝ }
+    requires { ⌜ Bounded w × Timed (w .clock) (now times) × Parts (now times) (now counts) (now parts) × (begun .rows ≤ room) × (begun .rows ≤ k) × (k ≤ last) × Runs w (now times) event k (last + 1) × Kept w (numbered-fn f) (now times) (now counts) (now parts) k (begun .span) ⌝ }
+    ensures { λ r. ⌜ (r .rows ≡ min (begun .rows + length (picked-rows (now (words .entry)) (now (picks .entry)) (run-rows w (numbered-fn f) (now (times .entry)) (now (counts .entry)) (now (parts .entry)) event k (last + 1)))) (suc room)) × Kept w (numbered-fn f) (now (times .entry)) (now (counts .entry)) (now (parts .entry)) (last + 1) (r .span) ⌝ }
 {
     let mut r = begun.rows;
     let mut span = begun.span;
@@ -502,7 +502,7 @@ fn count_picked(
     room: u32,
 ) -> u32
     requires { ⌜ Bounded w × Timed (w .clock) (now times) × Parts (now times) (now counts) (now parts) ⌝ }
-    ensures { λ r. ⌜ r ≡ min (length (picked-rows (now (words .entry)) (now (picks .entry)) (answers w (fn-of f) (events-from (now (times .entry)) (now (counts .entry)) (now (parts .entry)) 0)))) (suc room) ⌝ }
+    ensures { λ r. ⌜ r ≡ min (length (picked-rows (now (words .entry)) (now (picks .entry)) (answers w (numbered-fn f) (events-from (now (times .entry)) (now (counts .entry)) (now (parts .entry)) 0)))) (suc room) ⌝ }
 {
     let mut r = no_rows();
     let mut p = next(w, times, 0, 0);
@@ -542,7 +542,7 @@ pub fn count(
     picks: &[u32],
     room: u32,
 ) -> u32
-    ensures { λ r. ⌜ r ≡ min (length (picked-rows (now (words .entry)) (now (picks .entry)) (answers-in (fn-of f) w (now (times .entry)) (now (counts .entry)) (now (parts .entry))))) (suc room) ⌝ }
+    ensures { λ r. ⌜ r ≡ min (length (picked-rows (now (words .entry)) (now (picks .entry)) (answers-in (numbered-fn f) w (now (times .entry)) (now (counts .entry)) (now (parts .entry))))) (suc room) ⌝ }
 {
     if !sound(w, times, counts, parts) {
         return 0;
@@ -569,8 +569,8 @@ fn put_run(
     last: u32,
     begun: Run,
 ) -> Run
-    requires { ⌜ Bounded w × Timed (w .clock) (now times) × Parts (now times) (now counts) (now parts) × (begun .rows ≤ k) × (k ≤ last) × Runs w (now times) event k (last + 1) × Kept w (fn-of f) (now times) (now counts) (now parts) k (begun .span) ⌝ }
-    ensures { λ r. ⌜ Behind (picked-rows (now (words .entry)) (now (picks .entry)) (run-rows w (fn-of f) (now (times .entry)) (now (counts .entry)) (now (parts .entry)) event k (last + 1))) (now (cells .entry)) at (begun .rows) (now (cells .exit)) (r .rows) × Kept w (fn-of f) (now (times .entry)) (now (counts .entry)) (now (parts .entry)) (last + 1) (r .span) ⌝ }
+    requires { ⌜ Bounded w × Timed (w .clock) (now times) × Parts (now times) (now counts) (now parts) × (begun .rows ≤ k) × (k ≤ last) × Runs w (now times) event k (last + 1) × Kept w (numbered-fn f) (now times) (now counts) (now parts) k (begun .span) ⌝ }
+    ensures { λ r. ⌜ Behind (picked-rows (now (words .entry)) (now (picks .entry)) (run-rows w (numbered-fn f) (now (times .entry)) (now (counts .entry)) (now (parts .entry)) event k (last + 1))) (now (cells .entry)) at (begun .rows) (now (cells .exit)) (r .rows) × Kept w (numbered-fn f) (now (times .entry)) (now (counts .entry)) (now (parts .entry)) (last + 1) (r .span) ⌝ }
 {
     let mut r = begun.rows;
     let mut span = begun.span;
@@ -601,7 +601,7 @@ fn write_rows(
     at: u32,
 ) -> u32
     requires { ⌜ Bounded w × Timed (w .clock) (now times) × Parts (now times) (now counts) (now parts) ⌝ }
-    ensures { λ r. ⌜ Written (picked-rows (now (words .entry)) (now (picks .entry)) (answers w (fn-of f) (events-from (now (times .entry)) (now (counts .entry)) (now (parts .entry)) 0))) (now (cells .entry)) at (now (cells .exit)) r ⌝ }
+    ensures { λ r. ⌜ Written (picked-rows (now (words .entry)) (now (picks .entry)) (answers w (numbered-fn f) (events-from (now (times .entry)) (now (counts .entry)) (now (parts .entry)) 0))) (now (cells .entry)) at (now (cells .exit)) r ⌝ }
 {
     let mut r = no_rows();
     let mut p = next(w, times, 0, 0);
@@ -641,7 +641,7 @@ pub fn write(
     cells: &mut [i64],
     at: u32,
 ) -> u32
-    ensures { λ r. ⌜ Written (picked-rows (now (words .entry)) (now (picks .entry)) (answers-in (fn-of f) w (now (times .entry)) (now (counts .entry)) (now (parts .entry)))) (now (cells .entry)) at (now (cells .exit)) r ⌝ }
+    ensures { λ r. ⌜ Written (picked-rows (now (words .entry)) (now (picks .entry)) (answers-in (numbered-fn f) w (now (times .entry)) (now (counts .entry)) (now (parts .entry)))) (now (cells .entry)) at (now (cells .exit)) r ⌝ }
 {
     if !sound(w, times, counts, parts) {
         return 0;

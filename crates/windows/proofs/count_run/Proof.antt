@@ -2,7 +2,8 @@ use mathlib.Core.Path.{_≡_, refl, ap, _∙_}
 use Prim.Native.Nat.{ℕ, suc, _+_, _*_, _-_, _≤_}
 use native.Mathlib.Omega.{arith}
 use lib.ListN.{length}
-use Rattle.windows.specs.Events.{fn-of, figure-in}
+use Rattle.syntax.specs.Grammar.{numbered-fn}
+use Rattle.windows.specs.Events.{figure-in}
 use Rattle.windows.specs.Windows.{Kept, run-rows}
 use Rattle.windows.specs.Lent.{picked-rows}
 use Rattle.windows.proofs.Skips.{held-below}
@@ -15,8 +16,8 @@ use Rattle.windows.proofs.count_run.Tie as tie
 abbrev Inv-loop : tie.InvT-loop
 Inv-loop f w times counts parts words picks room event k last r₀ span₀ end₀ last-end r span end =
     (j : ℕ) × (end ≡ j * w .offset + w .size) × (k ≤ j) × (j ≤ last + 1) × (r ≤ j) × (r ≤ suc room) × (last-end ≡ last * w .offset + w .size)
-    × (r + length (run-left w (fn-of f) times counts parts words picks event j (last + 1)) ≡ r₀ + length (picked-rows words picks (run-rows w (fn-of f) times counts parts event k (last + 1))))
-    × Kept w (fn-of f) times counts parts j span
+    × (r + length (run-left w (numbered-fn f) times counts parts words picks event j (last + 1)) ≡ r₀ + length (picked-rows words picks (run-rows w (numbered-fn f) times counts parts event k (last + 1))))
+    × Kept w (numbered-fn f) times counts parts j span
 
 abbrev μ-loop : tie.MeasureT-loop
 μ-loop f w times counts parts words picks room event k last r₀ span₀ end₀ last-end r span end = suc last-end - end
@@ -53,7 +54,7 @@ returns c =
     let l = c .before .before .loop in
     let r = l .inv .5 in
     let e = l .inv .7 in
-    (omega arith, kept-on (a .w) (fn-of (a .f)) (a .times .now) (a .counts .now) (a .parts .now) (l .inv .0) (a .last + 1) (l .inv .8) (l .inv .3))
+    (omega arith, kept-on (a .w) (numbered-fn (a .f)) (a .times .now) (a .counts .now) (a .parts .now) (l .inv .0) (a .last + 1) (l .inv .8) (l .inv .3))
 
 moved-requires : tie.Need-moved-requires Inv-loop μ-loop
 moved-requires c κs =
@@ -66,7 +67,7 @@ moved-requires c κs =
     let y = l .inv .2 in
     let h = s .pre .6 j (omega arith) (omega arith) in
     let p = l .inv .8 in
-    (s .pre .1 .order, s .pre .2, h .within, omega (arith, h .inside), p .spans, kept-from (a .w) (fn-of (a .f)) (a .times .now) (a .counts .now) (a .parts .now) j j (a .event) p (omega arith) h, λ m b. omega (arith, p .ended m b))
+    (s .pre .1 .order, s .pre .2, h .within, omega (arith, h .inside), p .spans, kept-from (a .w) (numbered-fn (a .f)) (a .times .now) (a .counts .now) (a .parts .now) j j (a .event) p (omega arith) h, λ m b. omega (arith, p .ended m b))
 
 answer-of-requires : tie.Need-answer-of-requires Inv-loop μ-loop
 answer-of-requires c κs = c .moved .ensures .4
@@ -105,14 +106,14 @@ loop-again c =
     let n = c .before .counted .ensures in
     let i = c .before .before .before .before .if1 .left in
     let g = one-few (a .words .now) (a .picks .now) (v .result) in
-    let m = run-next (a .w) (fn-of (a .f)) (a .times .now) (a .counts .now) (a .parts .now) (a .words .now) (a .picks .now) (a .event) j (a .last + 1) (omega arith) (v .result) (l .inv .1) (v .ensures .0) (v .ensures .1 ∙ ap (figure-in (fn-of (a .f))) (p .ensures .3)) in
-    let q = counted-more (picked-one (a .words .now) (a .picks .now) (v .result)) (run-left (a .w) (fn-of (a .f)) (a .times .now) (a .counts .now) (a .parts .now) (a .words .now) (a .picks .now) (a .event) (j + 1) (a .last + 1)) (l .r) n m in
+    let m = run-next (a .w) (numbered-fn (a .f)) (a .times .now) (a .counts .now) (a .parts .now) (a .words .now) (a .picks .now) (a .event) j (a .last + 1) (omega arith) (v .result) (l .inv .1) (v .ensures .0) (v .ensures .1 ∙ ap (figure-in (numbered-fn (a .f))) (p .ensures .3)) in
+    let q = counted-more (picked-one (a .words .now) (a .picks .now) (v .result)) (run-left (a .w) (numbered-fn (a .f)) (a .times .now) (a .counts .now) (a .parts .now) (a .words .now) (a .picks .now) (a .event) (j + 1) (a .last + 1)) (l .r) n m in
     let x = l .inv .1 in
     let y = l .inv .2 in
     let u = l .inv .4 in
     let o = l .inv .5 in
     let e = l .inv .7 in
-    (j + 1, omega arith, omega arith, omega arith, omega arith, omega arith, l .inv .6, omega arith, kept-next (a .w) (fn-of (a .f)) (a .times .now) (a .counts .now) (a .parts .now) j (a .event) (s .pre .6 j (omega arith) (omega arith)) (p .ensures .0) (p .ensures .1) (λ m b. omega (arith, p .ensures .2 m b)))
+    (j + 1, omega arith, omega arith, omega arith, omega arith, omega arith, l .inv .6, omega arith, kept-next (a .w) (numbered-fn (a .f)) (a .times .now) (a .counts .now) (a .parts .now) j (a .event) (s .pre .6 j (omega arith) (omega arith)) (p .ensures .0) (p .ensures .1) (λ m b. omega (arith, p .ensures .2 m b)))
 
 returns-2 : tie.Need-returns-2 Inv-loop μ-loop
 returns-2 c =
@@ -120,10 +121,10 @@ returns-2 c =
     let l = c .before .loop in
     let j = l .inv .0 in
     let d = end-out (a .w) j (a .last) (l .inv .1) (l .inv .6) (c .loop-test .left) (l .inv .3) in
-    let g = ap length (run-done (a .w) (fn-of (a .f)) (a .times .now) (a .counts .now) (a .parts .now) (a .words .now) (a .picks .now) (a .event) j (a .last + 1) (omega arith)) in
+    let g = ap length (run-done (a .w) (numbered-fn (a .f)) (a .times .now) (a .counts .now) (a .parts .now) (a .words .now) (a .picks .now) (a .event) j (a .last + 1) (omega arith)) in
     let o = l .inv .5 in
     let e = l .inv .7 in
-    (omega arith, kept-on (a .w) (fn-of (a .f)) (a .times .now) (a .counts .now) (a .parts .now) j (a .last + 1) (l .inv .8) (l .inv .3))
+    (omega arith, kept-on (a .w) (numbered-fn (a .f)) (a .times .now) (a .counts .now) (a .parts .now) j (a .last + 1) (l .inv .8) (l .inv .3))
 
 pub count-run-spec : {M : Type 1} → statement M
 count-run-spec =

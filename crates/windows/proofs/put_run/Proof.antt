@@ -4,10 +4,11 @@ use Prim.Native.Nat.{ℕ, suc, _+_, _*_, _-_, _≤_}
 use native.Mathlib.Omega.{arith}
 use lib.ListN.{length}
 use lib.Seq.{sets}
+use Rattle.syntax.specs.Grammar.{numbered-fn}
 use Rattle.lists.specs.Lists.{gather}
 use Rattle.model.specs.Queries.{Row}
 use Rattle.model.specs.Answers.{row-cells}
-use Rattle.windows.specs.Events.{fn-of, figure-in}
+use Rattle.windows.specs.Events.{figure-in}
 use Rattle.windows.specs.Windows.{Kept, run-rows}
 use Rattle.windows.specs.Lent.{picked-rows}
 use Rattle.windows.proofs.Skips.{held-below}
@@ -20,9 +21,9 @@ use Rattle.windows.proofs.put_run.Tie as tie
 abbrev Inv-loop : tie.InvT-loop
 Inv-loop f w times counts parts words picks cells₀ at event k last r₀ span₀ end₀ last-end cells r span end =
     (j : ℕ) × (end ≡ j * w .offset + w .size) × (k ≤ j) × (j ≤ last + 1) × (r ≤ j) × (last-end ≡ last * w .offset + w .size) × (length cells ≡ length cells₀)
-    × (r + length (run-left w (fn-of f) times counts parts words picks event j (last + 1)) ≡ r₀ + length (picked-rows words picks (run-rows w (fn-of f) times counts parts event k (last + 1))))
-    × (sets cells (at + r * 2) (gather row-cells (run-left w (fn-of f) times counts parts words picks event j (last + 1))) ≡ sets cells₀ (at + r₀ * 2) (gather row-cells (picked-rows words picks (run-rows w (fn-of f) times counts parts event k (last + 1)))))
-    × Kept w (fn-of f) times counts parts j span
+    × (r + length (run-left w (numbered-fn f) times counts parts words picks event j (last + 1)) ≡ r₀ + length (picked-rows words picks (run-rows w (numbered-fn f) times counts parts event k (last + 1))))
+    × (sets cells (at + r * 2) (gather row-cells (run-left w (numbered-fn f) times counts parts words picks event j (last + 1))) ≡ sets cells₀ (at + r₀ * 2) (gather row-cells (picked-rows words picks (run-rows w (numbered-fn f) times counts parts event k (last + 1)))))
+    × Kept w (numbered-fn f) times counts parts j span
 
 abbrev μ-loop : tie.MeasureT-loop
 μ-loop f w times counts parts words picks cells₀ at event k last r₀ span₀ end₀ last-end cells r span end = suc last-end - end
@@ -63,7 +64,7 @@ moved-requires c κs =
     let y = l .inv .2 in
     let h = s .pre .5 j (omega arith) (omega arith) in
     let p = l .inv .9 in
-    (s .pre .1 .order, s .pre .2, h .within, omega (arith, h .inside), p .spans, kept-from (a .w) (fn-of (a .f)) (a .times .now) (a .counts .now) (a .parts .now) j j (a .event) p (omega arith) h, λ m b. omega (arith, p .ended m b))
+    (s .pre .1 .order, s .pre .2, h .within, omega (arith, h .inside), p .spans, kept-from (a .w) (numbered-fn (a .f)) (a .times .now) (a .counts .now) (a .parts .now) j j (a .event) p (omega arith) h, λ m b. omega (arith, p .ended m b))
 
 answer-of-requires : tie.Need-answer-of-requires Inv-loop μ-loop
 answer-of-requires c κs = c .moved .ensures .4
@@ -101,8 +102,8 @@ loop-again c =
     let p = c .before .before .before .before .before .moved in
     let b = c .before .before .put .ensures in
     let g = one-few (a .words .now) (a .picks .now) (v .result) in
-    let m = run-next (a .w) (fn-of (a .f)) (a .times .now) (a .counts .now) (a .parts .now) (a .words .now) (a .picks .now) (a .event) j (a .last + 1) (omega arith) (v .result) (l .inv .1) (v .ensures .0) (v .ensures .1 ∙ ap (figure-in (fn-of (a .f))) (p .ensures .3)) in
-    let rest = run-left (a .w) (fn-of (a .f)) (a .times .now) (a .counts .now) (a .parts .now) (a .words .now) (a .picks .now) (a .event) (j + 1) (a .last + 1) in
+    let m = run-next (a .w) (numbered-fn (a .f)) (a .times .now) (a .counts .now) (a .parts .now) (a .words .now) (a .picks .now) (a .event) j (a .last + 1) (omega arith) (v .result) (l .inv .1) (v .ensures .0) (v .ensures .1 ∙ ap (figure-in (numbered-fn (a .f))) (p .ensures .3)) in
+    let rest = run-left (a .w) (numbered-fn (a .f)) (a .times .now) (a .counts .now) (a .parts .now) (a .words .now) (a .picks .now) (a .event) (j + 1) (a .last + 1) in
     let x = l .inv .1 in
     let y = l .inv .2 in
     let u = l .inv .4 in
@@ -116,7 +117,7 @@ loop-again c =
       behind-length b ∙ l .inv .6,
       behind-rows b rest m ∙ l .inv .7,
       behind-cells b rest (one-single (a .words .now) (a .picks .now) (v .result)) m ∙ l .inv .8,
-      kept-next (a .w) (fn-of (a .f)) (a .times .now) (a .counts .now) (a .parts .now) j (a .event) (s .pre .5 j (omega arith) (omega arith)) (p .ensures .0) (p .ensures .1) (λ m b. omega (arith, p .ensures .2 m b)),
+      kept-next (a .w) (numbered-fn (a .f)) (a .times .now) (a .counts .now) (a .parts .now) j (a .event) (s .pre .5 j (omega arith) (omega arith)) (p .ensures .0) (p .ensures .1) (λ m b. omega (arith, p .ensures .2 m b)),
     )
 
 same-length : tie.Need-same-length Inv-loop μ-loop
@@ -129,10 +130,10 @@ returns c =
     let l = c .before .loop in
     let j = l .inv .0 in
     let d = end-out (a .w) j (a .last) (l .inv .1) (l .inv .5) (c .loop-test .left) (l .inv .3) in
-    let n = run-done (a .w) (fn-of (a .f)) (a .times .now) (a .counts .now) (a .parts .now) (a .words .now) (a .picks .now) (a .event) j (a .last + 1) (omega arith) in
+    let n = run-done (a .w) (numbered-fn (a .f)) (a .times .now) (a .counts .now) (a .parts .now) (a .words .now) (a .picks .now) (a .event) j (a .last + 1) (omega arith) in
     let g = ap length n in
     let e = l .inv .7 in
-    (record { cells-left = sym (ap (λ (rs : List Row). sets (l .cells) (a .at + l .r * 2) (gather row-cells rs)) n) ∙ l .inv .8; counted = omega arith }, kept-on (a .w) (fn-of (a .f)) (a .times .now) (a .counts .now) (a .parts .now) j (a .last + 1) (l .inv .9) (l .inv .3))
+    (record { cells-left = sym (ap (λ (rs : List Row). sets (l .cells) (a .at + l .r * 2) (gather row-cells rs)) n) ∙ l .inv .8; counted = omega arith }, kept-on (a .w) (numbered-fn (a .f)) (a .times .now) (a .counts .now) (a .parts .now) j (a .last + 1) (l .inv .9) (l .inv .3))
 
 pub put-run-spec : {M : Type 1} → statement M
 put-run-spec =

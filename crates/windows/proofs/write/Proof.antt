@@ -3,10 +3,10 @@ use mathlib.Core.List.{List}
 use lib.ListN.{length}
 use lib.Seq.{sets}
 use borrow.Author.Needs.{needs}
+use Rattle.syntax.specs.Grammar.{numbered-fn}
 use Rattle.lists.specs.Lists.{gather}
 use Rattle.model.specs.Queries.{Row}
 use Rattle.model.specs.Answers.{row-cells}
-use Rattle.windows.specs.Events.{fn-of}
 use Rattle.windows.specs.Lent.{picked-rows, Written}
 use Rattle.windows.proofs.Picks.{picked-none, written-none, answers-lent, answers-unlent}
 use Rattle.windows.proofs.Soundness.{sound-bounded, sound-timed, sound-parts}
@@ -22,7 +22,7 @@ write-spec =
     {- returns -}
     (λ c.
     let a = c .before .before .before .before .before .before .args in
-    let e = sym (picked-none (a .words .now) (a .picks .now)) ∙ ap (picked-rows (a .words .now) (a .picks .now)) (answers-unlent (a .w) (fn-of (a .f)) (a .times .now) (a .counts .now) (a .parts .now) (c .before .sound .ensures) (c .if1 .taken)) in
+    let e = sym (picked-none (a .words .now) (a .picks .now)) ∙ ap (picked-rows (a .words .now) (a .picks .now)) (answers-unlent (a .w) (numbered-fn (a .f)) (a .times .now) (a .counts .now) (a .parts .now) (c .before .sound .ensures) (c .if1 .taken)) in
     subst (λ (rs : List Row). Written rs (a .cells .now) (a .at) (a .cells .now) 0) e (written-none (a .cells .now) (a .at)))
     {- write-rows-requires -}
     (λ c κs.
@@ -35,7 +35,7 @@ write-spec =
     {- returns-2 -}
     (λ c.
     let a = c .before .before .before .before .before .before .before .before .before .args in
-    let e = answers-lent (a .w) (fn-of (a .f)) (a .times .now) (a .counts .now) (a .parts .now) (c .before .before .before .before .sound .ensures) (c .before .before .before .if1 .left) in
+    let e = answers-lent (a .w) (numbered-fn (a .f)) (a .times .now) (a .counts .now) (a .parts .now) (c .before .before .before .before .sound .ensures) (c .before .before .before .if1 .left) in
     let w = c .before .write-rows .ensures in
     record {
       cells-left = w .cells-left ∙ ap (λ (rs : List Row). sets (a .cells .now) (a .at) (gather row-cells (picked-rows (a .words .now) (a .picks .now) rs))) e;

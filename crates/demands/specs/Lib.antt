@@ -1,0 +1,4 @@
+pub mod Recording
+pub mod Lending
+pub mod Holding
+pub mod Refusing

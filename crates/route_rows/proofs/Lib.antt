@@ -1,0 +1,10 @@
+pub mod Alone
+pub mod Filling
+pub mod Joined
+pub mod Ones
+pub mod Outer
+pub mod Planned
+pub mod Plans
+pub mod Sizes
+pub mod Times
+pub mod Widths
