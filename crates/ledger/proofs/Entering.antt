@@ -18,8 +18,7 @@ use Rattle.refusal.specs.declared.Verdict.{Verdict}
 use Rattle.refusal.specs.declared.Verdict.the-variants.{Accepted, Refused}
 use Rattle.refusal.proofs.Passed.{passed}
 use Rattle.lists.proofs.Laws.{true-T, or-last}
-use Rattle.lists.specs.Lists.{every}
-use Rattle.syntax.specs.Limits.{max-streams, max-columns, max-rows, is-value, is-time, natural}
+use Rattle.syntax.specs.Limits.{max-streams, max-columns, max-rows, is-time, natural}
 use Rattle.calls.specs.Tables.{clock-checks}
 use Rattle.text.specs.Words.{time-kept, time-of}
 use Rattle.schema.specs.Schemas.{streams-in, width-in}
@@ -104,14 +103,14 @@ module _ (m : Memory) (s : ℕ) (c : Checks) {k : Checks} {v : Verdict} where
       → (row-place (m .ledger) s < length (m .times)) × (row-place (m .ledger) s * max-columns + n ≤ length (m .values)) × (s < max-streams)
   store-room n e h a = let r = row-room m s n (row-fits m s n c (sym (told n e h) ∙ a)) in (r .time, r .values, r .stream)
 
-  module _ (vs : List ℤ) (g : T (every is-value (m .values))) (e : k ≡ row-shown m s (length vs) c) (h : v ≡ verdict-of (first (table k))) where
+  module _ (vs : List ℤ) (e : k ≡ row-shown m s (length vs) c) (h : v ≡ verdict-of (first (table k))) where
     pub row-refused : {f : Refusal} → v ≡ Refused f → Enters m s vs c m (Refused f)
     unfolding memory-after
-    row-refused a = record { said = sym a ∙ told (length vs) e h; left = refl; ranges = g }
+    row-refused a = record { said = sym a ∙ told (length vs) e h; left = refl }
 
     pub row-stored : v ≡ Accepted → {l : Ledger} {times : List ℕ} {values : List ℤ} → Stored (m .ledger) s vs (m .times) times (m .values) values → l ≡ with-rows (m .ledger) s
         → Enters m s vs c (record { ledger = l; names = m .names; times = times; values = values }) Accepted
     unfolding memory-after with-row
-    row-stored a p q = record { said = sym a ∙ told (length vs) e h; left = λ i. record { ledger = q i; names = m .names; times = p .stamped i; values = p .put i }; ranges = g }
+    row-stored a p q = record { said = sym a ∙ told (length vs) e h; left = λ i. record { ledger = q i; names = m .names; times = p .stamped i; values = p .put i } }
 
 pub ruleset row-ends = (row-refused, row-stored)

@@ -65,4 +65,4 @@ row-accepted m s vs t =
     (row-fits m s (length vs) no-fault (row-told m s vs v ∙ ap verdict-of (first-passes (row-table m s vs) t)), v)
 
 pub row-called : {m m′ : Memory} {s : ℕ} {vs : List ℤ} {k : Checks} {v : Verdict} → T (every is-value vs) → k ≡ no-fault → Enters m s vs k m′ v → RowCall m s vs m′ v
-row-called {m} {s} {vs} h n e = record { said = rw n at (e .said) ∙ row-told m s vs h; left = e .left; ranges = e .ranges }
+row-called {m} {s} {vs} h n e = record { said = rw n at (e .said) ∙ row-told m s vs h; left = e .left }

@@ -4,7 +4,7 @@ use mathlib.Core.List.{List, [], _∷_}
 use mathlib.Core.Bool.{_||_, not}
 use Prim.Native.Nat.{ℕ, suc, _+_, _*_}
 use lib.IntN.{ℤ}
-use lib.Dec.{T, leb, ltb, eqb}
+use lib.Dec.{leb, ltb, eqb}
 use lib.ListN.{length, set, replicate}
 use lib.Seq.{paste}
 use Rattle.refusal.specs.Numbers.{verdict-of}
@@ -13,8 +13,7 @@ use Rattle.refusal.specs.declared.Checks.{Checks}
 use Rattle.refusal.specs.declared.Refusal.the-variants.{Lent}
 use Rattle.refusal.specs.declared.Verdict.{Verdict}
 use Rattle.refusal.specs.declared.Verdict.the-variants.{Accepted, Refused}
-use Rattle.lists.specs.Lists.{every}
-use Rattle.syntax.specs.Limits.{max-streams, max-columns, max-rows, is-value, natural}
+use Rattle.syntax.specs.Limits.{max-streams, max-columns, max-rows, natural}
 use Rattle.calls.specs.Tables.{clock-checks, row-checks}
 use Rattle.text.specs.declared.Time.{Time}
 use Rattle.schema.specs.Schemas.{streams-in, width-in}
@@ -134,11 +133,10 @@ unfoldable pub memory-after : Verdict → Memory → Memory → Memory
 memory-after Accepted old new = new
 memory-after (Refused f) old new = old
 
--- what is said, and what all memory holds afterwards; and that what is lent for values are numbers of 32 bits
+-- what is said, and what all memory holds afterwards
 pub record Enters (m : Memory) (s : ℕ) (vs : List ℤ) (c : Checks) (m′ : Memory) (v : Verdict) : Type 0 where
   pub said : v ≡ verdict-of (first (table (row-shown m s (length vs) c)))
   pub left : m′ ≡ memory-after v m (with-row m s vs)
-  pub ranges : T (every is-value (m .values))
 
 -- the call
 unfoldable pub row-table : Memory → ℕ → List ℤ → List Check
@@ -147,7 +145,6 @@ row-table m s vs = refuse Lent (not (memory-sound m)) ∷ row-checks (record-of 
 pub record RowCall (m : Memory) (s : ℕ) (vs : List ℤ) (m′ : Memory) (v : Verdict) : Type 0 where
   pub said : v ≡ verdict-of (first (row-table m s vs))
   pub left : m′ ≡ memory-after v m (with-row m s vs)
-  pub ranges : T (every is-value (m .values))
 
 -- the two lists in which a row is stored
 pub record Stored (l : Ledger) (s : ℕ) (vs : List ℤ) (times times′ : List ℕ) (values values′ : List ℤ) : Type 0 where

@@ -353,7 +353,6 @@ impl Ledger {
     ) -> Entered
         ensures { λ r. ⌜ Enters (record { ledger = self; names = now (names .entry); times = now (times .entry); values = now (values .entry) }) s (now (vs .entry)) checks (record { ledger = r .ledger; names = now (names .entry); times = now (times .exit); values = now (values .exit) }) (r .verdict) ⌝ }
     {
-        known(values);
         let c = self.row_checks(names, s, vs.len(), times, values, checks);
         let v = c.verdict();
         match v {

@@ -180,4 +180,4 @@ row-lined {m} {m′} bs {w} {n} {s} {v} e f g d =
     let h : Enters m (stream-of m w) (listed w) (w .checks) m′ v = rw (← f, ← k) d in
     let r = row-same m bs (ltb max-line (length bs)) refl (parse-as G.row bs) refl in
     let q : RowSame m bs (parse-as G.row bs) w = rw e r in
-    record { said = h .said ∙ q .said; left = h .left ∙ after-same v m _ _ (λ a. q .left (sym (h .said) ∙ a)); ranges = h .ranges }
+    record { said = h .said ∙ q .said; left = h .left ∙ after-same v m _ _ (λ a. q .left (sym (h .said) ∙ a)) }

@@ -10,9 +10,7 @@ use Rattle.refusal.specs.declared.Refusal.the-variants.{Lent}
 use Rattle.refusal.specs.declared.Verdict.{Verdict}
 use Rattle.syntax.specs.Grammar as G
 use Rattle.syntax.specs.Grammar.{Bytes}
-use lib.Dec.{T}
-use Rattle.lists.specs.Lists.{every}
-use Rattle.syntax.specs.Limits.{max-streams, is-value, natural}
+use Rattle.syntax.specs.Limits.{max-streams, natural}
 use Rattle.syntax.specs.Readers.{parse-as}
 use Rattle.calls.specs.Names.{stream-number}
 use Rattle.calls.specs.Replies.{written}
@@ -56,4 +54,3 @@ with-row-line m (some w) = with-row m (stream-number (schema-of (m .names)) (w .
 pub record RowLineCall (m : Memory) (bs : Bytes) (m′ : Memory) (v : Verdict) : Type 0 where
   pub said : v ≡ verdict-of (first (row-line-table m bs))
   pub left : m′ ≡ memory-after v m (with-row-line m (parse-as G.row bs))
-  pub ranges : T (every is-value (m .values))

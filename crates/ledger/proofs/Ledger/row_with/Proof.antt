@@ -6,14 +6,12 @@ use Rattle.ledger.proofs.Ledger.row_with.Tie as tie
 store-requires : tie.Need-store-requires
 store-requires c κs =
     let b = c .before .before .before .before in
-    store-room _ _ (c .before .before .before .before .before .before .before .before .before .before .before .before .args .checks) _ (b .before .row-checks .ensures) (b .verdict .ensures) (search needs)
+    store-room _ _ (c .before .before .before .before .before .before .before .before .before .before .args .checks) _ (b .before .row-checks .ensures) (b .verdict .ensures) (search needs)
 
 pub row-with-spec : {M : Type 1} → statement M
 row-with-spec =
     tie.close
     (tie.spec
-    {- known-requires -}
-    (λ c κs. search needs)
     {- row-checks-requires -}
     (λ c κs. search needs)
     {- verdict-requires -}
