@@ -1,7 +1,7 @@
 -- Scripts: what a line leaves is sound, so that none is refused as lent memory; a line leaves the record as its call does, and a refused one leaves all as it stood.
 use mathlib.Core.Path.{_≡_, refl, sym, ap, _∙_}
 use mathlib.Core.List.{List, [], _∷_, _++_}
-use mathlib.Core.Bool.{Bool, true, false, _&&_, not}
+use mathlib.Core.Bool.{Bool, true, false, _&&_, not, cond}
 use mathlib.Core.Option.{Option, none, some, Option·none-ne-some}
 use Prim.Native.Nat.{ℕ, zero, suc, _≤_, _<_}
 use native.Mathlib.Omega.{arith}
@@ -19,17 +19,17 @@ use Rattle.lists.proofs.Laws.{parts, and-both, T-true, All, all-nil, all-cons, 
 use Rattle.syntax.specs.Grammar as G
 use Rattle.syntax.specs.Grammar.{Bytes, Verb, GrantLine, RouteLine, body?, query-text}
 use Rattle.syntax.specs.Limits.{max-grants, max-line, max-printed, max-routes, shallow}
-use Rattle.syntax.specs.Readers.{parse-as, verb-of}
-use Rattle.syntax.proofs.Lines.{parsed-printed}
+use Rattle.syntax.specs.Readers.{parse-as, parse-query, verb-of}
+use Rattle.syntax.proofs.Lines.{parsed-printed, query-parsed-printed}
 use Rattle.syntax.proofs.Exact.{body-length, line-length, query-text-length, line-text-length}
 use Rattle.model.specs.Queries.{Stream, Schema, Record, Grant, Caller}
 use Rattle.model.specs.Routes.{Route}
-use Rattle.calls.specs.Names.{stream-names, resolve-grant}
+use Rattle.calls.specs.Names.{stream-names, resolve-grant, map-option}
 use Rattle.calls.specs.Validity.{valid-schema, rows-match, valid-record, valid-grant, valid-catalogue, entry-names, valid-caller}
 use Rattle.calls.specs.Replies.{written, Reply, refused, filled}
 use Rattle.calls.specs.Tables.{grant-checks, caller-checks, query-checks}
 use Rattle.calls.specs.Calls.{Call, stream, clock, row, clear, clock-line, row-line, clear-line, call-table, with-stream, with-clock, with-row, with-row-line, cleared, effect, next, fresh, grant-table, next-catalogue, with-grant, caller-table, with-caller, nobody}
-use Rattle.calls.specs.Asking.{lent-valid, query-routes, answer-checks, ask-table, route-line, numbered-line, some-bytes, no-line, line-given, printed-line, line-checks, line-table}
+use Rattle.calls.specs.Asking.{lent-valid, query-routes, answer-checks, ask-table, route-line, numbered-line, some-bytes, no-line, line-given, printed-line, line-checks, line-table, with-route}
 use Rattle.calls.specs.Events.{Fixture, new-fixture, Event, call, grant, caller, query, happen, happened-from, happened}
 use Rattle.calls.specs.Scripts.{Outcome, quiet, refusal, cells, text, changed, told, Act, on-record, act, perform, step, run-from, script}
 use Rattle.calls.proofs.Order.{never-written, call-never}
@@ -392,3 +392,71 @@ only-asks-print zs ys f bs out e = runs zs ys f bs (verb-of bs) .prints-as G.ask
 pub only-lines-print : (zs : List ℤ) (ys : Bytes) (f : Fixture) (bs out : Bytes) → (step zs ys f bs) .outcome ≡ text out → verb-of bs ≡ some G.line
 unfolding step printed-by
 only-lines-print zs ys f bs out e = runs zs ys f bs (verb-of bs) .prints-as G.line (ap printed-by e)
+
+-- ==== the same of calls, not of script lines alone
+
+-- what any list of calls and lines leaves is sound: each of its grants was made by an accepted line
+sound-happen : (f : Fixture) → Sound f → (e : Event) → Sound (happen f e)
+unfolding happen next next-catalogue
+sound-happen f s (call c) = go (passes (call-table (f .record-kept) c)) (sound-call f s c)
+  where
+    go : (b : Bool) → (T b → Sound (record { record-kept = effect (f .record-kept) c; catalogue = f .catalogue; caller = f .caller })) → Sound (record { record-kept = cond b (effect (f .record-kept) c) (f .record-kept); catalogue = f .catalogue; caller = f .caller })
+    go true k = k tt
+    go false k = s
+sound-happen f s (grant bs) = go (passes (grant-table (f .record-kept .schema) (f .catalogue) bs)) (sound-grant f s bs)
+  where
+    go : (b : Bool) → (T b → Sound (record { record-kept = f .record-kept; catalogue = with-grant (f .record-kept .schema) (f .catalogue) (parse-as G.grant bs); caller = f .caller }))
+        → Sound (record { record-kept = f .record-kept; catalogue = cond b (with-grant (f .record-kept .schema) (f .catalogue) (parse-as G.grant bs)) (f .catalogue); caller = f .caller })
+    go true k = k tt
+    go false k = s
+sound-happen f s (caller bs) = go (passes (caller-table bs)) (sound-caller f s bs)
+  where
+    go : (b : Bool) → (T b → Sound (record { record-kept = f .record-kept; catalogue = f .catalogue; caller = with-caller (f .caller) (parse-as G.caller bs) }))
+        → Sound (record { record-kept = f .record-kept; catalogue = f .catalogue; caller = cond b (with-caller (f .caller) (parse-as G.caller bs)) (f .caller) })
+    go true k = k tt
+    go false k = s
+sound-happen f s query = s
+
+sound-happened-from : (f : Fixture) → Sound f → (es : List Event) → Sound (happened-from f es)
+unfolding happened-from
+sound-happened-from f s [] = s
+sound-happened-from f s (e ∷ es) = sound-happened-from (happen f e) (sound-happen f s e) es
+
+pub sound-happened : (es : List Event) → Sound (happened es)
+unfolding happened
+sound-happened es = sound-happened-from new-fixture sound-new es
+
+-- the call for a line, over what any list of calls leaves and for any valid caller: with 4,096 bytes lent it is never refused for want of room
+module _ (es : List Event) (who : Caller) (valid : T (valid-caller who)) (n : ℤ) (bs ys : Bytes) (room : max-printed ≤ length ys) where
+  abbrev left : Fixture
+  left = happened es
+
+  abbrev asks : G.Form → RouteLine
+  asks q = record { route = n; query = q }
+
+  fronts : G.Form → List Check
+  fronts q =
+      refuse Lent (not (lent-valid (left .record-kept) (left .catalogue) who))
+      ∷ refuse Bound (ltb max-line (length bs))
+      ∷ refuse Malformed false
+      ∷ refuse Bound (not (shallow 0 bs))
+      ∷ (query-checks (left .record-kept .schema) q
+      ++ (refuse NoRoute (no-line (line-given (left .record-kept) (left .catalogue) who (asks q)))
+      ∷ refuse ManyRoutes (ltb max-routes (length (query-routes (left .record-kept) (left .catalogue) who q)))
+      ∷ []))
+
+  roomy : (o : Option G.Form) → parse-query bs ≡ o → (r : Refusal) → first (line-table (left .record-kept) (left .catalogue) who 0 bs (with-route n o) ys) ≡ some r → number-of r ≡ 11 → ⊥
+  unfolding line-table written query-checks line-checks printed-line line-given query-routes refuse every fronts with-route map-option
+  roomy none p r e h = never-first 11 _ r tt e h
+  roomy (some q) p r e h =
+      first-last 11 (fronts q) (refuse NoRoom (ltb (length ys) (length (printed-line (left .record-kept) (left .catalogue) who (some (asks q)))))) r tt e h (λ t b.
+      let s = sound-happened es in
+      let u = nltb→le max-line (length bs) (pass-first _ (ltb max-line (length bs)) _ (pass-rest _ _ _ t)) in
+      let m = passes-left (query-checks (left .record-kept .schema) q) _ (pass-rest _ _ _ (pass-rest _ _ _ (pass-rest _ _ _ (pass-rest _ _ _ t)))) in
+      let short = ap length (query-parsed-printed bs q p .1) in
+      let k = given-short (left .record-kept .schema) who (line-fits (left .record-kept .schema) (schema-kept left s) who valid (left .catalogue) (s .lines) q (omega (arith, short)) m) n in
+      let o = ltb→lt (length ys) (length (printed-line (left .record-kept) (left .catalogue) who (some (asks q)))) b in
+      omega arith)
+
+  pub line-call-has-room : (r : Refusal) → first (line-table (left .record-kept) (left .catalogue) who 0 bs (with-route n (parse-query bs)) ys) ≡ some r → number-of r ≡ 11 → ⊥
+  line-call-has-room r = roomy (parse-query bs) refl r
