@@ -1,26 +1,26 @@
 -- What an accepted call leaves stands for the record of the definitions, and may be lent again.
 use mathlib.Core.Path.{_≡_, refl, sym, ap, _∙_}
-use mathlib.Core.List.{List, [], _++_, map, map-map}
-use mathlib.Core.Bool.{Bool, _&&_}
+use mathlib.Core.List.{List, [], map, map-map}
+use mathlib.Core.Bool.{_&&_}
 use mathlib.Core.Option.{some}
 use Prim.Native.Nat.{ℕ, zero, suc, _+_, _*_, _-_, _<_, _≤_}
 use native.Mathlib.Decide.{decLt}
 use native.Mathlib.Omega.{arith}
 use lib.IntN.{ℤ}
 use lib.Dec.{T, leb, eqb, le→leb, leb→le, eqb→eq}
-use lib.ListN.{length, getD, replicate, length-set, take, drop, take-append-drop}
+use lib.ListN.{length, getD, replicate, length-set}
 use lib.Seq.{length-paste, getD-set-other}
 use Rattle.lists.specs.Lists.{every, count-from}
-use Rattle.lists.proofs.Laws.{and-l, and-r, and-both, every-weaken, every-append, every-append-l, every-append-r}
+use Rattle.lists.proofs.Laws.{and-l, and-r, and-both, every-weaken}
 use Rattle.lists.proofs.Counting.{map-alike, every-at, every-made, every-set}
-use Rattle.syntax.specs.Limits.{max-streams, max-columns, max-rows, top, is-value, natural}
+use Rattle.syntax.specs.Limits.{max-streams, max-columns, max-rows, top, natural}
 use Rattle.model.specs.Queries.{Row}
 use Rattle.calls.specs.Validity.{steady}
 use Rattle.calls.specs.Calls as C
 use Rattle.calls.proofs.Valid.{steady-add}
 use Rattle.schema.specs.Schemas.{streams-in, width-in, schema-of, schema-sound}
 use Rattle.schema.proofs.Tests.{streams-most}
-use Rattle.ledger.specs.Records.{Memory, with-ledger, with-names, Typed, row-in, count-in, rows-in, record-of, ledger-sound, undeclared-empty, times-steady, stream-steady, streams-steady, memory-sound}
+use Rattle.ledger.specs.Records.{Memory, with-ledger, with-names, row-in, count-in, rows-in, record-of, ledger-sound, undeclared-empty, times-steady, stream-steady, streams-steady, memory-sound}
 use Rattle.ledger.specs.Calls.{row-place, with-rows, with-row}
 use Rattle.ledger.proofs.Soundness.{sound-parts, sound-made}
 use Rattle.ledger.proofs.Entering.{RowFits, row-room}
@@ -139,23 +139,6 @@ names-sound m ns n h r =
     each s a (no b) = unfold stream-steady times-steady in rw (undeclared-none m r s (omega arith) a) (le→leb 0 (m .ledger .clock) (omega arith))
 
 -- ---- a row more
-
-every-take : {A : Type 0} (p : A → Bool) (n : ℕ) (xs : List A) → T (every p xs) → T (every p (take n xs))
-every-take p n xs t = every-append-l p (take n xs) (drop n xs) (rw (take-append-drop n xs) t)
-
-every-drop : {A : Type 0} (p : A → Bool) (n : ℕ) (xs : List A) → T (every p xs) → T (every p (drop n xs))
-every-drop p n xs t = every-append-r p (take n xs) (drop n xs) (rw (take-append-drop n xs) t)
-
-pub row-typed : (m : Memory) (s : ℕ) (vs : List ℤ) → Typed m → T (every is-value vs) → Typed (with-row m s vs)
-unfolding with-row with-rows
-row-typed m s vs y v =
-    let at : ℕ = row-place (m .ledger) s * max-columns in
-    record {
-      counts = length-set (m .ledger .rows) s (suc (count-in (m .ledger) s)) ∙ y .counts;
-      ranges = every-append is-value (take at (m .values) ++ take (length vs) vs) (drop (at + length vs) (m .values))
-          (every-append is-value (take at (m .values)) (take (length vs) vs) (every-take is-value at (m .values) (y .ranges)) (every-take is-value (length vs) vs v))
-          (every-drop is-value (at + length vs) (m .values) (y .ranges));
-    }
 
 module _ (m : Memory) (s : ℕ) (vs : List ℤ) (four : length (m .ledger .rows) ≡ max-streams) (fit : RowFits m s (length vs)) where
   was-steady : (j : ℕ) → j < streams-in (m .names) → T (steady 0 (m .ledger .clock) (rows-in m j))

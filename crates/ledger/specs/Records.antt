@@ -1,13 +1,12 @@
 -- The record that lent memory stands for, and whether it may be lent.
-use mathlib.Core.Path.{_≡_}
 use mathlib.Core.List.{List, map}
 use mathlib.Core.Bool.{Bool, _&&_}
 use Prim.Native.Nat.{ℕ, zero, suc, _+_, _*_, _-_, min}
 use lib.IntN.{ℤ, pos}
-use lib.Dec.{T, leb, eqb}
+use lib.Dec.{leb, eqb}
 use lib.ListN.{length, getD}
 use Rattle.lists.specs.Lists.{every, count-from}
-use Rattle.syntax.specs.Limits.{max-streams, max-columns, max-rows, top, is-value}
+use Rattle.syntax.specs.Limits.{max-streams, max-columns, max-rows, top}
 use Rattle.model.specs.Queries.{Row, Record}
 use Rattle.schema.specs.Schemas.{streams-in, width-in, schema-of, schema-sound, tidy}
 use Rattle.ledger.specs.declared.Ledger.{Ledger}
@@ -26,11 +25,6 @@ with-ledger m l = record { ledger = l; names = m .names; times = m .times; value
 -- and with other names
 abbrev pub with-names : Memory → List ℕ → Memory
 with-names m ns = record { ledger = m .ledger; names = ns; times = m .times; values = m .values }
-
--- what the types of the code say of it: a count for each stream, and values of 32 bits
-pub record Typed (m : Memory) : Type 0 where
-  pub counts : length (m .ledger .rows) ≡ max-streams
-  pub ranges : T (every is-value (m .values))
 
 -- each stream has 128 places, each place one time and six values
 abbrev pub places-size : ℕ
