@@ -55,7 +55,7 @@ numbered ManyRoutes e = omega arith
 numbered NoRoom e = omega arith
 
 -- no check of the table failed, and what was written stands first
-replied : {A : Type 0} (o : Option Refusal) (out lent lent′ : List A) (r : Reply) → Replies (reply o out lent) lent lent′ r → r .refusal ≡ 0 → (o ≡ none) × (r .count ≡ length out) × (lent′ ≡ out ++ drop (length out) lent)
+pub replied : {A : Type 0} (o : Option Refusal) (out lent lent′ : List A) (r : Reply) → Replies (reply o out lent) lent lent′ r → r .refusal ≡ 0 → (o ≡ none) × (r .count ≡ length out) × (lent′ ≡ out ++ drop (length out) lent)
 unfolding reply reply-of lent-after
 replied none out lent lent′ r p e = (refl, ap (λ (y : Reply). y .count) (p .said), p .left)
 replied (some f) out lent lent′ r p e = absurd (numbered f (sym (ap (λ (y : Reply). y .refusal) (p .said)) ∙ e))
@@ -63,7 +63,7 @@ replied (some f) out lent lent′ r p e = absurd (numbered f (sym (ap (λ (y : R
 -- ---- tables
 
 -- two tables, one after the other, without a failing check
-both-pass : (cs ds : List Check) → first (cs ++ ds) ≡ none → (first cs ≡ none) × (first ds ≡ none)
+pub both-pass : (cs ds : List Check) → first (cs ++ ds) ≡ none → (first cs ≡ none) × (first ds ≡ none)
 unfolding first
 both-pass [] ds h = (refl, h)
 both-pass (c ∷ cs) ds h = go (c .fails) h (both-pass cs ds)

@@ -1,8 +1,9 @@
 -- The three demands, of the calls for C and from their contracts alone: `Called`, `Calls` and `Recorded` (specs/Lists) say what a call, and a list of calls, returned and left.
 use mathlib.Core.Path.{_≡_}
 use mathlib.Core.List.{List}
-use Prim.Native.Nat.{ℕ}
-use lib.IntN.{ℤ}
+use Prim.Native.Nat.{ℕ, suc, _<_}
+use lib.IntN.{ℤ, pos}
+use lib.ListN.{length}
 use Rattle.refusal.specs.Checks.{Ordered}
 use Rattle.syntax.specs.Grammar.{Bytes}
 use Rattle.syntax.specs.Readers.{parse-query}
@@ -22,11 +23,12 @@ use Rattle.ask.specs.declared.Reply.{Reply}
 use Rattle.ask.specs.Replies.{Replies}
 use Rattle.ask.specs.Asking.{Lending, asked-table, asked, lined-table, LineReplies}
 use Rattle.demands.specs.Lending.{lending, SameLent}
-use Rattle.demands.specs.Holding.{Answered, Lined}
+use Rattle.demands.specs.Holding.{routes-of, Answered, Lined}
 use Rattle.demands.specs.Refusing.{first-number}
 use Rattle.demands.proofs.Refused.{asked-refusal, lined-refusal, asked-ordered, lined-ordered}
 use Rattle.demands.proofs.Defined.{valid-kept}
 use Rattle.demands.proofs.Answered as A
+use Rattle.demands.proofs.Each.{each-route}
 use Rattle.demands.proofs.Interference as I
 use Rattle.maltziru.specs.Lists.{Recorded, Called, Calls, table-of}
 use Rattle.maltziru.proofs.Lists.{recorded, happens, trace}
@@ -80,6 +82,11 @@ answered x bs cells h e = A.answered x 0 (parse-query bs) bs cells h e
 pub printed : (x : Lending) (route : ℤ) (bs out : Bytes) {p : Bytes} {r : Reply}
     → LineReplies 0 (with-route route (parse-query bs)) x bs out p r → r .refusal ≡ 0 → Lined x (with-route route (parse-query bs)) out p r
 printed x route bs out h e = A.lined-holds x (valid-kept x (h .ranges)) 0 (with-route route (parse-query bs)) bs out (h .said) e
+
+-- of a query that was answered every route has its line: the call for it is refused for want of room alone
+pub each-line : (x : Lending) (bs : Bytes) (cells : List ℤ) {p : List ℤ} {r : Reply} (h : Replies (asked 0 (parse-query bs) x bs cells) cells p r) (e : r .refusal ≡ 0)
+    (n : ℕ) → n < length (routes-of x (answered x bs cells h e .query)) → (out : Bytes) {q : Bytes} {i : Reply} → LineReplies 0 (with-route (pos (suc n)) (parse-query bs)) x bs out q i → (i .refusal ≡ 11 → ⊥) → i .refusal ≡ 0
+each-line x bs cells h e n k out l room = let a = answered x bs cells h e in each-route x 0 bs (parse-query bs) (a .query) (a .reads) cells h e n k out (l .said) room
 
 -- ---- demand 3: an answer hangs on nothing but what is shown
 
