@@ -1,5 +1,10 @@
 pub mod Examples
 pub mod Samples
+pub mod Transcripts
+pub mod FormSamples
+pub mod ConditionSamples
+pub mod RecordSamples
+pub mod AggregateSamples
 pub mod Written
 pub mod Order
 pub mod Accepted
