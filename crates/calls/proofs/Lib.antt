@@ -5,6 +5,10 @@ pub mod FormSamples
 pub mod ConditionSamples
 pub mod RecordSamples
 pub mod AggregateSamples
+pub mod RouteSamples
+pub mod LineSamples
+pub mod BoundSamples
+pub mod OrderSamples
 pub mod Written
 pub mod Order
 pub mod Accepted
