@@ -9,6 +9,7 @@ pub mod RouteSamples
 pub mod LineSamples
 pub mod BoundSamples
 pub mod OrderSamples
+pub mod LentSamples
 pub mod Written
 pub mod Order
 pub mod Accepted
