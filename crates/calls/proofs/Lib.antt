@@ -10,6 +10,7 @@ pub mod LineSamples
 pub mod BoundSamples
 pub mod OrderSamples
 pub mod LentSamples
+pub mod CallSamples
 pub mod Written
 pub mod Order
 pub mod Accepted
