@@ -3,3 +3,4 @@ pub mod Passing
 pub mod Verdicts
 pub mod Order
 pub mod Passed
+pub mod Samples

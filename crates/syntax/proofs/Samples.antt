@@ -2,7 +2,7 @@
 use mathlib.Core.Path.{_≡_, refl}
 use mathlib.Core.List.{List, [], _∷_, map}
 use mathlib.Core.Option.{Option, some}
-use Rattle.syntax.specs.Grammar.{Bytes, bytes, line-text}
+use Rattle.syntax.specs.Grammar.{Bytes, bytes, min, max, count, avg, sum, read, figures, fn-number, numbered-fn, right-number, numbered-right, line-text}
 use Rattle.syntax.specs.Readers.{parse-line, bind, readers-compute}
 
 back : Bytes → Option Bytes
@@ -22,3 +22,20 @@ samples =
 samples-back : map back samples ≡ map some samples
 unfolding readers-compute back samples
 samples-back = refl
+
+-- the numbers of the aggregates and of the rights, and back
+numbers : map fn-number (min ∷ max ∷ count ∷ avg ∷ sum ∷ []) ≡ 1 ∷ 2 ∷ 3 ∷ 4 ∷ 5 ∷ []
+unfolding readers-compute
+numbers = refl
+
+numbers-back : map numbered-fn (1 ∷ 2 ∷ 3 ∷ 4 ∷ 5 ∷ 0 ∷ 6 ∷ []) ≡ min ∷ max ∷ count ∷ avg ∷ sum ∷ sum ∷ sum ∷ []
+unfolding readers-compute
+numbers-back = refl
+
+rights-numbered : map right-number (read ∷ figures min ∷ figures max ∷ figures count ∷ figures avg ∷ figures sum ∷ []) ≡ 0 ∷ 1 ∷ 2 ∷ 3 ∷ 4 ∷ 5 ∷ []
+unfolding readers-compute
+rights-numbered = refl
+
+rights-back : map numbered-right (0 ∷ 1 ∷ 2 ∷ 3 ∷ 4 ∷ 5 ∷ []) ≡ read ∷ figures min ∷ figures max ∷ figures count ∷ figures avg ∷ figures sum ∷ []
+unfolding readers-compute
+rights-back = refl
