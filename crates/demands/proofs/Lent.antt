@@ -3,10 +3,10 @@ use mathlib.Core.Path.{_≡_, refl, sym, ap, _∙_}
 use mathlib.Core.List.{List, _∷_}
 use mathlib.Core.Option.{Option, none, some}
 use mathlib.Core.Bool.{true, not, _&&_}
-use Prim.Native.Nat.{ℕ}
+use Prim.Native.Nat.{ℕ, _≤_}
 use native.Mathlib.Omega.{arith}
 use lib.IntN.{ℤ}
-use lib.Dec.{T}
+use lib.Dec.{T, lit≤}
 use Rattle.refusal.specs.Numbers.{number-of}
 use Rattle.refusal.specs.Checks.{Check, refuse, first}
 use Rattle.refusal.specs.declared.Refusal.{Refusal}
@@ -43,11 +43,11 @@ store-lent s w k e =
     let c = catalogue-sound (s .memory .names) (s .grants) (s .words) in
     and-both (m && c) (caller-sound w) (and-both m c (k .memory .lent) (k .grants)) (true-T (caller-sound w) e)
 
--- a table that does not give 12
-not-twelve : {A : Type 0} (o : Option Refusal) (out lent : List A) {p : List A} {y : Reply} → ((f : Refusal) → o ≡ some f → number-of f ≡ 12 → ⊥) → Replies (reply o out lent) lent p y → y .refusal ≡ 12 → ⊥
+-- a table that does not give a number
+pub never-said : {A : Type 0} (n : ℕ) → 1 ≤ n → (o : Option Refusal) (out lent : List A) {p : List A} {y : Reply} → ((f : Refusal) → o ≡ some f → number-of f ≡ n → ⊥) → Replies (reply o out lent) lent p y → y .refusal ≡ n → ⊥
 unfolding reply reply-of
-not-twelve none out lent k h e = let z = ap (λ (r : Reply). r .refusal) (h .said) in omega arith
-not-twelve (some f) out lent k h e = k f refl (sym (ap (λ (r : Reply). r .refusal) (h .said)) ∙ e)
+never-said n l none out lent k h e = let z = ap (λ (r : Reply). r .refusal) (h .said) in omega arith
+never-said n l (some f) out lent k h e = k f refl (sym (ap (λ (r : Reply). r .refusal) (h .said)) ∙ e)
 
 module _ {s u : Store} {es : List Event} (f : Fresh s) (r : Trace s es u) where
   skipped : (cs : List Check) → T (never 12 cs) → (g : Refusal) → first (refuse Lent (not (lent-sound (lends u (u .caller)))) ∷ cs) ≡ some g → number-of g ≡ 12 → ⊥
@@ -56,8 +56,8 @@ module _ {s u : Store} {es : List Event} (f : Fresh s) (r : Trace s es u) where
   -- of what any list of calls and lines leaves, its caller's queries and lines are never refused by 12
   pub never-lent-query : (spare : ℕ) (o : Option Form) (bs : Bytes) (cells : List ℤ) {p : List ℤ} {y : Reply} → Replies (asked spare o (lends u (u .caller)) bs cells) cells p y → y .refusal ≡ 12 → ⊥
   unfolding asked asked-table query-checks answer-checks every refuse
-  never-lent-query spare o bs cells h = not-twelve _ _ cells (skipped _ (never-written 12 spare bs o _ tt tt (λ q. tt))) h
+  never-lent-query spare o bs cells h = never-said 12 (lit≤ tt) _ _ cells (skipped _ (never-written 12 spare bs o _ tt tt (λ q. tt))) h
 
   pub never-lent-line : (spare : ℕ) (o : Option RouteLine) (bs out : Bytes) {p : Bytes} {y : Reply} → Replies (lined spare o (lends u (u .caller)) bs out) out p y → y .refusal ≡ 12 → ⊥
   unfolding lined lined-table query-checks line-checks every refuse
-  never-lent-line spare o bs out h = not-twelve _ _ out (skipped _ (never-written 12 spare bs o _ tt tt (λ q. tt))) h
+  never-lent-line spare o bs out h = never-said 12 (lit≤ tt) _ _ out (skipped _ (never-written 12 spare bs o _ tt tt (λ q. tt))) h

@@ -6,3 +6,4 @@ pub mod Left
 pub mod Catalogues
 pub mod Interference
 pub mod Lent
+pub mod Room

@@ -1,11 +1,12 @@
 -- The three demands, of the calls for C and from their contracts alone: `Called`, `Calls` and `Recorded` (specs/Lists) say what a call, and a list of calls, returned and left.
 use mathlib.Core.Path.{_≡_}
 use mathlib.Core.List.{List}
-use Prim.Native.Nat.{ℕ, suc, _<_}
+use Prim.Native.Nat.{ℕ, suc, _≤_, _<_}
 use lib.IntN.{ℤ, pos}
 use lib.ListN.{length}
 use Rattle.refusal.specs.Checks.{Ordered}
 use Rattle.syntax.specs.Grammar.{Bytes}
+use Rattle.syntax.specs.Limits.{max-printed}
 use Rattle.syntax.specs.Readers.{parse-query}
 use Rattle.model.specs.Alike.{Alike}
 use Rattle.calls.specs.Calls.{Call, after}
@@ -29,6 +30,7 @@ use Rattle.demands.proofs.Refused.{asked-refusal, lined-refusal, asked-ordered,
 use Rattle.demands.proofs.Defined.{valid-kept}
 use Rattle.demands.proofs.Answered as A
 use Rattle.demands.proofs.Each.{each-route}
+use Rattle.demands.proofs.Room as Q
 use Rattle.demands.proofs.Interference as I
 use Rattle.maltziru.specs.Lists.{Recorded, Called, Calls, table-of}
 use Rattle.maltziru.proofs.Lists.{recorded, happens, trace}
@@ -87,6 +89,11 @@ printed x route bs out h e = A.lined-holds x (valid-kept x (h .ranges)) 0 (with-
 pub each-line : (x : Lending) (bs : Bytes) (cells : List ℤ) {p : List ℤ} {r : Reply} (h : Replies (asked 0 (parse-query bs) x bs cells) cells p r) (e : r .refusal ≡ 0)
     (n : ℕ) → n < length (routes-of x (answered x bs cells h e .query)) → (out : Bytes) {q : Bytes} {i : Reply} → LineReplies 0 (with-route (pos (suc n)) (parse-query bs)) x bs out q i → (i .refusal ≡ 11 → ⊥) → i .refusal ≡ 0
 each-line x bs cells h e n k out l room = let a = answered x bs cells h e in each-route x 0 bs (parse-query bs) (a .query) (a .reads) cells h e n k out (l .said) room
+
+-- 4,096 bytes are room for it, after any list of calls from fresh memory, whoever the caller is
+pub room-enough : {es : List Event} {s t : Store} → Fresh s → Calls s es t → (w : Caller) (route : ℤ) (bs out : Bytes) {p : Bytes} {r : Reply}
+    → LineReplies 0 (with-route route (parse-query bs)) (lending (t .memory) (t .grants) (t .words) w) bs out p r → max-printed ≤ length out → r .refusal ≡ 11 → ⊥
+room-enough f c w route bs out h room = Q.room-enough f (trace c) w route bs out (h .said) room
 
 -- ---- demand 3: an answer hangs on nothing but what is shown
 
