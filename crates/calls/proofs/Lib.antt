@@ -16,6 +16,7 @@ pub mod Order
 pub mod Accepted
 pub mod Steps
 pub mod Valid
+pub mod Record
 pub mod Widths
 pub mod Stored
 pub mod Interference
