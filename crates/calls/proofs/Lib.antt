@@ -9,6 +9,7 @@ pub mod RouteSamples
 pub mod LineSamples
 pub mod BoundSamples
 pub mod OrderSamples
+pub mod NestedSamples
 pub mod LentSamples
 pub mod CallSamples
 pub mod Written

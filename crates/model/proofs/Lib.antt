@@ -30,3 +30,4 @@ pub mod Belonging
 pub mod Views
 pub mod Decoding
 pub mod Samples
+pub mod FormSamples
