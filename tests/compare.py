@@ -1,10 +1,13 @@
 """Compares the reference with the definitions, by computation.
 
     python3 tests/compare.py FIRST LAST [BATCH]
+    python3 tests/compare.py --gate
 
 For the seeds from FIRST up to, not including, LAST it writes what the reference
 gives as theorems of crate `calls`, one for each script, has them checked, and
-tells which fail. It works in a copy of the repository that it throws away.
+tells which fail. It works in a copy of the definitions as they stand in the
+working tree. The exit status is 1 where a script differs; with --gate, for the
+seeds that are listed below, also where one of the things in `wanted` is not met.
 """
 
 import collections
@@ -18,9 +21,14 @@ import tempfile
 
 import generate
 import reference
-from reference_forms import Reader, forms, read_tree
+from definitions import make_copy, write_library
+from reference_forms import AGGREGATES, COMPARE, Reader, forms, is_entry, read_tree, tests
 
-SOURCE = os.path.dirname(os.path.dirname(os.path.abspath(__file__)))
+# Scripts of moderate length that meet all that is wanted.
+GATE = [2, 10, 40, 42, 45, 47, 69, 90, 102, 111, 123, 132, 141, 189, 195, 240, 253, 256, 261, 273,
+        276, 303, 306, 309, 315, 357, 369, 381, 399, 419, 420, 429, 432, 459, 498, 509, 518, 547, 549, 550,
+        552, 562, 611, 615, 636, 640, 651, 669, 678, 681, 693, 704, 732, 737, 765, 769, 785, 789, 798, 799]
+
 COPY = tempfile.mkdtemp()
 PROOFS = os.path.join(COPY, 'crates', 'calls', 'proofs')
 
@@ -107,16 +115,70 @@ def count_answer(counts, fixture, query):
         counts['answered routes of kind %d, %s' % (kind, 'rows' if cells[3] else 'no row')] += 1
 
 
+def count_conditions(counts, place, conditions):
+    """Counts the connectives, comparisons and terms of conditions."""
+    def walk(condition):
+        counts['%s: %s' % (place, condition[0])] += 1
+        for part in condition[1] if condition[0] not in COMPARE else []:
+            walk(part)
+    for condition in conditions:
+        walk(condition)
+    for _, left, right in tests(conditions):
+        counts['%s: %s on the left' % (place, left if isinstance(left, str) else 'a column')] += 1
+        kind = 'a number' if isinstance(right, int) else 'an entry' if is_entry(right) else 'a column'
+        counts['%s: %s on the right' % (place, kind)] += 1
+
+
+def count_grant(counts, tree):
+    grant = Reader().grant(tree[1:])
+    counts['grants: %s' % grant.right] += 1
+    counts['grants of %d' % len(grant.streams)] += 1
+    counts['grants that show %s' % ('*' if grant.shows_all else 'columns')] += 1
+    for part in ('start', 'end', 'window'):
+        counts['grants with %s' % part] += getattr(grant, part) is not None
+    count_conditions(counts, 'grants', grant.when)
+
+
+def count_query(counts, query):
+    for form in forms(query):
+        counts['queries: %s' % form[0]] += 1
+        if form[0] == 'pick':
+            count_conditions(counts, 'picks', [form[1]])
+
+
 def count_outcome(counts, fixture, line, outcome):
     kind = outcome[0] if outcome else 'quiet'
     counts['refused %2d' % outcome[1] if kind == 'refused' else kind] += 1
+    if kind == 'refused':
+        return
+    tree = read_tree(line.decode())
+    counts['accepted %s' % tree[0]] += 1
+    if tree[0] == 'grant':
+        count_grant(counts, tree)
     if kind in ('cells', 'text'):
-        tree = read_tree(line.decode())
         query = fixture.checked(tree[-1], Reader())
+        count_query(counts, query)
         if kind == 'cells':
             count_answer(counts, fixture, query)
         else:
             counts['lines of kind %d' % route_kinds(fixture, query)[int(tree[1]) - 1]] += 1
+
+
+def wanted():
+    """What the scripts of the gate must meet."""
+    connectives = ('and', 'or', 'not') + tuple(COMPARE)
+    return (['refused %2d' % number for number in range(1, 12)]
+            + ['accepted %s' % verb for verb in ('stream', 'grant', 'clock', 'row', 'clear', 'caller', 'ask', 'line')]
+            + ['queries: %s' % form for form in ('in', 'pick', 'keep', 'join') + AGGREGATES]
+            + ['grants: %s' % right for right in ('read',) + AGGREGATES]
+            + ['grants of 1', 'grants of 2', 'grants that show *', 'grants that show columns']
+            + ['grants with %s' % part for part in ('start', 'end', 'window')]
+            + ['%s: %s' % (place, word) for place in ('picks', 'grants') for word in connectives]
+            + ['picks: %s on the left' % term for term in ('a column', 'time', 'figure')]
+            + ['picks: %s on the right' % term for term in ('a column', 'a number')]
+            + ['grants: %s on the right' % term for term in ('a column', 'a number', 'an entry')]
+            + ['answered routes of kind %d, rows' % kind for kind in (1, 2, 3)]
+            + ['lines of kind %d' % kind for kind in (1, 2, 3)])
 
 
 def outcomes_of(seed, counts):
@@ -137,12 +199,7 @@ def outcomes_of(seed, counts):
 def write_held(theorems):
     with open(os.path.join(PROOFS, 'Held.antt'), 'w') as held:
         held.write(HEADER + ''.join(theorems))
-    path = os.path.join(PROOFS, 'Lib.antt')
-    with open(path) as library:
-        modules = library.read()
-    if 'pub mod Held\n' not in modules:
-        with open(path, 'w') as library:
-            library.write(modules.rstrip('\n') + '\npub mod Held\n')
+    write_library(COPY, 'calls', ['Held'])
 
 
 def check():
@@ -171,28 +228,38 @@ def compare(seeds, counts):
     print('seeds %d to %d: %s' % (seeds[0], seeds[-1], 'all hold' if code == 0 else 'not proved'))
     if code != 0:
         print('\n'.join(re.findall('.*(?:error|rattle): .{0,300}', output)))
-        for seed in sorted(set(re.findall(r'`held-(\d+)`', output))):
+        for seed in sorted(set(re.findall(r'`held-(\d+)`', output)))[:2]:
             print('seed %s: line %d, %s, reference %s' % ((seed,) + first_difference(int(seed))))
     sys.stdout.flush()
+    return code == 0
 
 
-def compare_all(first, last, batch):
+def compare_all(seeds, batch):
+    """Compares them in batches; gives whether all hold, and what was met."""
     counts = collections.Counter()
-    for start in range(first, last, batch):
-        compare(list(range(start, min(start + batch, last))), counts)
+    held = [compare(seeds[start:start + batch], counts) for start in range(0, len(seeds), batch)]
     for key in sorted(counts):
         print('%6d %s' % (counts[key], key))
+    return all(held), counts
 
 
 def main():
-    first, last = int(sys.argv[1]), int(sys.argv[2])
+    gate = sys.argv[1:] == ['--gate']
+    seeds = GATE if gate else list(range(int(sys.argv[1]), int(sys.argv[2])))
     batch = int(sys.argv[3]) if len(sys.argv) > 3 else 25
-    subprocess.run(['git', 'clone', '-q', SOURCE, COPY], check=True)
     try:
-        compare_all(first, last, batch)
+        make_copy(COPY, {})
+        done = subprocess.run(['rt', 'check'], cwd=COPY, capture_output=True, text=True)
+        if done.returncode != 0:
+            sys.exit('the definitions are not accepted:\n' + done.stdout[-2000:])
+        held, counts = compare_all(seeds, batch)
     finally:
         shutil.rmtree(COPY)
+    missed = [thing for thing in wanted() if not counts[thing]] if gate else []
+    for thing in missed:
+        print('not met: ' + thing)
+    return not held or bool(missed)
 
 
 if __name__ == '__main__':
-    main()
+    sys.exit(main())

@@ -9,6 +9,7 @@ pub mod RouteSamples
 pub mod LineSamples
 pub mod BoundSamples
 pub mod OrderSamples
+pub mod NestedSamples
 pub mod LentSamples
 pub mod CallSamples
 pub mod Written
@@ -16,6 +17,7 @@ pub mod Order
 pub mod Accepted
 pub mod Steps
 pub mod Valid
+pub mod Record
 pub mod Widths
 pub mod Stored
 pub mod Interference

@@ -1,6 +1,7 @@
 pub mod Asked
 pub mod Gathers
 pub mod Conditions
+pub mod Connectives
 pub mod Columns
 pub mod Distinct
 pub mod Cuts
@@ -29,3 +30,4 @@ pub mod Belonging
 pub mod Views
 pub mod Decoding
 pub mod Samples
+pub mod FormSamples

@@ -7,6 +7,7 @@ use lib.Dec.{leb, eqb}
 use lib.ListN.{length}
 use Rattle.lists.specs.Lists.{some?, every, empty?, distinct, gather}
 use Rattle.syntax.specs.Grammar.{Cond}
+use Rattle.syntax.specs.Limits.{max-granted, max-overlap}
 use Rattle.model.specs.Conditions.{tests}
 use Rattle.model.specs.Queries.{Schema, Col, same-col, columns-of, Term, column, time, number, self, Compare, Query, source, pick, keep, join, aggregate, sources, header, Grant}
 use Rattle.model.specs.Grants.{grants-compute}
@@ -108,7 +109,7 @@ placed d q = allowed (columns-of d) q && distinct eqb (sources q)
 
 -- check 5
 unfoldable pub fitting : ℕ → ℕ → Bool
-fitting size offset = leb 1 size && leb 1 offset && leb size (64 * offset)
+fitting size offset = leb 1 size && leb 1 offset && leb size (max-overlap * offset)
 
 unfoldable pub sized : {S : Type 0} → Query S → Bool
 sized (source s) = true
@@ -135,7 +136,7 @@ in-order (some a) (some b) = leb a b
 -- check 4 of a grant: one or two streams, columns of these alone, terms where they may stand, `from` not above `to`
 unfoldable pub grant-placed : Schema → Grant → Bool
 grant-placed d g =
-    not (empty? (g .of)) && leb (length (g .of)) 2 && within (g .shown) (gather (columns-of d) (g .of))
+    not (empty? (g .of)) && leb (length (g .of)) max-granted && within (g .shown) (gather (columns-of d) (g .of))
     && every (λ c. grantable c && within (cond-cols c) (gather (columns-of d) (g .of))) (g .when)
     && in-order (g .from) (g .to)
 

@@ -12,3 +12,4 @@ pub mod Aggregates
 pub mod Depths
 pub mod Exact
 pub mod Leaving
+pub mod Ranges
