@@ -23,12 +23,14 @@ use Rattle.caller.specs.Callers.{roles-in, entries-in, role-in, entry-in, calle
 use Rattle.caller.proofs.Identifying.{sound-valid}
 use Rattle.nodes.specs.Nodes.{unbiased}
 use Rattle.nodes.specs.Profiles.{entry-at, profile-in}
+use Rattle.grant.specs.Catalogues.{words-in}
 use Rattle.grant.specs.declared.Grant.{Grant}
 use Rattle.needs.specs.declared.Needs.{Needs}
 use Rattle.routes.specs.Opening.{caller-in}
+use Rattle.routes.specs.Listing.{caller-bits}
 use Rattle.catalogue.specs.declared.Opened.{Opened}
 use Rattle.catalogue.specs.Callers.{roles-of, entry-numbers, numbers-of, profile-of}
-use Rattle.catalogue.specs.Opened.{opened-with}
+use Rattle.catalogue.specs.Opened.{with-bits, opened-with}
 
 -- the first of some numbers, place by place
 first-places : (xs : List ℕ) (k : ℕ) → k ≤ length xs → take k xs ≡ map (λ i. getD xs i 0) (count-from 0 k)
@@ -60,14 +62,16 @@ module _ (w : Caller) where
       ap₂ take b j ∙ numbers-first e (omega arith) ∙ ap (numbers-of w) l
 
   module _ (o : Opened) (n : Needs) (place : ℕ) (g : Grant) (ns ws : List ℕ) (four : length (w .role) ≡ 4) where
-    pub caller-end : {k e : ℕ} {ps : List ℕ} {r : Opened} → k ≡ min (w .roles) 4 → ps ≡ numbers-of w 4 → e ≡ min (w .entries) 4
-        → r ≡ opened-with o n place g ns ws (take (k - 0) (w .role)) (take (e * 2 - 0) ps) → r ≡ opened-with o n place g ns ws (roles-of w) (profile-of w)
-    unfolding roles-of roles-in
-    caller-end {k} {e} i j l h =
+    pub caller-end : {k e b : ℕ} {ps : List ℕ} {r : Opened} → k ≡ min (w .roles) 4 → ps ≡ numbers-of w 4 → e ≡ min (w .entries) 4 → b ≡ caller-bits n g (words-in ws place) (take (k - 0) (w .role)) (take (e * 2 - 0) ps)
+        → r ≡ with-bits o place g b ns ws → r ≡ opened-with o n place g ns ws (roles-of w) (profile-of w)
+    unfolding roles-of roles-in opened-with
+    caller-end {k} {e} i j l f h =
         let a : k - 0 ≡ k = omega arith in
         h
-        ∙ ap₂ (opened-with o n place g ns ws) (ap (λ (m : ℕ). take m (w .role)) a ∙ first-places (w .role) k (omega arith) ∙ ap (λ (m : ℕ). map (λ x. getD (w .role) x 0) (count-from 0 m)) i)
-        (profile-first j l)
+        ∙ ap (λ (x : ℕ). with-bits o place g x ns ws)
+        (f
+        ∙ ap₂ (caller-bits n g (words-in ws place)) (ap (λ (m : ℕ). take m (w .role)) a ∙ first-places (w .role) k (omega arith) ∙ ap (λ (m : ℕ). map (λ x. getD (w .role) x 0) (count-from 0 m)) i)
+        (profile-first j l))
 
 -- ---- the numbers stand for the caller
 

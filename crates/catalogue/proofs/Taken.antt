@@ -19,7 +19,7 @@ use Rattle.routes.specs.declared.Open.{Open}
 use Rattle.routes.specs.Opening.{belongs-in, opened-bits}
 use Rattle.routes.specs.Listing.{none-open, with-opened, caller-bits, open-from, open-all}
 use Rattle.catalogue.specs.declared.Opened.{Opened}
-use Rattle.catalogue.specs.Opened.{blank, opened-in, none-opened, with-words, opened-with}
+use Rattle.catalogue.specs.Opened.{blank, opened-in, none-opened, with-bits, opened-with}
 
 -- ---- one grant
 
@@ -72,11 +72,14 @@ module _ (ws : List ℕ) (i : ℕ) {a b : ℕ} (e : a ≡ min (i * grant-words) 
       go (yes h) z = let y : b - a ≡ grant-words = omega arith in ap (λ (k : ℕ). take k (drop a ws)) y
       go (no h) z = take-all (b - a) (drop a ws) (omega arith) ∙ sym (take-all grant-words (drop a ws) (omega arith))
 
-pub with-end : (o : Opened) (n : Needs) (place : ℕ) (g : Grant) (ns ws roles profile : List ℕ) {a b k : ℕ} {p : Open} {s : Bool} → a ≡ min (place * 95) (length ws) → b ≡ min (a + 95) (length ws)
-    → k ≡ caller-bits n g (take (b - a) (drop a ws)) roles profile → p ≡ with-opened (o .opens) place k g → s ≡ (o .sound && grant-sound ns g (take (b - a) (drop a ws)))
-    → _≡_ {A = Opened} (record { opens = p; sound = s }) (opened-with o n place g ns ws roles profile)
-unfolding opened-with with-words
-with-end o n place g ns ws roles profile e f h i j = rw (i, j, h, words-cut ws place e f)
+pub place-end : (n : Needs) (place : ℕ) (g : Grant) (ws roles profile : List ℕ) {a b k : ℕ} → a ≡ min (place * 95) (length ws) → b ≡ min (a + 95) (length ws)
+    → k ≡ caller-bits n g (take (b - a) (drop a ws)) roles profile → k ≡ caller-bits n g (words-in ws place) roles profile
+place-end n place g ws roles profile e f h = h ∙ ap (λ xs. caller-bits n g xs roles profile) (words-cut ws place e f)
+
+pub with-end : (o : Opened) (place : ℕ) (g : Grant) (bits : ℕ) (ns ws : List ℕ) {a b : ℕ} {p : Open} {s : Bool} → a ≡ min (place * 95) (length ws) → b ≡ min (a + 95) (length ws)
+    → p ≡ with-opened (o .opens) place bits g → s ≡ (o .sound && grant-sound ns g (take (b - a) (drop a ws))) → _≡_ {A = Opened} (record { opens = p; sound = s }) (with-bits o place g bits ns ws)
+unfolding with-bits
+with-end o place g bits ns ws e f i j = rw (i, j, words-cut ws place e f)
 
 -- ---- one after the other
 
@@ -99,7 +102,7 @@ module _ (n : Needs) (ns : List ℕ) (gs : List Grant) (ws roles profile : List 
   taken-more k = refl
 
   and-next : (o : Opened) (i : ℕ) (g : Grant) (hs : List Grant) → and-then (opened-with o n i g ns ws roles profile) (suc i) hs ≡ and-then o i (g ∷ hs)
-  unfolding opened-with with-words open-from sound-from
+  unfolding opened-with with-bits open-from sound-from
   and-next o i g hs =
       ap (λ (b : Bool). record { opens = open-from n ws roles profile (suc i) hs (with-opened (o .opens) i (caller-bits n g (words-in ws i) roles profile) g); sound = b })
       (and-assoc (o .sound) (grant-sound ns g (words-in ws i)) (sound-from ns ws (suc i) hs))
@@ -118,7 +121,7 @@ module _ (n : Needs) (ns : List ℕ) (gs : List Grant) (ws roles profile : List 
 
   -- too many are not sound, however many of them were taken
   too-many : (k : ℕ) → max-grants < length gs → taken k .sound ≡ false
-  unfolding taken none-opened opened-with with-words
+  unfolding taken none-opened opened-with with-bits
   too-many zero h = rw (lt-leb (length gs) max-grants h)
   too-many (suc k) h = rw (too-many k h)
 

@@ -24,11 +24,10 @@ opened-in n ns gs ws roles profile = record { opens = open-all n ws roles profil
 unfoldable pub none-opened : ℕ → ℕ → Opened
 none-opened count words = record { opens = none-open; sound = leb count max-grants && leb catalogue-words words }
 
--- one more in a place, by its words
-unfoldable pub with-words : Opened → Needs → ℕ → Grant → List ℕ → List ℕ → List ℕ → List ℕ → Opened
-with-words o n place g ns ws roles profile =
-    record { opens = with-opened (o .opens) place (caller-bits n g ws roles profile) g; sound = o .sound && grant-sound ns g ws }
+-- one more in a place, by the ways that it opens and the words of all
+unfoldable pub with-bits : Opened → ℕ → Grant → ℕ → List ℕ → List ℕ → Opened
+with-bits o place g bits ns ws = record { opens = with-opened (o .opens) place bits g; sound = o .sound && grant-sound ns g (words-in ws place) }
 
--- one more in a place, by the words of all
+-- one more in a place, by what it opens for a caller
 unfoldable pub opened-with : Opened → Needs → ℕ → Grant → List ℕ → List ℕ → List ℕ → List ℕ → Opened
-opened-with o n place g ns ws roles profile = with-words o n place g ns (words-in ws place) roles profile
+opened-with o n place g ns ws roles profile = with-bits o place g (caller-bits n g (words-in ws place) roles profile) ns ws

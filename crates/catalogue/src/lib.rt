@@ -8,9 +8,10 @@ ghost use lib.ListN.{getD};
 ghost use Rattle.syntax.specs.Limits.{max-entries, max-grants};
 ghost use Rattle.terms.specs.Terms.{biased};
 ghost use Rattle.grant.specs.Grants.{grant-sound};
+ghost use Rattle.grant.specs.Catalogues.{words-in};
 ghost use Rattle.routes.specs.Listing.{caller-bits};
 ghost use Rattle.catalogue.specs.Callers.{roles-of, numbers-of, profile-of};
-ghost use Rattle.catalogue.specs.Opened.{blank, none-opened, opened-with, opened-in};
+ghost use Rattle.catalogue.specs.Opened.{blank, none-opened, with-bits, opened-with, opened-in};
 use caller::Caller;
 use grant::Grant;
 use needs::Needs;
@@ -78,6 +79,23 @@ fn caller_bits(n: Needs, g: Grant, words: &[u32], roles: &[u64], profile: &[u64]
     routes::opens(n, g, words)
 }
 
+// What the grant in a place opens for a caller, by the words of its place, as far as they are lent.
+fn place_bits(
+    n: Needs,
+    place: u32,
+    g: Grant,
+    granted: &[u32],
+    roles: &[u64],
+    profile: &[u64],
+) -> u32
+    ensures { λ r. ⌜ r ≡ caller-bits n g (words-in (now (granted .entry)) place) (now (roles .entry)) (now (profile .entry)) ⌝ }
+{
+    let k = granted.len();
+    let a = least(place as usize * Grant::PLACE, k);
+    let b = least(a + Grant::PLACE, k);
+    caller_bits(n, g, &granted[a..b], roles, profile)
+}
+
 // Whether a grant may be lent beside those that were taken.
 fn also_sound(sound: bool, g: Grant, names: &[u64], words: &[u32]) -> bool
     ensures { λ r. ⌜ r ≡ (sound && grant-sound (now (names .entry)) g (now (words .entry))) ⌝ }
@@ -106,23 +124,13 @@ impl Opened {
         }
     }
 
-    // Returns it with one grant more in a place: its words are those of its place, as far as they are lent.
-    pub fn with(
-        self,
-        n: Needs,
-        place: u32,
-        g: Grant,
-        names: &[u64],
-        granted: &[u32],
-        roles: &[u64],
-        profile: &[u64],
-    ) -> Self
-        ensures { λ r. ⌜ r ≡ opened-with self n place g (now (names .entry)) (now (granted .entry)) (now (roles .entry)) (now (profile .entry)) ⌝ }
+    // It with one grant more in a place, by the ways that it opens: its words are those of its place, as far as they are lent.
+    fn with(self, place: u32, g: Grant, bits: u32, names: &[u64], granted: &[u32]) -> Self
+        ensures { λ r. ⌜ r ≡ with-bits self place g bits (now (names .entry)) (now (granted .entry)) ⌝ }
     {
         let k = granted.len();
         let a = least(place as usize * Grant::PLACE, k);
         let b = least(a + Grant::PLACE, k);
-        let bits = caller_bits(n, g, &granted[a..b], roles, profile);
         let sound = also_sound(self.sound, g, names, &granted[a..b]);
         let o = self.opens;
         Opened {
@@ -147,7 +155,8 @@ impl Opened {
         let k = least(who.roles as usize, Caller::ROLES);
         let profile = profile_of(who);
         let e = least(who.entries as usize, Caller::ENTRIES) * 2;
-        self.with(n, place, g, names, granted, &role[0..k], &profile[0..e])
+        let bits = place_bits(n, place, g, granted, &role[0..k], &profile[0..e]);
+        self.with(place, g, bits, names, granted)
     }
 }
 

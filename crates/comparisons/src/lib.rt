@@ -4,7 +4,6 @@ ghost use mathlib.Core.Bool.{_&&_};
 ghost use Prim.Native.Nat.{min};
 ghost use lib.Bits.{bitOr};
 ghost use lib.Dec.{eqb};
-ghost use lib.ListN.{getD};
 ghost use Rattle.lists.specs.Lists.{every, some?};
 ghost use Rattle.model.specs.Grants.{has-entry, term-known};
 ghost use Rattle.model.specs.Routes.{is-equality};
@@ -16,16 +15,6 @@ ghost use Rattle.comparisons.specs.Compared.{own-compare, compared, term
 use nodes::Node;
 use terms::Term;
 
-// Returns the number in a place, 0 past the last.
-pub fn number_at(numbers: &[u64], i: usize) -> u64
-    ensures { λ r. ⌜ r ≡ getD (now (numbers .entry)) i 0 ⌝ }
-{
-    if numbers.len() <= i {
-        return 0;
-    }
-    numbers[i]
-}
-
 // ---- profile entries
 
 // Whether a profile has an entry of a name.
@@ -35,7 +24,7 @@ fn has_entry(profile: &[u64], name: u64) -> bool
     let n = profile.len() / 2;
     let mut i: usize = 0;
     while i < n {
-        if number_at(profile, i * 2) == name {
+        if places::number_at(profile, i * 2) == name {
             return true;
         }
         i += 1;

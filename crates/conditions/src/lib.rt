@@ -118,7 +118,7 @@ pub struct Skip {
 
 impl Skip {
     // How many conditions of conditions can be open at once: each takes four bytes of a line or more.
-    pub const MOST: usize = 128;
+    pub const MOST: usize = Line::BYTES / 4;
 }
 
 // No condition goes on.
@@ -205,8 +205,8 @@ fn skip_cond(s: &[u8], at: usize, names: &[u64]) -> usize
 
 // ---- the reader
 
-// Whether one of two terms is not declared.
-fn undeclared(left: u32, right: u32) -> bool
+// Returns whether one of two terms is not declared.
+pub fn undeclared(left: u32, right: u32) -> bool
     ensures { λ r. ⌜ r ≡ (eqb left unknown-code || eqb right unknown-code) ⌝ }
 {
     if left == Term::UNKNOWN {

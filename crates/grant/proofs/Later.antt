@@ -1,23 +1,17 @@
 -- A stream declared later changes nothing of a grant, nor of a catalogue, and both may still be lent.
-use mathlib.Core.Path.{_≡_, refl, sym, ap, ap₂, _∙_}
+use mathlib.Core.Path.{_≡_, refl, ap, ap₂}
 use mathlib.Core.List.{List, [], _∷_, map}
 use mathlib.Core.Bool.{_&&_}
-use Prim.Native.Nat.{ℕ, suc, _*_, _+_, _<_, _≤_}
+use Prim.Native.Nat.{ℕ, suc, _*_, _+_, _<_}
 use native.Mathlib.Omega.{arith}
 use lib.Dec.{T, leb, ltb→lt, lt→ltb}
 use lib.ListN.{length}
 use Rattle.lists.specs.Lists.{every, gather, count-from}
 use Rattle.lists.proofs.Laws.{parts, and-both, T-true, All, all-weaken, every-all, every-weaken, gather-same}
-use Rattle.lists.proofs.Counting.{map-length}
-use Rattle.syntax.specs.Grammar.{Stream}
 use Rattle.model.specs.Queries as M
 use Rattle.model.specs.Queries.{columns-of}
-use Rattle.calls.specs.Validity.{valid-stream}
-use Rattle.text.specs.Words.{code-of}
-use Rattle.items.specs.Items.{first-of}
-use Rattle.schema.specs.Schemas.{streams-in, width-in, column-in, stream-in, schema-of, schema-sound, with-codes}
-use Rattle.schema.proofs.Lookups.{stream-columns}
-use Rattle.schema.proofs.Adding.{older-stream, one-more}
+use Rattle.schema.specs.Schemas.{streams-in, schema-of}
+use Rattle.schema.proofs.Later.{Later, width-later, columns-later}
 use Rattle.masks.specs.Masks.{mask-of}
 use Rattle.grant.specs.declared.Grant.{Grant}
 use Rattle.grant.specs.Grants.{streams-of, grant-of, column-codes, streams-mask, streams-sound, shown-sound, when-sound, grant-sound}
@@ -25,35 +19,17 @@ use Rattle.grant.specs.Catalogues.{words-in, grants-from, catalogue-of, 
 use Rattle.grant.proofs.Masked.{declared-stream}
 use Rattle.grant.proofs.Valid.{streams-below, told-streams}
 
--- names in which every stream of others stands as it stood
-pub record Later (ns ns′ : List ℕ) : Type 0 where
-  pub more : streams-in ns ≤ streams-in ns′
-  pub kept : (s : ℕ) → s < streams-in ns → stream-in ns′ s ≡ stream-in ns s
-
--- the names with those of one stream more are such
-pub stream-later : (ns : List ℕ) (s : Stream) (sound : T (schema-sound ns)) (few : streams-in ns < 4) (valid : T (valid-stream s)) → Later ns (with-codes ns (code-of (s .name)) (first-of 6 0 (map code-of (s .columns))))
-stream-later ns s sound few valid = record { more = let e = one-more ns s sound few valid in omega arith; kept = older-stream ns s sound few valid }
-
 module _ {ns ns′ : List ℕ} (later : Later ns ns′) where
-  width-later : (s : ℕ) → s < streams-in ns → width-in ns′ s ≡ width-in ns s
-  unfolding stream-in
-  width-later s h = sym (map-length (column-in ns′ s) 0 (width-in ns′ s)) ∙ ap (λ t. length (t .columns)) (later .kept s h) ∙ map-length (column-in ns s) 0 (width-in ns s)
-
-  columns-later : (s : ℕ) → s < streams-in ns → columns-of (schema-of ns′) s ≡ columns-of (schema-of ns) s
-  columns-later s h =
-      let m = later .more in
-      stream-columns ns′ s (omega arith) ∙ ap (λ w. map (M.col s) (count-from 0 w)) (width-later s h) ∙ sym (stream-columns ns s h)
-
   module _ (ss : List ℕ) (b : T (every (declared-stream ns) ss)) where
     all-later : {P : ℕ → Type 0} → ((s : ℕ) → s < streams-in ns → P s) → All P ss
     all-later f = all-weaken (λ s t. f s (ltb→lt s (streams-in ns) t)) (every-all (declared-stream ns) ss b)
 
     theirs-later : gather (columns-of (schema-of ns′)) ss ≡ gather (columns-of (schema-of ns)) ss
-    theirs-later = gather-same (all-later columns-later)
+    theirs-later = gather-same (all-later (columns-later later))
 
     mask-later : streams-mask ns′ ss ≡ streams-mask ns ss
     unfolding streams-mask column-codes
-    mask-later = ap mask-of (gather-same (all-later (λ s h. ap (λ w. map (λ c. s * 6 + c) (count-from 0 w)) (width-later s h))))
+    mask-later = ap mask-of (gather-same (all-later (λ s h. ap (λ w. map (λ c. s * 6 + c) (count-from 0 w)) (width-later later s h))))
 
     declared-later : T (every (declared-stream ns′) ss)
     declared-later = every-weaken (declared-stream ns) (declared-stream ns′) (λ s t. let l = ltb→lt s (streams-in ns) t in let m = later .more in lt→ltb s (streams-in ns′) (omega arith)) ss b

@@ -7,6 +7,7 @@ pub mod Copies
 pub mod Folds
 pub mod Bounds
 pub mod Known
+pub mod Placed
 pub mod Placing
 pub mod Flags
 pub mod Calls

@@ -178,7 +178,10 @@ module _ (ns : List ℕ) (s : Bytes) (at : ℕ) {p : ℕ} (e : p ≡ part-at s a
 
     module _ (ok : not (o .ok) ≡ false) where
       -- the names, and where they end
-      named : {X : Type 0} → ((xs : List Bytes) → any-items closes read-name (drop p s) ≡ some (record { what = xs; left = drop (o .next) s }) → o ≡ streams-read ns s (some (record { what = xs; left = drop (o .next) s })) → X) → X
+      abbrev By : Type 0 → Type 0
+      By X = (xs : List Bytes) → any-items closes read-name (drop p s) ≡ some (record { what = xs; left = drop (o .next) s }) → o ≡ streams-read ns s (some (record { what = xs; left = drop (o .next) s })) → X
+
+      named : {X : Type 0} → By X → X
       unfolding streams-at streams-view
       named k = view-here (streams-view ns s) p q ok k
 
@@ -186,7 +189,7 @@ module _ (ns : List ℕ) (s : Bytes) (at : ℕ) {p : ℕ} (e : p ≡ part-at s a
       unfolding streams-read
       of-empty {r} z d = named go
         where
-          go : (xs : List Bytes) → any-items closes read-name (drop p s) ≡ some (record { what = xs; left = drop (o .next) s }) → o ≡ streams-read ns s (some (record { what = xs; left = drop (o .next) s })) → r ≡ of-at ns s at
+          go : By (r ≡ of-at ns s at)
           go [] f g = d ∙ sym (of-none (some-not read-name (drop p s) _ f))
           go (x ∷ xs) f g = let c = ap (λ y. y .count) g in absurd (omega arith)
 
@@ -194,7 +197,7 @@ module _ (ns : List ℕ) (s : Bytes) (at : ℕ) {p : ℕ} (e : p ≡ part-at s a
       unfolding streams-read bind
       of-done {r} n d = named go
         where
-          go : (xs : List Bytes) → any-items closes read-name (drop p s) ≡ some (record { what = xs; left = drop (o .next) s }) → o ≡ streams-read ns s (some (record { what = xs; left = drop (o .next) s })) → r ≡ of-at ns s at
+          go : By (r ≡ of-at ns s at)
           go [] f g = absurd (n (ap (λ y. y .count) g))
           go (x ∷ xs) f g =
               let b = list-closed read-name name-leaves s p (o .next) (x ∷ xs) f in

@@ -1,5 +1,5 @@
 -- Check 4 of a grant line by what is read of it, where nothing is above its bound or undeclared.
-use mathlib.Core.Path.{_≡_, refl, sym, ap, ap₂, _∙_}
+use mathlib.Core.Path.{_≡_, refl, sym, ap, _∙_}
 use mathlib.Core.List.{List, [], _∷_, _++_, map}
 use mathlib.Core.Bool.{Bool, true, false, _&&_, _||_, not}
 use mathlib.Core.Option.{Option, none, some}
@@ -11,8 +11,8 @@ use lib.Dec.{T, eqb, leb, ltb, leb→le, lt→ltb}
 use lib.ListN.{length, length-map}
 use borrow.Author.Tests.{ne-eqb, lt-ltb, le-ltb, leb-true, leb-false}
 use Rattle.lists.specs.Lists.{every, empty?, gather, count-from}
-use Rattle.lists.proofs.Laws.{parts, T-true, every-map, empty-map, and-four}
-use Rattle.lists.proofs.Gathers.{every-append-same, every-of-map, every-good}
+use Rattle.lists.proofs.Laws.{parts, T-true, every-map, empty-map}
+use Rattle.lists.proofs.Gathers.{every-of-map}
 use Rattle.syntax.specs.Grammar as G
 use Rattle.syntax.specs.Grammar.{Bytes, Test, Cond, Show, Span, Right, GrantLine, some-all, grant?, fn-number, right-number}
 use Rattle.syntax.specs.Limits.{is-time, natural}
@@ -20,16 +20,14 @@ use Rattle.syntax.proofs.Aggregates.{fn-range}
 use Rattle.model.specs.Conditions.{tests, map-cond}
 use Rattle.model.specs.Queries as M
 use Rattle.model.specs.Queries.{Col, columns-of}
-use Rattle.model.specs.Checks.{has, within, term-cols, cond-cols, when-left, when-right, grantable, in-order, grant-placed}
+use Rattle.model.specs.Checks.{has, within, cond-cols, when-left, when-right, grantable, in-order, grant-placed}
 use Rattle.model.proofs.Columns.{within-select, within-by}
-use Rattle.model.proofs.Conditions.{tests-map}
 use Rattle.calls.specs.Bounds.{is-limit, grant-bounded}
-use Rattle.calls.specs.Names.{stream-number, term-of, column-of, operand-of, compare-of, shown-columns, map-option, cond-refs, show-refs, resolve-grant}
+use Rattle.calls.specs.Names.{stream-number, column-of, compare-of, shown-columns, map-option, cond-refs, show-refs, resolve-grant}
 use Rattle.calls.specs.Tables.{declared, ref-declared, window-allowed, show-placed}
 use Rattle.text.specs.Words.{time-kept}
 use Rattle.schema.specs.Schemas.{streams-in, schema-of, schema-sound}
-use Rattle.masks.specs.Masks.{bit?, mask-of, inside}
-use Rattle.masks.proofs.Lists.{inside-map}
+use Rattle.masks.specs.Masks.{mask-of, inside}
 use Rattle.terms.specs.Terms.{left-code, right-code}
 use Rattle.terms.proofs.Resolving.{fine, stream-below}
 use Rattle.items.specs.Items.{first-of}
@@ -41,9 +39,10 @@ use Rattle.conditions.specs.Seeing.{seen-of}
 use Rattle.grant.specs.Grants.{no-time, places-of, column-codes, streams-mask}
 use Rattle.grant_line.specs.Parts.{holder-read, shown-all, shown-listed, show-of, limit-kept, limit-of, window-of}
 use Rattle.grant_line.specs.Lines.{misplaced-read}
-use Rattle.grant_line.proofs.Folds.{every-pair, every-gathered}
+use Rattle.grant_line.proofs.Folds.{every-gathered}
 use Rattle.grant_line.proofs.Bounds.{holder, streams, shows, first-time, last-time, span, grant-tests}
-use Rattle.grant_line.proofs.Known.{good-test, test-declared, test-fine, of-declared, shown-fine, tests-fine}
+use Rattle.grant_line.proofs.Placed.{Places, placed-test, cond-placed, tests-placed}
+use Rattle.grant_line.proofs.Known.{good-test, test-declared, of-declared, shown-fine, tests-fine}
 
 -- ---- comparisons whose terms stand where they may
 
@@ -60,39 +59,17 @@ module _ (ns : List ℕ) (sound : T (schema-sound ns)) (ss : List ℕ) (b : T (e
   abbrev wider : ℕ
   wider = bitOr mask 201326592
 
-  unfoldable placed-test : Test → Bool
-  placed-test t = (when-left (term-of d (t .left)) && when-right (operand-of d (t .right))) && within (term-cols (term-of d (t .left)) ++ term-cols (operand-of d (t .right))) theirs
-
-  abbrev bits-in : Test → Bool
-  bits-in t = bit? mask (left-code ns t) && bit? wider (right-code ns t)
-
-  test-placed : (t : Test) → T (good-test t && test-declared ns t) → placed-test t ≡ bits-in t
-  unfolding placed-test within left-code right-code streams-mask column-codes
-  test-placed t h =
-      let x = test-fine ns sound t h in
-      let l = term-of d (t .left) in
-      let r = operand-of d (t .right) in
-      ap (λ b. (when-left l && when-right r) && b) (every-append-same (has theirs) (term-cols l) (term-cols r))
-      ∙ and-four (when-left l) (when-right r) (every (has theirs) (term-cols l)) (every (has theirs) (term-cols r))
-      ∙ ap₂ _&&_ (left-bit ns ss b sound (t .left) (x .0)) (right-bit ns ss b sound (t .right) (x .1))
-
-  cond-placed : (c : Cond Test) → (grantable (map-cond (compare-of d) c) && within (cond-cols (map-cond (compare-of d) c)) theirs) ≡ every placed-test (tests c)
-  unfolding grantable cond-cols within placed-test compare-of
-  cond-placed c =
-      rw (tests-map (compare-of d) c)
-      (ap₂ _&&_ (every-of-map (λ t. when-left (t .left) && when-right (t .right)) (compare-of d) (tests c))
-      (sym (every-gathered (has theirs) (λ t. every (has theirs) (term-cols (t .left) ++ term-cols (t .right))) (λ t. term-cols (t .left) ++ term-cols (t .right)) (λ t. refl) (map (compare-of d) (tests c)))
-      ∙ every-of-map (λ t. every (has theirs) (term-cols (t .left) ++ term-cols (t .right))) (compare-of d) (tests c))
-      ∙ every-pair (λ t. when-left (term-of d (t .left)) && when-right (operand-of d (t .right))) (λ t. every (has theirs) (term-cols (term-of d (t .left)) ++ term-cols (operand-of d (t .right)))) (tests c))
+  at : Places ns theirs when-left when-right mask wider
+  unfolding streams-mask column-codes
+  at = record { left = left-bit ns ss b sound; right = right-bit ns ss b sound }
 
   pub when-placed : (cs : List (Cond Test)) → T (every (λ t. good-test t && test-declared ns t) (gather tests cs))
       → every (λ c. grantable c && within (cond-cols c) theirs) (map (map-cond (compare-of d)) cs) ≡ (inside (mask-of (map (left-code ns) (gather tests cs))) mask && inside (mask-of (map (right-code ns) (gather tests cs))) wider)
+  unfolding grantable
   when-placed cs h =
       every-of-map (λ c. grantable c && within (cond-cols c) theirs) (map-cond (compare-of d)) cs
-      ∙ every-gathered placed-test (λ c. grantable (map-cond (compare-of d) c) && within (cond-cols (map-cond (compare-of d) c)) theirs) tests cond-placed cs
-      ∙ every-good placed-test bits-in (λ t. good-test t && test-declared ns t) test-placed (gather tests cs) h
-      ∙ sym (ap₂ _&&_ (inside-map (left-code ns) mask (gather tests cs)) (inside-map (right-code ns) wider (gather tests cs))
-      ∙ every-pair (λ t. bit? mask (left-code ns t)) (λ t. bit? wider (right-code ns t)) (gather tests cs))
+      ∙ every-gathered (placed-test at sound) (λ c. grantable (map-cond (compare-of d) c) && within (cond-cols (map-cond (compare-of d) c)) theirs) tests (cond-placed at sound) cs
+      ∙ tests-placed at sound (gather tests cs) h
 
   -- ---- what is shown
 

@@ -62,6 +62,13 @@ pub struct Window {
     pub next: usize,
 }
 
+// The parts after the conditions, which go together.
+pub struct Rest {
+    pub from: Limit,
+    pub to: Limit,
+    pub window: Window,
+}
+
 // What is read of a grant line: what is wrong with it by itself, and its grant.
 pub struct GrantLine {
     pub checks: Checks,
@@ -403,8 +410,8 @@ fn no_grant() -> Grant
 }
 
 // Whether one of the parts is out of bounds.
-fn over_of(h: Holder, o: Streams, w: Shown, c: Seen, f: Limit, t: Limit, x: Window) -> bool
-    ensures { λ r. ⌜ r ≡ over-read h o w c f t x ⌝ }
+fn over_of(h: Holder, o: Streams, w: Shown, c: Seen, e: Rest) -> bool
+    ensures { λ r. ⌜ r ≡ over-read h o w c (e .from) (e .to) (e .window) ⌝ }
 {
     if h.long {
         return true;
@@ -421,13 +428,13 @@ fn over_of(h: Holder, o: Streams, w: Shown, c: Seen, f: Limit, t: Limit, x: Wind
     if c.deep {
         return true;
     }
-    if f.over {
+    if e.from.over {
         return true;
     }
-    if t.over {
+    if e.to.over {
         return true;
     }
-    x.over
+    e.window.over
 }
 
 // Whether a column is shown that is none of the grant's streams.
@@ -451,17 +458,8 @@ fn unordered(f: Limit, t: Limit) -> bool
 }
 
 // Check 4: more streams than a grant may name; a column that is not theirs; a term that may not stand there; `from` above `to`; a window with `read`.
-fn misplaced(
-    columns: u32,
-    h: Holder,
-    o: Streams,
-    w: Shown,
-    c: Seen,
-    f: Limit,
-    t: Limit,
-    x: Window,
-) -> bool
-    ensures { λ r. ⌜ r ≡ misplaced-read columns h o w c f t x ⌝ }
+fn misplaced(columns: u32, h: Holder, o: Streams, w: Shown, c: Seen, e: Rest) -> bool
+    ensures { λ r. ⌜ r ≡ misplaced-read columns h o w c (e .from) (e .to) (e .window) ⌝ }
 {
     if Grant::STREAMS < o.count {
         return true;
@@ -475,27 +473,18 @@ fn misplaced(
     if !masks::within(c.rights, columns | Grant::OTHERS) {
         return true;
     }
-    if unordered(f, t) {
+    if unordered(e.from, e.to) {
         return true;
     }
     if h.right != Grant::READ {
         return false;
     }
-    x.given
+    e.window.given
 }
 
 // The grant of the parts.
-fn grant_of(
-    columns: u32,
-    h: Holder,
-    o: Streams,
-    w: Shown,
-    c: Seen,
-    f: Limit,
-    t: Limit,
-    x: Window,
-) -> Grant
-    ensures { λ r. ⌜ r ≡ grant-read columns h o w c f t x ⌝ }
+fn grant_of(columns: u32, h: Holder, o: Streams, w: Shown, c: Seen, e: Rest) -> Grant
+    ensures { λ r. ⌜ r ≡ grant-read columns h o w c (e .from) (e .to) (e .window) ⌝ }
 {
     let streams = o.places;
     let shown = if w.all { columns } else { w.mask };
@@ -506,29 +495,20 @@ fn grant_of(
         streams: streams,
         shown: shown,
         words: c.count,
-        from: f.value,
-        to: t.value,
-        size: x.size,
-        offset: x.offset,
+        from: e.from.value,
+        to: e.to.value,
+        size: e.window.size,
+        offset: e.window.offset,
     }
 }
 
 // The line of the parts.
-fn line_of(
-    names: &[u64],
-    h: Holder,
-    o: Streams,
-    w: Shown,
-    c: Seen,
-    f: Limit,
-    t: Limit,
-    x: Window,
-) -> GrantLine
-    ensures { λ r. ⌜ r ≡ line-read (now (names .entry)) h o w c f t x ⌝ }
+fn line_of(names: &[u64], h: Holder, o: Streams, w: Shown, c: Seen, e: Rest) -> GrantLine
+    ensures { λ r. ⌜ r ≡ line-read (now (names .entry)) h o w c (e .from) (e .to) (e .window) ⌝ }
 {
     let streams = o.places;
     let columns = grant::columns_mask(names, o.count, streams);
-    let over = over_of(h, o, w, c, f, t, x);
+    let over = over_of(h, o, w, c, e);
     let some = text::either(o.unknown, w.unknown);
     let unknown = text::either(some, c.unknown);
     let repeated = text::either(o.repeated, w.repeated);
@@ -536,10 +516,10 @@ fn line_of(
         over,
         unknown,
         repeated,
-        misplaced(columns, h, o, w, c, f, t, x),
+        misplaced(columns, h, o, w, c, e),
         false,
     );
-    let grant = grant_of(columns, h, o, w, c, f, t, x);
+    let grant = grant_of(columns, h, o, w, c, e);
     GrantLine {
         checks: checks,
         grant: grant,
@@ -566,7 +546,12 @@ fn read_rest(s: &[u8], names: &[u64], h: Holder, o: Streams, w: Shown, c: Seen) 
     if !text::closes_at(s, x.next) {
         return unread(false);
     }
-    line_of(names, h, o, w, c, f, t, x)
+    let e = Rest {
+        from: f,
+        to: t,
+        window: x,
+    };
+    line_of(names, h, o, w, c, e)
 }
 
 // The grant line that a text is, its conditions in the words. This decides refusal 1 of the grant call.

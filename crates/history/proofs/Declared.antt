@@ -1,31 +1,31 @@
 -- A stream more: the record has its stream, with no rows.
-use mathlib.Core.Path.{_≡_, sym, ap, ap₂, _∙_}
+use mathlib.Core.Path.{_≡_, ap, ap₂, _∙_}
 use mathlib.Core.List.{List, [], _∷_, _++_, map, map-append}
 use mathlib.Core.Bool.{_&&_, _||_, not}
 use mathlib.Core.Option.{some}
-use Prim.Native.Nat.{ℕ, suc, _+_, _*_, _<_}
+use Prim.Native.Nat.{ℕ, _+_, _*_, _<_}
 use native.Mathlib.Nat.{zero-add}
 use native.Mathlib.Omega.{arith}
 use lib.Dec.{T, ltb, ltb→lt}
-use lib.ListN.{length, length-append}
+use lib.ListN.{length}
 use Rattle.refusal.specs.Checks.{passes}
 use Rattle.refusal.proofs.Passing.{pass-first, pass-rest, pass-test}
-use Rattle.lists.specs.Lists.{every, nth, count-from, distinct, same-list}
-use Rattle.lists.proofs.Laws.{parts, and-l, nth-before, not-or-l, every-append-r}
+use Rattle.lists.specs.Lists.{every, count-from, distinct, same-list}
+use Rattle.lists.proofs.Laws.{parts, and-l, not-or-l, every-append-r}
 use Rattle.lists.proofs.Counting.{count-more, map-alike}
 use Rattle.syntax.specs.Grammar as G
 use Rattle.syntax.specs.Grammar.{body?}
 use Rattle.syntax.specs.Limits.{max-streams, max-rows}
-use Rattle.model.specs.Queries.{Stream, Schema, Row, no-stream}
-use Rattle.calls.specs.Names.{columns-named}
+use Rattle.model.specs.Queries.{Stream, Schema, Row}
 use Rattle.calls.specs.Bounds.{stream-bounded}
 use Rattle.calls.specs.Validity.{valid-stream, valid-schema, valid-record}
 use Rattle.calls.specs.Tables.{declared, stream-checks}
 use Rattle.calls.specs.Calls as C
 use Rattle.calls.proofs.Valid.{stream-valid}
-use Rattle.schema.specs.Schemas.{streams-in, width-in, schema-of}
+use Rattle.schema.specs.Schemas.{streams-in, schema-of}
 use Rattle.schema.proofs.Tests.{streams-most}
-use Rattle.schema.proofs.Lookups.{length-schema, length-columns}
+use Rattle.schema.proofs.Lookups.{length-schema}
+use Rattle.schema.proofs.Later.{one-later, schema-later, width-later}
 use Rattle.schema.proofs.Adding.{schema-more, sound-more}
 use Rattle.stream_line.specs.Declaring as D
 use Rattle.ledger.specs.Records.{Memory, with-names, row-in, count-in, rows-in, record-of, memory-sound}
@@ -38,28 +38,15 @@ pub record Held (s : State) : Type 0 where
   pub counts : length (s .ledger .rows) ≡ max-streams
   pub lent : T (memory-sound s)
 
--- ---- names of a schema with one stream more
-
-module _ (ns ns′ : List ℕ) (s : Stream) (e : schema-of ns′ ≡ schema-of ns ++ (s ∷ [])) where
-  one-more : streams-in ns′ ≡ suc (streams-in ns)
-  one-more = let a = length-schema ns in let b = length-schema ns′ in let c = ap length e in let d = length-append (schema-of ns) (s ∷ []) in omega arith
-
-  width-before : (i : ℕ) → i < streams-in ns → width-in ns′ i ≡ width-in ns i
-  unfolding columns-named
-  width-before i h =
-      let l : i < streams-in ns′ = (let m = one-more in omega arith) in
-      let k : i < length (schema-of ns) = (let a = length-schema ns in omega arith) in
-      sym (length-columns ns′ i l) ∙ ap (λ (d : Schema). length (nth no-stream d i .columns)) e ∙ ap (λ (t : Stream). length (t .columns)) (nth-before no-stream (schema-of ns) (s ∷ []) i k) ∙ length-columns ns i h
-
 module _ (m : Memory) (ns : List ℕ) (s : Stream) (e : schema-of ns ≡ schema-of (m .names) ++ (s ∷ [])) (ok : T (memory-sound m)) where
   rows-before : (i : ℕ) → i < streams-in (m .names) → rows-in (with-names m ns) i ≡ rows-in m i
   unfolding rows-in
-  rows-before i h = ap (λ w. map (λ r. row-in (m .times) (m .values) w (i * max-rows + r)) (count-from 0 (count-in (m .ledger) i))) (width-before (m .names) ns s e i h)
+  rows-before i h = ap (λ w. map (λ r. row-in (m .times) (m .values) w (i * max-rows + r)) (count-from 0 (count-in (m .ledger) i))) (width-later (schema-later (m .names) ns s e) i h)
 
   rows-new : rows-in (with-names m ns) (streams-in (m .names)) ≡ []
   unfolding rows-in count-from
   rows-new =
-      let k = one-more (m .names) ns s e in
+      let k = one-later (m .names) ns s e in
       let l = streams-most ns in
       rw (undeclared-none m ok (streams-in (m .names)) (omega arith) (omega arith))
 
@@ -67,7 +54,7 @@ module _ (m : Memory) (ns : List ℕ) (s : Stream) (e : schema-of ns ≡ schema-
   unfolding record-of C.with-stream
   record-more =
       ap₂ (λ (d : Schema) (rs : List (List Row)). record { clock = m .ledger .clock; schema = d; rows = rs }) e
-      (ap (λ n. map (rows-in (with-names m ns)) (count-from 0 n)) (one-more (m .names) ns s e)
+      (ap (λ n. map (rows-in (with-names m ns)) (count-from 0 n)) (one-later (m .names) ns s e)
       ∙ ap (map (rows-in (with-names m ns))) (count-more 0 (streams-in (m .names)))
       ∙ map-append (rows-in (with-names m ns)) (count-from 0 (streams-in (m .names))) ((0 + streams-in (m .names)) ∷ [])
       ∙ ap₂ (λ xs x. xs ++ (x ∷ [])) (map-alike (rows-in (with-names m ns)) (rows-in m) 0 (streams-in (m .names)) (λ i a b. rows-before i (omega arith))) (ap (rows-in (with-names m ns)) (zero-add (streams-in (m .names))) ∙ rows-new))
@@ -102,7 +89,7 @@ module _ (m : State) (ok : Sound m) (s : Stream) (b : T (body? G.stream s)) (p :
 
   pub stream-held : Held (with-names m (D.with-stream (m .names) (some s)))
   stream-held =
-      let k = one-more (m .names) (D.with-stream (m .names) (some s)) s more in
+      let k = one-later (m .names) (D.with-stream (m .names) (some s)) s more in
       record {
         counts = ok .counts;
         lent = names-sound m (D.with-stream (m .names) (some s)) (unfold D.with-stream in sound-more (m .names) s (sound-parts m (ok .lent) .names) few valid apart) (omega arith) (ok .lent);

@@ -3,7 +3,6 @@ use mathlib.Core.Path.{_≡_, refl, sym, ap, _∙_, subst}
 use mathlib.Core.List.{List}
 use mathlib.Core.Option.{Option, none, some}
 use Prim.Native.Nat.{ℕ}
-use native.Mathlib.Omega.{arith}
 use Rattle.refusal.specs.declared.Verdict.{Verdict}
 use Rattle.refusal.specs.declared.Verdict.the-variants.{Accepted, Refused}
 use Rattle.refusal.proofs.Verdicts.{not-accepted}
@@ -11,22 +10,19 @@ use Rattle.syntax.specs.Grammar as G
 use Rattle.syntax.specs.Grammar.{Bytes, RowLine}
 use Rattle.syntax.specs.Readers.{parse-as}
 use Rattle.calls.specs.Calls.{Call}
+use Rattle.schema.proofs.Later.{Later, same-later}
 use Rattle.stream_line.specs.Declaring.{Declares}
-use Rattle.stream_line.proofs.Declared.{refused-kept, accepted-read, accepted-count, accepted-older}
+use Rattle.stream_line.proofs.Declared.{refused-kept, accepted-read, accepted-later}
 use Rattle.ledger.specs.Records.{Memory}
 use Rattle.ledger.specs.Calls.{with-row, memory-after}
 use Rattle.record_lines.specs.Calls.{with-row-line}
-use Rattle.grant.proofs.Later.{Later}
 use Rattle.history.specs.States.{State, Promise, declared, clocked, rowed, cleared, clock-lined, row-lined, clear-lined}
-
-same-later : (ns : List ℕ) → Later ns ns
-same-later ns = record { more = omega arith; kept = λ i h. refl }
 
 declared-later : (ns : List ℕ) (bs : Bytes) (ns′ : List ℕ) (v : Verdict) → Declares ns bs ns′ v → Later ns ns′
 declared-later ns bs ns′ v d = go v refl
   where
     go : (u : Verdict) → v ≡ u → Later ns ns′
-    go Accepted e = accepted-read ns bs ns′ v d e (λ s p. record { more = let k = accepted-count ns bs ns′ v d e s p in omega arith; kept = accepted-older ns bs ns′ v d e s p })
+    go Accepted e = accepted-read ns bs ns′ v d e (λ s p. accepted-later ns bs ns′ v d e s p)
     go (Refused f) e = subst (Later ns) (sym (refused-kept ns bs ns′ v d (λ a. not-accepted f (sym e ∙ a)))) (same-later ns)
 
 after-names : (v : Verdict) (s t : Memory) → t .names ≡ s .names → memory-after v s t .names ≡ s .names

@@ -7,12 +7,13 @@ use native.Mathlib.Decide.{decLt}
 use native.Mathlib.Omega.{arith}
 use lib.Dec.{eqb, ltb}
 use lib.ListN.{getD}
-use borrow.Author.Tests.{eq-eqb, lt-ltb, le-ltb}
+use borrow.Author.Tests.{eq-eqb, ne-eqb, lt-ltb, le-ltb}
+use Rattle.lists.specs.Lists.{empty?}
 use Rattle.lists.proofs.Laws.{append-nil}
-use Rattle.syntax.specs.Grammar.{Cond}
+use Rattle.syntax.specs.Grammar.{Cond, test}
 use Rattle.model.specs.Queries.{Compare}
 use Rattle.nodes.specs.declared.Node.{Node}
-use Rattle.nodes.specs.Nodes.{value-at, node-at, node-words, link, headed, cond-in, list-in, conditions-of, reaches, linked, terms-sound, node-sound, all-sound, nodes-sound}
+use Rattle.nodes.specs.Nodes.{value-at, node-at, node-words, node-compare, link, headed, cond-in, list-in, conditions-of, reaches, linked, terms-sound, node-sound, all-sound, nodes-sound}
 
 pub link-falls : (ws : List ℕ) (k : ℕ) → link ws k ≤ k - 1
 unfolding link
@@ -104,6 +105,24 @@ module _ (ws : List ℕ) where
   cond-on k h =
       let e : 2 * k ≡ suc (2 * (k - 1) + 1) = omega arith in
       ap (λ (f : ℕ). cond-in f ws k) e
+
+-- ---- a list that is not empty, and a node that heads none
+
+some-kept : (f : ℕ) (ws : List ℕ) (stop j : ℕ) (c : Cond Compare) (cs : List (Cond Compare)) → empty? (list-in f ws stop j (c ∷ cs)) ≡ false
+unfolding cond-in empty?
+some-kept zero ws stop j c cs = refl
+some-kept (suc f) ws stop j c cs = go (decLt stop j) (some-kept f ws stop (link ws j) (cond-in f ws j) (c ∷ cs))
+  where
+    go : Dec (stop < j) → empty? (list-in f ws stop (link ws j) (cond-in f ws j ∷ (c ∷ cs))) ≡ false → empty? (list-in (suc f) ws stop j (c ∷ cs)) ≡ false
+    go (yes h) e = ap empty? (list-step ws f stop j (c ∷ cs) h) ∙ e
+    go (no h) e = ap empty? (list-stop ws f stop j (c ∷ cs) (omega arith))
+
+pub some-listed : (ws : List ℕ) (stop j : ℕ) → stop < j → empty? (list-before ws stop j []) ≡ false
+some-listed ws stop j h = ap empty? (list-on ws stop j [] h) ∙ some-kept (2 * link ws j + 1) ws stop (link ws j) (cond-of ws j) []
+
+pub test-headed : (m : Node) (cs : List (Cond Compare)) → (m .head ≡ 7 → ⊥) → (m .head ≡ 8 → ⊥) → (m .head ≡ 9 → ⊥) → headed m cs ≡ test (node-compare m)
+unfolding headed
+test-headed m cs a b c = rw (ne-eqb (m .head) 7 a, ne-eqb (m .head) 8 b, ne-eqb (m .head) 9 c)
 
 -- ---- the first k words are the same
 

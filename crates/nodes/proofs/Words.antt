@@ -4,7 +4,7 @@ use mathlib.Core.List.{List}
 use mathlib.Core.Bool.{Bool, true, false, cond}
 use Prim.Native.Nat.{ℕ, _+_, _*_, _-_, _/_, _%_, _≤_, _<_}
 use native.Mathlib.Omega.{arith}
-use lib.ListN.{length, getD, set, List·getD-eq-default}
+use lib.ListN.{length, getD, set}
 use lib.Dec.{eqb}
 use borrow.Author.Tests.{eq-eqb, ne-eqb, le-leb, lt-leb}
 use Rattle.nodes.specs.declared.Node.{Node}
@@ -31,14 +31,8 @@ unfolding node-of
 node-parts w v = refl
 
 module _ (ws : List ℕ) where
-  pub word-none : length ws ≡ 0 → 0 ≡ getD ws 0 0
-  word-none e = sym (List·getD-eq-default ws 0 {n = 0} (omega arith))
-
   pub word-front : (k d : ℕ) {r : ℕ} → k < d → r ≡ getD ws 0 0 → r ≡ getD ws (k - d) 0
   word-front k d h e = let z : k - d ≡ 0 = omega arith in rw z e
-
-  pub word-past : (k d : ℕ) → length ws ≤ k - d → 0 ≡ getD ws (k - d) 0
-  word-past k d h = sym (List·getD-eq-default ws 0 {n = k - d} h)
 
   pub node-none : (k : ℕ) {r : Node} → k ≡ 0 → r ≡ node-of 0 0 → r ≡ node-at ws k
   unfolding node-at no-node node-of
@@ -57,8 +51,6 @@ module _ (ws : List ℕ) where
     pub node-plain : (w / 65536 % 256 ≡ 26 → ⊥) → (w / 65536 % 256 ≡ 27 → ⊥) → r ≡ node-of w 0 → r ≡ node-at ws k
     unfolding node-at value-at
     node-plain n m h = h ∙ sym (rw (ne-eqb k 0 ne, ← e, ne-eqb (w / 65536 % 256) 26 n, ne-eqb (w / 65536 % 256) 27 m))
-
-pub ruleset word-ends = (word-none, word-front, word-past)
 
 pub ruleset node-ends = (node-parts, node-none, node-number, node-entry, node-plain)
 

@@ -42,33 +42,20 @@ fn word(words: &[u32], k: usize, d: usize) -> u32
     ensures { λ r. ⌜ r ≡ getD (now (words .entry)) (k - d) 0 ⌝ }
 {
     if k < d {
-        return first(words);
+        return places::word_in(words, 0);
     }
-    if words.len() <= k - d {
-        return 0;
-    }
-    words[k - d]
+    places::word_in(words, k - d)
 }
 
-// The first word, or 0 where there is none.
-fn first(words: &[u32]) -> u32
-    ensures { λ r. ⌜ r ≡ getD (now (words .entry)) 0 0 ⌝ }
-{
-    if words.len() == 0 {
-        return 0;
-    }
-    words[0]
-}
-
-// A value of its two halves.
-fn joined(low: u32, high: u32) -> u64
+// Returns the value of two halves.
+pub fn joined(low: u32, high: u32) -> u64
     ensures { λ r. ⌜ r ≡ low + high * 4294967296 ⌝ }
 {
     low as u64 + high as u64 * 4294967296
 }
 
-// A node of its head's word and its value.
-fn unpacked(w: u32, value: u64) -> Node
+// Returns the node of a head's word and a value.
+pub fn unpacked(w: u32, value: u64) -> Node
     ensures { λ r. ⌜ r ≡ node-of w value ⌝ }
 {
     Node {

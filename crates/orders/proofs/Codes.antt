@@ -8,10 +8,10 @@ use native.Mathlib.Omega.{arith}
 use lib.Dec.{T, ltb, eqb, ltb→lt}
 use lib.ListN.{length, length-append}
 use borrow.Author.Tests.{lt-ltb, eq-eqb, ne-eqb, eqb-true, eqb-false}
-use Rattle.lists.specs.Lists.{select, every, count-from}
+use Rattle.lists.specs.Lists.{select, every}
 use Rattle.lists.proofs.Laws.{and-l, and-r, and-both, true-T, append-nil, every-append}
 use Rattle.masks.specs.Masks.{bit?}
-use Rattle.orders.specs.Orders.{max-order, max-codes, order-end, codes-before, codes-in, with-code, order-from, order-of, order-within, order-by}
+use Rattle.orders.specs.Orders.{max-order, order-end, codes-before, codes-in, with-code, order-from, order-of, order-within}
 
 -- ---- the last column
 
@@ -142,10 +142,6 @@ pub within-below : (mask m : ℕ) → order-within mask m < order-end
 unfolding order-within
 within-below mask m = of-below (select (bit? mask) (codes-in m))
 
-pub by-below : (mask : ℕ) → order-by mask < order-end
-unfolding order-by
-by-below mask = of-below (select (bit? mask) (count-from 0 max-codes))
-
 pub codes-from : (m : ℕ) (cs : List ℕ) → m < order-end → length (codes-in m) + length cs ≤ max-order → T (codes-fit cs) → codes-in (order-from m cs) ≡ codes-in m ++ cs
 unfolding order-from every
 codes-from m [] h k t = sym (append-nil (codes-in m))
@@ -194,12 +190,3 @@ codes-within mask m =
 pub within-of : (mask : ℕ) (cs : List ℕ) → length cs ≤ max-order → T (codes-fit cs) → order-within mask (order-of cs) ≡ order-of (select (bit? mask) cs)
 unfolding order-within
 within-of mask cs h t = ap (λ l. order-of (select (bit? mask) l)) (codes-of cs h t)
-
-fit-counted : T (codes-fit (count-from 0 max-codes))
-unfolding every count-from
-fit-counted = tt
-
--- of a mask of at most twelve columns
-pub codes-by-mask : (mask : ℕ) → length (select (bit? mask) (count-from 0 max-codes)) ≤ max-order → codes-in (order-by mask) ≡ select (bit? mask) (count-from 0 max-codes)
-unfolding order-by
-codes-by-mask mask h = codes-of (select (bit? mask) (count-from 0 max-codes)) h (fit-select (bit? mask) (count-from 0 max-codes) fit-counted)

@@ -9,12 +9,11 @@ use lib.Dec.{T, ltb}
 use lib.ListN.{length, getD, length-append, length-reverse, List·getD-append, List·getD-eq-default}
 use lib.Seq.{getD-at}
 use borrow.Author.Tests.{lt-ltb, le-ltb}
-use Rattle.lists.specs.Lists.{select, every, count-from}
+use Rattle.lists.specs.Lists.{select, every}
 use Rattle.lists.proofs.Laws.{and-l, and-r, and-both}
-use Rattle.lists.proofs.Counting.{count-left, count-done}
 use Rattle.masks.specs.Masks.{bit?, with-bit, mask-of}
 use Rattle.masks.proofs.Lists.{mask-append, or-assoc}
-use Rattle.orders.specs.Orders.{max-order, max-codes, order-end, codes-before, codes-in, with-code, order-from, order-of, order-within, order-by}
+use Rattle.orders.specs.Orders.{max-order, order-end, codes-before, codes-in, with-code, order-from, order-of, order-within}
 use Rattle.orders.proofs.Codes.{codes-last, codes-none, codes-fit, codes-of, most-codes, small-codes, length-select, fit-select}
 
 -- ---- one column more
@@ -260,20 +259,3 @@ within-turned order mask e f =
     let l = length-select (bit? mask) cs in
     let n = most-codes order in
     turned-twice 0 (select (bit? mask) cs) (omega arith) (fit-select (bit? mask) cs (small-codes order)) (e ∙ ap (λ l. order-from 0 l) (reverse-select (bit? mask) cs)) f
-
--- ---- the columns of a mask
-
-module _ (mask : ℕ) where
-  pub by-start : order-by mask ≡ order-from 0 (select (bit? mask) (count-from 0 (max-codes - 0)))
-  unfolding order-by order-of
-  by-start = refl
-
-  module _ (m i : ℕ) (inv : order-by mask ≡ order-from m (select (bit? mask) (count-from i (max-codes - i)))) where
-    pub by-on : {k : ℕ} → i < 24 → k ≡ cond (bit? mask i) (with-code m i) m → order-by mask ≡ order-from k (select (bit? mask) (count-from (i + 1) (max-codes - (i + 1))))
-    by-on h g = inv ∙ ap (λ l. order-from m (select (bit? mask) l)) (count-left i 24 h) ∙ passed (bit? mask) m i (count-from (i + 1) (max-codes - (i + 1))) ∙ rw g
-
-    pub by-end : 24 ≤ i → m ≡ order-by mask
-    unfolding order-from select
-    by-end h = sym (inv ∙ rw (count-done i 24 h))
-
-pub ruleset by-ends = (by-start, by-on, by-end)

@@ -3,7 +3,7 @@ use mathlib.Core.List.{List, [], _∷_}
 use mathlib.Core.Bool.{cond}
 use Prim.Native.Nat.{ℕ, zero, suc, _+_, _*_, _-_, _/_, _%_}
 use lib.Dec.{ltb, eqb}
-use Rattle.lists.specs.Lists.{select, count-from}
+use Rattle.lists.specs.Lists.{select}
 use Rattle.syntax.specs.Limits.{max-streams, max-columns, max-granted}
 use Rattle.masks.specs.Masks.{bit?}
 
@@ -42,7 +42,3 @@ order-of cs = order-from 0 cs
 -- those of a mask, in their order
 unfoldable pub order-within : ℕ → ℕ → ℕ
 order-within mask m = order-of (select (bit? mask) (codes-in m))
-
--- the columns of a mask by rising codes
-unfoldable pub order-by : ℕ → ℕ
-order-by mask = order-of (select (bit? mask) (count-from 0 (max-streams * max-columns)))

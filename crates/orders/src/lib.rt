@@ -6,7 +6,7 @@ ghost use Prim.Native.Nat.{_-_, _%_};
 ghost use lib.ListN.{length, getD};
 ghost use Rattle.lists.specs.Lists.{select};
 ghost use Rattle.masks.specs.Masks.{bit?, mask-of};
-ghost use Rattle.orders.specs.Orders.{max-order, max-codes, order-end, codes-in, with-code, order-from, order-of, order-within, order-by};
+ghost use Rattle.orders.specs.Orders.{max-order, max-codes, order-end, codes-in, with-code, order-from, order-of, order-within};
 
 // An order of columns, and its bounds.
 pub struct Order {
@@ -174,19 +174,6 @@ pub fn within(order: u64, mask: u32) -> u64
     ensures { λ r. ⌜ r ≡ order-within mask order ⌝ }
 {
     turned(0, turned_within(order, mask))
-}
-
-// Returns the columns of a mask by rising codes, the first Order::MOST of them.
-pub fn by_mask(mask: u32) -> u64
-    ensures { λ r. ⌜ r ≡ order-by mask ⌝ }
-{
-    let mut m: u64 = 0;
-    let mut i: u32 = 0;
-    while i < Order::CODES {
-        m = with_shown(m, mask, i);
-        i += 1;
-    }
-    m
 }
 
 // Returns the columns of one order, then those of another, as far as there is room.

@@ -6,10 +6,17 @@ ghost use lib.ListN.{getD};
 pub fn word_at(words: &[u32], i: u32) -> u32
     ensures { λ r. ⌜ r ≡ getD (now (words .entry)) i 0 ⌝ }
 {
-    if words.len() <= i as usize {
+    word_in(words, i as usize)
+}
+
+// Returns the word at a place that is counted as slices are.
+pub fn word_in(words: &[u32], i: usize) -> u32
+    ensures { λ r. ⌜ r ≡ getD (now (words .entry)) i 0 ⌝ }
+{
+    if words.len() <= i {
         return 0;
     }
-    words[i as usize]
+    words[i]
 }
 
 // Returns the number at a place.

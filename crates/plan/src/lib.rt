@@ -4,6 +4,7 @@ ghost use Rattle.plan.specs.Plans.{no-view, view-of, no-plan, stream-ord
 ghost use Rattle.query.specs.Tables.{forms-in};
 use grant::Grant;
 use query::Form;
+use query::Query;
 use schema::Stream;
 
 // What a grant's view asks of rows: the conditions in so many words at its place in the catalogue, and a first and last time, or Grant::NONE.
@@ -85,7 +86,7 @@ pub struct Plan {
 
 impl Plan {
     // How many conditions of its own a query can have.
-    pub const PICKS: usize = 12;
+    pub const PICKS: usize = Query::FORMS as usize;
 
     // Returns the plan of no form.
     pub fn new() -> Plan

@@ -17,11 +17,11 @@ use Rattle.calls.specs.Names.{test-of}
 use Rattle.text.specs.Words.{bytes-from, name-of}
 use Rattle.nodes.specs.declared.Node.{Node}
 use Rattle.nodes.specs.Nodes.{no-node, node-at, node-compare, link, some-conds, headed, cond-in, conditions-of}
-use Rattle.nodes.proofs.Reaching.{cond-on, list-off}
+use Rattle.nodes.proofs.Reaching.{some-listed, test-headed, cond-on, list-off}
 use Rattle.print.specs.Writing.{over, after, Put, byte-text}
 use Rattle.print.specs.Texts.{values, valued-term, valued, test-text, cond-at, list-at, compares, cond-text, conds-text, list-text, list-opening, conditions-text, when-text, First, Lasts}
 use Rattle.print.proofs.Putting.{put-none, put-as, put-then}
-use Rattle.print.proofs.Walks.{link-is, some-listed}
+use Rattle.print.proofs.Walks.{link-is}
 
 -- ---- words of heads
 
@@ -78,10 +78,6 @@ pub head-some : (ws : List ℕ) (k : ℕ) {n : Node} {x : Bool} → n ≡ node-a
 unfolding no-node
 head-some ws zero {n} e g h = let f = ap (λ (m : Node). m .head) (e ∙ node-none ws) in let i = joins (n .head) g h in absurd (omega (arith, i .0))
 head-some ws (suc k) e g h = omega arith
-
-test-headed : (m : Node) (cs : List (Cond Compare)) → (m .head ≡ 7 → ⊥) → (m .head ≡ 8 → ⊥) → (m .head ≡ 9 → ⊥) → headed m cs ≡ test (node-compare m)
-unfolding headed
-test-headed m cs a b c = rw (ne-eqb (m .head) 7 a, ne-eqb (m .head) 8 b, ne-eqb (m .head) 9 c)
 
 test-at : (ws : List ℕ) (k : ℕ) (n : Node) → n ≡ node-at ws k → (n .head ≡ 7 → ⊥) → (n .head ≡ 8 → ⊥) → (n .head ≡ 9 → ⊥) → cond-at ws k ≡ test (node-compare n)
 unfolding cond-in

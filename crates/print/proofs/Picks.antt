@@ -7,7 +7,7 @@ use Prim.Native.Nat.{ℕ, _+_, _-_, _<_, _≤_}
 use native.Mathlib.Decide.{decLt}
 use native.Mathlib.Omega.{arith}
 use lib.Dec.{ltb, leb}
-use borrow.Author.Tests.{lt-ltb, le-ltb, le-leb, lt-leb, not-true, not-false}
+use borrow.Author.Tests.{lt-ltb, le-ltb, le-leb, lt-leb}
 use Rattle.lists.specs.Lists.{empty?}
 use Rattle.lists.proofs.Laws.{empty-map}
 use Rattle.syntax.specs.Grammar.{Bytes, bytes, Entry, Cond, Op, le, ge, op-word, put-int, put-nat, put-name, put-open, put-ref, put-operand, put-items, put-cond, put-conds, put-form}
@@ -19,14 +19,13 @@ use Rattle.model.specs.Rewriting.{under}
 use Rattle.calls.specs.Names.{left-ref, right-operand, test-of, form-of}
 use Rattle.text.specs.Words.{bytes-from, name-of}
 use Rattle.nodes.specs.Nodes.{numbered-op, conditions-of}
-use Rattle.nodes.proofs.Reaching.{list-off}
+use Rattle.nodes.proofs.Reaching.{list-off, some-listed}
 use Rattle.grant.specs.declared.Grant.{Grant}
 use Rattle.grant.specs.Grants.{limit-of, grant-of}
 use Rattle.print.specs.declared.Bounds.{Bounds}
 use Rattle.print.specs.Writing.{Put, byte-text}
 use Rattle.print.specs.Texts.{opening, list-at, conditions-text, when-text, bounds-of, bounding, bounded, limit-text, bounding-text, pick-text, bounds-text, close-text}
 use Rattle.print.proofs.Putting.{put-none, put-as, put-then}
-use Rattle.print.proofs.Walks.{some-listed}
 
 -- the bounds of a grant are its limits
 pub limits-are : (who : Caller) (ns : List ℕ) (g : Grant) (ws : List ℕ) → limits who (grant-of ns g ws) ≡ bounding (who .profile) ws (bounds-of g)
@@ -163,17 +162,6 @@ module _ (d : Schema) (e : List Entry) (ws : List ℕ) (b : Bounds) {x : Bool} (
   pick-some h i j k l = put-as (λ r. pick-is d (bounding e ws b) r (bounding-empty e ws b ∙ ap not (sym q) ∙ h)) (put-then i (put-then j (put-then k l)))
 
 pub ruleset pick-ends = (pick-none, pick-some)
-
-module _ (b : Bounds) {x : Bool} (q : x ≡ bounded b) {m : Bytes} {p : ℕ} where
-  pub close-none : not x ≡ true → Put (close-text b) m p m p
-  unfolding close-text
-  close-none h = put-none (λ r. ap (λ t. cond t (41 ∷ r) r) (sym q ∙ not-true x h))
-
-  pub close-some : {m₁ : Bytes} {p₁ : ℕ} → not x ≡ false → Put (byte-text 41) m p m₁ p₁ → Put (close-text b) m p m₁ p₁
-  unfolding close-text byte-text
-  close-some h y = put-as (λ r. ap (λ t. cond t (41 ∷ r) r) (sym q ∙ not-false x h)) y
-
-pub ruleset close-ends = (close-none, close-some)
 
 -- ---- the whole query under bounds is its pick, the query and the closing bracket
 

@@ -1,20 +1,17 @@
 -- Where the conditions of a list end.
 use mathlib.Core.Path.{_≡_, refl, sym, ap, _∙_}
-use mathlib.Core.List.{List, [], _∷_}
-use mathlib.Core.Bool.{false}
-use Prim.Native.Nat.{ℕ, zero, suc, _+_, _*_, _-_, _<_, _≤_, min}
+use mathlib.Core.List.{List, []}
+use Prim.Native.Nat.{ℕ, _-_, _<_, _≤_, min}
 use native.Mathlib.Decide.{decLt}
 use native.Mathlib.Omega.{arith}
-use Rattle.lists.specs.Lists.{empty?}
-use Rattle.syntax.specs.Grammar.{Cond, last}
-use Rattle.model.specs.Queries.{Compare}
+use Rattle.syntax.specs.Grammar.{last}
 use Rattle.model.specs.Conditions.{conds-of}
 use Rattle.nodes.specs.declared.Node.{Node}
-use Rattle.nodes.specs.Nodes.{node-at, link, some-conds, first-cond, cond-in, list-in}
-use Rattle.nodes.proofs.Reaching.{link-falls, list-step, list-stop, list-on, list-off}
+use Rattle.nodes.specs.Nodes.{node-at, link, some-conds, first-cond}
+use Rattle.nodes.proofs.Reaching.{link-falls, list-off}
 use Rattle.nodes.proofs.Links as L
 use Rattle.nodes.proofs.Links.{Walk, walk-start, walk-falls, walk-on}
-use Rattle.print.specs.Texts.{cond-at, list-at, First, Lasts}
+use Rattle.print.specs.Texts.{list-at, First, Lasts}
 
 -- ---- the first condition
 
@@ -54,17 +51,3 @@ module _ (ws : List ℕ) (head stop j : ℕ) where
   lasts-all n = record { low = omega arith; first = λ h. absurd (n h); all = λ k. refl }
 
 pub ruleset lasts-ends = (lasts-first, lasts-all)
-
--- ---- a list that is not empty
-
-some-kept : (f : ℕ) (ws : List ℕ) (stop j : ℕ) (c : Cond Compare) (cs : List (Cond Compare)) → empty? (list-in f ws stop j (c ∷ cs)) ≡ false
-unfolding cond-in empty?
-some-kept zero ws stop j c cs = refl
-some-kept (suc f) ws stop j c cs = go (decLt stop j) (some-kept f ws stop (link ws j) (cond-in f ws j) (c ∷ cs))
-  where
-    go : Dec (stop < j) → empty? (list-in f ws stop (link ws j) (cond-in f ws j ∷ (c ∷ cs))) ≡ false → empty? (list-in (suc f) ws stop j (c ∷ cs)) ≡ false
-    go (yes h) e = ap empty? (list-step ws f stop j (c ∷ cs) h) ∙ e
-    go (no h) e = ap empty? (list-stop ws f stop j (c ∷ cs) (omega arith))
-
-pub some-listed : (ws : List ℕ) (stop j : ℕ) → stop < j → empty? (list-at ws stop j) ≡ false
-some-listed ws stop j h = ap empty? (list-on ws stop j [] h) ∙ some-kept (2 * link ws j + 1) ws stop (link ws j) (cond-at ws j) []

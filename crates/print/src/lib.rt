@@ -11,7 +11,7 @@ ghost use Rattle.terms.specs.Terms.{time-code};
 ghost use Rattle.nodes.specs.Nodes.{unbiased};
 ghost use Rattle.print.specs.Writing.{furthest, Put, byte-text, Long, digits-in};
 ghost use Rattle.nodes.specs.Profiles.{profile-in};
-ghost use Rattle.print.specs.Texts.{group-name, stream-text, source-text, ref-text, col-text, item-text, columns-text, values, self-text, left-text, right-text, opening, test-text, compares, cond-text, list-opening, list-text, when-text, First, Lasts, bounded, limit-text, bounding-text, bounds-text, close-text};
+ghost use Rattle.print.specs.Texts.{group-name, stream-text, source-text, ref-text, col-text, item-text, columns-text, values, self-text, left-text, right-text, opening, test-text, compares, cond-text, list-opening, list-text, when-text, First, Lasts, bounded, limit-text, bounding-text, bounds-text};
 use nodes::Node;
 use schema::Stream;
 use terms::Term;
@@ -26,7 +26,7 @@ pub struct Bounds {
 }
 
 // The furthest place.
-const FURTHEST: u32 = 4294967295;
+pub const FURTHEST: u32 = 4294967295;
 
 // The code of a number that is 0: the lowest of 32 bits has code 0. How many codes there are.
 const ZERO: u64 = 2147483648;
@@ -36,7 +36,7 @@ const CODES: u64 = 4294967296;
 // Words with the brackets and spaces around them.
 const OPEN_IN: u64 = 0x28696e20;
 
-const OPEN_EQ: u64 = 0x283d20;
+pub const OPEN_EQ: u64 = 0x283d20;
 
 const OPEN_NE: u64 = 0x282f3d20;
 
@@ -54,13 +54,13 @@ const OPEN_OR: u64 = 0x286f72;
 
 const OPEN_NOT: u64 = 0x286e6f74;
 
-const OPEN_PICK: u64 = 0x287069636b20;
+pub const OPEN_PICK: u64 = 0x287069636b20;
 
 const SELF_DOT: u64 = 0x73656c662e;
 
 const TIME_SPACE: u64 = 0x74696d6520;
 
-const CLOSE_SPACE: u64 = 0x2920;
+pub const CLOSE_SPACE: u64 = 0x2920;
 
 // The heads of the comparisons that limit a time.
 const LE: u32 = 4;
@@ -291,12 +291,12 @@ fn group_name(names: &[u64], at: usize, i: usize) -> u64
 {
     let mut k: usize = 0;
     while k < i {
-        if schema::name_in(names, at + k) == 0 {
+        if places::number_at(names, at + k) == 0 {
             return 0;
         }
         k += 1;
     }
-    schema::name_in(names, at + i)
+    places::number_at(names, at + i)
 }
 
 // Returns the place after the name of a stream, which is empty where there is no such stream.
@@ -397,7 +397,7 @@ fn entry_value(v: u64, profile: &[u64]) -> u64
     let n = profile.len() / 2;
     let mut i: usize = 0;
     while i < n {
-        if schema::name_in(profile, i * 2) == v {
+        if places::number_at(profile, i * 2) == v {
             return profile[i * 2 + 1] % CODES;
         }
         i += 1;
@@ -493,6 +493,12 @@ fn put_test(out: &mut [u8], p: u32, n: Node, names: &[u64], profile: &[u64], own
 
 // ---- conditions
 
+// The words of a list of conditions: those that end at place `end` and before it, down to `stop`.
+pub struct Range {
+    pub stop: usize,
+    pub end: usize,
+}
+
 // Whether a head is a comparison's: any but those of `and`, `or` and `not`.
 fn compares(head: u32) -> bool
     ensures { λ r. ⌜ r ≡ compares head ⌝ }
@@ -573,31 +579,31 @@ pub fn put_cond(
     let b = before(n, k);
     let j = last_of(words, n.head, b, k - 1);
     let q = put_word(out, p, list_opened(n.head));
-    let t = put_list(out, q, words, b, j, names, profile, own);
+    let list = Range { stop: b, end: j };
+    let t = put_list(out, q, words, list, names, profile, own);
     put(out, t, b')')
 }
 
-// The conditions that end at place j and before it, down to a stop, each after a space.
+// The conditions of a range of words, each after a space.
 fn put_list(
     out: &mut [u8],
     p: u32,
     words: &[u32],
-    stop: usize,
-    j: usize,
+    list: Range,
     names: &[u64],
     profile: &[u64],
     own: bool,
 ) -> u32
-    ensures { λ r. ⌜ Put (list-text (schema-of (now (names .entry))) (values own (profile-in (now (profile .entry)))) (now (words .entry)) stop j) (now (out .entry)) p (now (out .exit)) r ⌝ }
+    ensures { λ r. ⌜ Put (list-text (schema-of (now (names .entry))) (values own (profile-in (now (profile .entry)))) (now (words .entry)) (list .stop) (list .end)) (now (out .entry)) p (now (out .exit)) r ⌝ }
 {
-    if j <= stop {
+    if list.end <= list.stop {
         let s = put(out, p, b' ');
         return put_cond(out, s, words, 0, names, profile, own);
     }
     let mut q = p;
-    let mut at = stop;
-    while at < j {
-        let e = first_end(words, at, j);
+    let mut at = list.stop;
+    while at < list.end {
+        let e = first_end(words, at, list.end);
         let s = put(out, q, b' ');
         q = put_cond(out, s, words, e, names, profile, own);
         at = e;
@@ -620,7 +626,11 @@ pub fn put_conditions(
     if n == 0 {
         return p;
     }
-    put_list(out, p, words, 0, n as usize, names, profile, false)
+    let list = Range {
+        stop: 0,
+        end: n as usize,
+    };
+    put_list(out, p, words, list, names, profile, false)
 }
 
 // ---- what a grant puts over rows
@@ -682,15 +692,4 @@ pub fn put_pick(
     let y = put_word(out, x, OPEN_AND);
     let z = put_all(out, y, words, b, names, profile);
     put_word(out, z, CLOSE_SPACE)
-}
-
-// Returns the place after the closing bracket of that pick; nothing where there is no bound.
-// Leaves the bracket at its place where there is one, and all else as it was.
-pub fn put_picked(out: &mut [u8], p: u32, b: Bounds) -> u32
-    ensures { λ r. ⌜ Put (close-text b) (now (out .entry)) p (now (out .exit)) r ⌝ }
-{
-    if !b.any() {
-        return p;
-    }
-    put(out, p, b')')
 }

@@ -14,15 +14,9 @@ use print::Bounds;
 use query::Form;
 
 // Words with the brackets and spaces around them.
-const OPEN_PICK: u64 = 0x287069636b20;
-
 const OPEN_KEEP: u64 = 0x286b656570;
 
 const OPEN_JOIN: u64 = 0x286a6f696e20;
-
-const OPEN_EQ: u64 = 0x283d20;
-
-const CLOSE_SPACE: u64 = 0x2920;
 
 const OPEN_MIN: u64 = 0x286d696e20;
 
@@ -36,9 +30,6 @@ const OPEN_SUM: u64 = 0x2873756d20;
 
 // Where nothing stands open the number is 1; where all is written it is 0.
 const NONE_OPEN: u32 = 1;
-
-// The furthest place.
-const FURTHEST: u32 = 4294967295;
 
 // The place after what was written, and what stands open there.
 pub struct Turn {
@@ -66,7 +57,7 @@ fn put_pick(
 ) -> u32
     ensures { λ r. ⌜ Put (pick-opening (schema-of (now (names .entry))) (words-lent (now (words .entry)) (now (granted .entry)) (now (profile .entry))) f) (now (out .entry)) p (now (out .exit)) r ⌝ }
 {
-    let a = print::put_word(out, p, OPEN_PICK);
+    let a = print::put_word(out, p, print::OPEN_PICK);
     let k = f.first as usize;
     let b = print::put_cond(out, a, words, k, names, profile, true);
     print::put(out, b, b' ')
@@ -86,11 +77,11 @@ fn put_join(out: &mut [u8], p: u32, f: Form, names: &[u64]) -> u32
     ensures { λ r. ⌜ Put (join-opening (schema-of (now (names .entry))) f) (now (out .entry)) p (now (out .exit)) r ⌝ }
 {
     let a = print::put_word(out, p, OPEN_JOIN);
-    let b = print::put_word(out, a, OPEN_EQ);
+    let b = print::put_word(out, a, print::OPEN_EQ);
     let c = print::put_col(out, b, f.first, names);
     let d = print::put(out, c, b' ');
     let e = print::put_col(out, d, f.second, names);
-    print::put_word(out, e, CLOSE_SPACE)
+    print::put_word(out, e, print::CLOSE_SPACE)
 }
 
 // A bracket, the word of an aggregate and a space.
@@ -257,11 +248,10 @@ fn put_turn(out: &mut [u8], p: u32, f: Form, marks: u32) -> Turn
 
 // ---- the whole text
 
-// Returns the place after the text of the query that a table stands for; a query that is missing is written as the first stream's rows, as the table's meaning has it.
-// Leaves the text at its places where there are such, and all else as it was.
+// Returns how long the text is of the query that a table stands for, up to the furthest place; a query that is missing is written as the first stream's rows, as the table's meaning has it.
+// Leaves the text from the first place on where there are places, and all else as it was.
 pub fn put_table(
     out: &mut [u8],
-    p: u32,
     table: &[u32],
     n: u32,
     words: &[u32],
@@ -269,9 +259,9 @@ pub fn put_table(
     names: &[u64],
     profile: &[u64],
 ) -> u32
-    ensures { λ r. ⌜ Put (table-text (schema-of (now (names .entry))) (words-lent (now (words .entry)) (now (granted .entry)) (now (profile .entry))) (forms-in (now (table .entry)) n)) (now (out .entry)) p (now (out .exit)) r ⌝ }
+    ensures { λ r. ⌜ Put (table-text (schema-of (now (names .entry))) (words-lent (now (words .entry)) (now (granted .entry)) (now (profile .entry))) (forms-in (now (table .entry)) n)) (now (out .entry)) 0 (now (out .exit)) r ⌝ }
 {
-    let mut q = p;
+    let mut q: u32 = 0;
     let mut marks = NONE_OPEN;
     let mut i: u32 = 0;
     while 0 < marks {
@@ -298,8 +288,8 @@ pub fn line(
 ) -> Printed
     ensures { λ r. ⌜ Lined (table-text (schema-of (now (names .entry))) (words-lent (now (words .entry)) (now (granted .entry)) (now (profile .entry))) (forms-in (now (table .entry)) n) []) (now (out .entry)) (now (out .exit)) r ⌝ }
 {
-    let k = put_table(&mut out[0..0], 0, table, n, words, granted, names, profile);
-    if FURTHEST <= k {
+    let k = put_table(&mut out[0..0], table, n, words, granted, names, profile);
+    if print::FURTHEST <= k {
         return Printed {
             ok: false,
             length: k,
@@ -311,7 +301,7 @@ pub fn line(
             length: k,
         };
     }
-    let m = put_table(out, 0, table, n, words, granted, names, profile);
+    let m = put_table(out, table, n, words, granted, names, profile);
     Printed {
         ok: true,
         length: m,

@@ -4,7 +4,7 @@ ghost use Prim.Native.Nat.{min};
 ghost use lib.Dec.{eqb};
 ghost use lib.ListN.{length, getD};
 ghost use Rattle.syntax.specs.Limits.{max-forms, max-rewritten};
-ghost use Rattle.query.specs.Forms.{rows-form, pick-form, keep-of, form-order, join-form, aggregate-form, under-form};
+ghost use Rattle.query.specs.Forms.{rows-form, keep-of, form-order, under-form};
 ghost use Rattle.query.specs.Tables.{blank, query-forms, new-query, QueryWith, table-words, forms-in, held, rewritten-with};
 
 // How many forms a rewritten query may have, and how many words are lent for them.
@@ -64,19 +64,6 @@ impl Form {
         }
     }
 
-    // Returns a pick by the condition whose words end at a place.
-    pub fn pick(end: u32) -> Self
-        ensures { λ r. ⌜ r ≡ record { kind = pick-form; first = end; second = 0; third = 0; fourth = 0 } ⌝ }
-    {
-        Form {
-            kind: Form::PICK,
-            first: end,
-            second: 0,
-            third: 0,
-            fourth: 0,
-        }
-    }
-
     // Returns a keep of the columns of an order.
     pub fn keep(order: u64) -> Self
         ensures { λ r. ⌜ r ≡ keep-of order ⌝ }
@@ -95,32 +82,6 @@ impl Form {
         ensures { λ r. ⌜ r ≡ form-order self ⌝ }
     {
         self.third as u64 + self.fourth as u64 * HALF
-    }
-
-    // Returns a join by two columns.
-    pub fn join(a: u32, b: u32) -> Self
-        ensures { λ r. ⌜ r ≡ record { kind = join-form; first = a; second = b; third = 0; fourth = 0 } ⌝ }
-    {
-        Form {
-            kind: Form::JOIN,
-            first: a,
-            second: b,
-            third: 0,
-            fourth: 0,
-        }
-    }
-
-    // Returns an aggregate by its number, its column, SIZE and OFFSET.
-    pub fn aggregate(number: u32, column: u32, size: u32, offset: u32) -> Self
-        ensures { λ r. ⌜ r ≡ record { kind = aggregate-form; first = number; second = column; third = size; fourth = offset } ⌝ }
-    {
-        Form {
-            kind: Form::AGGREGATE,
-            first: number,
-            second: column,
-            third: size,
-            fourth: offset,
-        }
     }
 
     // Returns the conditions and times of the grant in a place of the catalogue.
@@ -246,16 +207,6 @@ pub fn count_in(n: u32) -> u32
     n
 }
 
-// A word of a table, 0 where there is none.
-fn word(table: &[u32], k: usize) -> u32
-    ensures { λ r. ⌜ r ≡ getD (now (table .entry)) k 0 ⌝ }
-{
-    if table.len() <= k {
-        return 0;
-    }
-    table[k]
-}
-
 // Returns form i of the first n, a form of zeros where there is no such form.
 pub fn form_in(table: &[u32], n: u32, i: u32) -> Form
     ensures { λ r. ⌜ r ≡ getD (forms-in (now (table .entry)) n) i blank ⌝ }
@@ -265,10 +216,10 @@ pub fn form_in(table: &[u32], n: u32, i: u32) -> Form
     }
     let k = i as usize * Form::WORDS;
     Form {
-        kind: word(table, k),
-        first: word(table, k + 1),
-        second: word(table, k + 2),
-        third: word(table, k + 3),
-        fourth: word(table, k + 4),
+        kind: places::word_in(table, k),
+        first: places::word_in(table, k + 1),
+        second: places::word_in(table, k + 2),
+        third: places::word_in(table, k + 3),
+        fourth: places::word_in(table, k + 4),
     }
 }

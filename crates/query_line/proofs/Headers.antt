@@ -9,8 +9,8 @@ use lib.Dec.{T, eqb, ltb, lt→ltb}
 use lib.ListN.{length}
 use borrow.Author.Tests.{ne-eqb, eqb-true}
 use Rattle.lists.specs.Lists.{every, some?, gather}
-use Rattle.lists.proofs.Laws.{and-r, and-both, parts, true-T, T-true, and-four}
-use Rattle.lists.proofs.Gathers.{every-append-same, every-of-map, every-good}
+use Rattle.lists.proofs.Laws.{and-r, and-both, parts, true-T, T-true}
+use Rattle.lists.proofs.Gathers.{every-of-map, every-good}
 use Rattle.syntax.specs.Grammar as G
 use Rattle.syntax.specs.Grammar.{Bytes, Ref, Operand, Test, Cond, ref?}
 use Rattle.syntax.specs.Limits.{short-ref}
@@ -19,19 +19,18 @@ use Rattle.model.specs.Queries as M
 use Rattle.model.specs.Queries.{Schema, Col, col, same-col, columns-of}
 use Rattle.model.specs.Checks.{has, within, term-cols, cond-cols, pick-left, pick-right, pickable, linked}
 use Rattle.model.proofs.Columns.{has-within}
-use Rattle.model.proofs.Conditions.{tests-map}
 use Rattle.calls.specs.Names.{is-self, term-of, column-of, operand-of, compare-of}
 use Rattle.calls.specs.Tables.{ref-declared}
 use Rattle.schema.specs.Schemas.{streams-in, schema-of, schema-sound}
 use Rattle.masks.specs.Masks.{bit?, mask-of, inside}
 use Rattle.masks.proofs.Bits.{bit-or, bit-alone}
-use Rattle.masks.proofs.Lists.{inside-bits, inside-every, inside-map}
+use Rattle.masks.proofs.Lists.{inside-bits, inside-every}
 use Rattle.terms.specs.Terms.{ref-code, operand-code, left-code, right-code}
 use Rattle.terms.proofs.Resolving.{own?, fine, Stands, code-alone, code-entry, code-low, code-column}
 use Rattle.columns.proofs.ColumnBits.{operand-fine, listed-bit, bit-above, ref-bit}
 use Rattle.grant.specs.Grants.{column-codes, streams-mask}
-use Rattle.grant_line.proofs.Folds.{every-pair, every-gathered}
-use Rattle.grant_line.proofs.Known.{good-test, test-declared, test-fine}
+use Rattle.grant_line.proofs.Placed.{Places, cond-placed, tests-placed}
+use Rattle.grant_line.proofs.Known.{good-test, test-declared}
 use Rattle.query_line.specs.Placing.{links}
 
 -- ---- tests
@@ -252,35 +251,11 @@ module _ (ns : List ℕ) (sound : T (schema-sound ns)) where
     right-bit (G.ref r) t = right-ref r t
     right-bit (G.number z) t = sym (with-number 26 ∙ or-true (bit? mask 26))
 
-    unfoldable placed-test : Test → Bool
-    placed-test t = (pick-left (term-of d (t .left)) && pick-right (operand-of d (t .right))) && within (term-cols (term-of d (t .left)) ++ term-cols (operand-of d (t .right))) cols
-
-    abbrev bits-in : Test → Bool
-    bits-in t = bit? (bitOr mask 16777216) (left-code ns t) && bit? (bitOr mask 67108864) (right-code ns t)
-
-    test-placed : (t : Test) → T (good-test t && test-declared ns t) → placed-test t ≡ bits-in t
-    unfolding placed-test within left-code right-code
-    test-placed t h =
-        let x = test-fine ns sound t h in
-        let l = term-of d (t .left) in
-        let r = operand-of d (t .right) in
-        ap (λ b. (pick-left l && pick-right r) && b) (every-append-same (has cols) (term-cols l) (term-cols r))
-        ∙ and-four (pick-left l) (pick-right r) (every (has cols) (term-cols l)) (every (has cols) (term-cols r))
-        ∙ ap₂ _&&_ (left-bit (t .left) (x .0)) (right-bit (t .right) (x .1))
-
-    cond-placed : (c : Cond Test) → (pickable (map-cond (compare-of d) c) && within (cond-cols (map-cond (compare-of d) c)) cols) ≡ every placed-test (tests c)
-    unfolding pickable cond-cols within placed-test compare-of
-    cond-placed c =
-        rw (tests-map (compare-of d) c)
-        (ap₂ _&&_ (every-of-map (λ t. pick-left (t .left) && pick-right (t .right)) (compare-of d) (tests c))
-        (sym (every-gathered (has cols) (λ t. every (has cols) (term-cols (t .left) ++ term-cols (t .right))) (λ t. term-cols (t .left) ++ term-cols (t .right)) (λ t. refl) (map (compare-of d) (tests c)))
-        ∙ every-of-map (λ t. every (has cols) (term-cols (t .left) ++ term-cols (t .right))) (compare-of d) (tests c))
-        ∙ every-pair (λ t. pick-left (term-of d (t .left)) && pick-right (operand-of d (t .right))) (λ t. every (has cols) (term-cols (term-of d (t .left)) ++ term-cols (operand-of d (t .right)))) (tests c))
+    at : Places ns cols pick-left pick-right (bitOr mask 16777216) (bitOr mask 67108864)
+    at = record { left = left-bit; right = right-bit }
 
     pub pick-placed : (c : Cond Test) → T (every (λ t. good-test t && test-declared ns t) (tests c))
         → (pickable (map-cond (compare-of d) c) && within (cond-cols (map-cond (compare-of d) c)) cols)
         ≡ (inside (mask-of (map (left-code ns) (tests c))) (bitOr mask 16777216) && inside (mask-of (map (right-code ns) (tests c))) (bitOr mask 67108864))
-    pick-placed c h =
-        cond-placed c ∙ every-good placed-test bits-in (λ t. good-test t && test-declared ns t) test-placed (tests c) h
-        ∙ sym (ap₂ _&&_ (inside-map (left-code ns) (bitOr mask 16777216) (tests c)) (inside-map (right-code ns) (bitOr mask 67108864) (tests c))
-        ∙ every-pair (λ t. bit? (bitOr mask 16777216) (left-code ns t)) (λ t. bit? (bitOr mask 67108864) (right-code ns t)) (tests c))
+    unfolding pickable
+    pick-placed c h = cond-placed at sound c ∙ tests-placed at sound (tests c) h

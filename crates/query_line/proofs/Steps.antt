@@ -22,8 +22,8 @@ use Rattle.query_line.specs.declared.Side.{Side}
 use Rattle.query_line.specs.declared.Placing.{Placing}
 use Rattle.query_line.specs.declared.Asked.{Asked}
 use Rattle.query_line.specs.Placing.{no-side, sideless, begun, with-rows, unpicked, with-pick, unkept, with-keep, links, unjoined, with-join, ungrouped, unfitting, with-aggregate, with-form, placed-from}
-use Rattle.query_line.specs.Asking.{placing-of, asked-of}
-use Rattle.query_line.specs.Texts.{unread-asked, unread-routed, routed-of}
+use Rattle.query_line.specs.Asking.{unread-asked, placing-of, asked-of}
+use Rattle.query_line.specs.Texts.{unread-routed, routed-of}
 
 -- ---- tests
 

@@ -43,8 +43,7 @@ use Rattle.query_read.proofs.Answering as A
 use Rattle.query_line.specs.declared.Asked.{Asked}
 use Rattle.query_line.specs.declared.Placing.{Placing}
 use Rattle.query_line.specs.Placing.{begun}
-use Rattle.query_line.specs.Asking.{placing-of, asked-of, form-checks, Tells, Asks, Means}
-use Rattle.query_line.specs.Texts.{unread-asked}
+use Rattle.query_line.specs.Asking.{placing-of, asked-of, unread-asked, asked-form, asked-read, form-checks, Tells, Asks, Means}
 use Rattle.query_line.proofs.Bounds.{part-fine, over-is, parts-fine, parts-few}
 use Rattle.query_line.proofs.Known.{sane, part-declared, all-sane, all-declared, unknown-is, repeated-is, keeps-few}
 use Rattle.query_line.proofs.Running.{run-parts, placing-is, nothing-full, nothing-counted}
@@ -225,6 +224,14 @@ asked-ok : (r : Reading) (p : Placing) → asked-of r p .ok ≡ true
 unfolding asked-of
 asked-ok r p = refl
 
+asked-bound : (r : Reading) (p : Placing) → asked-of r p .checks .bound ≡ r .over
+unfolding asked-of
+asked-bound r p = refl
+
+form-asked : (ns : List ℕ) (s : Bytes) (q : Read Form) → asked-of (form-read ns s (some q)) (placing-of ns (form-read ns s (some q))) ≡ asked-form ns (q .what) (length s - length (q .left))
+unfolding asked-form form-read
+form-asked ns s q = refl
+
 asked-next : (ns : List ℕ) (s : Bytes) (q : Read Form) (p : Placing) → asked-of (form-read ns s (some q)) p .next ≡ length s - length (q .left)
 unfolding asked-of form-read reading-ended
 asked-next ns s q p = refl
@@ -250,10 +257,22 @@ module _ (ns : List ℕ) (s : Bytes) (at : ℕ) (ws vs : List ℕ) (r : Reading)
   unfolding no-reading
   nothing-ok = refl
 
+  -- what is answered, by whether the line may be read and by what stands there
+  answered-by : {x : Asked} → (readable s ws ≡ false → x ≡ unread-asked false) → (any-form (drop at s) ≡ none → x ≡ unread-asked false)
+      → (T (readable s ws) → (q : Read Form) → any-form (drop at s) ≡ some q → x ≡ asked-form ns (q .what) (length s - length (q .left))) → x ≡ cond (readable s ws) (asked-read ns s (any-form (drop at s))) (unread-asked false)
+  unfolding asked-read
+  answered-by {x} f g k = by-test (readable s ws) (λ a. go a (any-form (drop at s)) refl) (λ a. f a ∙ rw a)
+    where
+      go : readable s ws ≡ true → (o : Option (Read Form)) → any-form (drop at s) ≡ o → x ≡ cond (readable s ws) (asked-read ns s (any-form (drop at s))) (unread-asked false)
+      go a none e = g e ∙ rw (a, e)
+      go a (some q) e = k (true-T (readable s ws) a) q e ∙ rw (a, e)
+
   pub asks-none : {x : Asked} → not (r .ok) ≡ true → x ≡ unread-asked false → Asks ns s at ws vs x
   unfolding unread-asked
-  asks-none z d =
+  asks-none {x} z d =
       record {
+        is = answered-by (λ a. d) (λ e. d) (λ rd q e. never (sym (read-ok q) ∙ sym (ap (λ y. y .ok) (read-is rd q e)) ∙ not-true (r .ok) z));
+        stored = λ k o. never (sym k ∙ ap (λ y. y .ok) d);
         none-read = λ e. ap (λ y. y .ok) d;
         some-read = λ sound rd q e. never (sym (read-ok q) ∙ sym (ap (λ y. y .ok) (read-is rd q e)) ∙ not-true (r .ok) z);
         kept = h .kept;
@@ -278,15 +297,21 @@ module _ (ns : List ℕ) (s : Bytes) (at : ℕ) (ws vs : List ℕ) (r : Reading)
   pub asks-some : {x : Asked} {p : Placing} → not (r .ok) ≡ false → p ≡ placing-of ns r → x ≡ asked-of r p → Asks ns s at ws vs x
   asks-some {x} {p} z f d =
       record {
+        is = answered-by (λ a. never (sym (not-false (r .ok) z) ∙ ap (λ y. y .ok) (read-not a) ∙ nothing-ok)) (λ e. never (sym (not-false (r .ok) z) ∙ unread e))
+            (λ rd q e. made rd q e ∙ form-asked ns s q);
+        stored = λ k o. h .stored (not-false (r .ok) z) (sym (asked-bound r p) ∙ sym (ap (λ y. y .checks .bound) d) ∙ o);
         none-read = λ e. never (sym (not-false (r .ok) z) ∙ unread e);
         some-read = λ sound rd q e. told sound rd q e;
         kept = h .kept;
       }
     where
+      made : T (readable s ws) → (q : Read Form) → any-form (drop at s) ≡ some q → x ≡ asked-of (form-read ns s (some q)) (placing-of ns (form-read ns s (some q)))
+      made rd q e = d ∙ rw (f, read-is rd q e)
+
       told : (sound : T (schema-sound ns)) (rd : T (readable s ws)) (q : Read Form) → any-form (drop at s) ≡ some q → Tells ns s vs q x
       told sound rd q e =
           let i = read-is rd q e in
-          let y : x ≡ asked-of (form-read ns s (some q)) (placing-of ns (form-read ns s (some q))) = d ∙ rw (f, i) in
+          let y = made rd q e in
           record {
             ok = ap (λ a. a .ok) y ∙ asked-ok (form-read ns s (some q)) (placing-of ns (form-read ns s (some q)));
             next = ap (λ a. a .next) y ∙ asked-next ns s q (placing-of ns (form-read ns s (some q)));

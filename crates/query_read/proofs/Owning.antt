@@ -13,7 +13,7 @@ use borrow.Author.Tests.{le-leb, le-ltb, ne-eqb, eqb-true, eqb-false, not-true, 
 use Rattle.lists.specs.Lists.{empty?}
 use Rattle.lists.proofs.Laws.{never, by-test, or-first}
 use Rattle.syntax.specs.Grammar as G
-use Rattle.syntax.specs.Grammar.{Bytes, Fn, Ref, Test, Cond, fn-number, numbered-fn}
+use Rattle.syntax.specs.Grammar.{Bytes, Ref, Test, Cond, fn-number, numbered-fn}
 use Rattle.syntax.specs.Limits.{short-ref, cond-depth}
 use Rattle.syntax.specs.Readers.{Read, bind, ensure, _>>=_, _>>_, give, byte, read-head, read-open, read-ref, read-some, form-next, opens, Kind, k-in, k-pick, k-keep, k-join, k-fn, kind-word, kinds}
 use Rattle.syntax.proofs.Steps.{from, done}
@@ -27,7 +27,7 @@ use Rattle.text.specs.declared.Word.{Word}
 use Rattle.text.specs.declared.Time.{Time}
 use Rattle.text.specs.declared.Class.the-variants.{Plain}
 use Rattle.text.specs.Words.{name-at, number-at}
-use Rattle.text.specs.Keywords.{kind-number, kind-coded, coded, numbered, word-at, WordAt, part-at as opening-at}
+use Rattle.text.specs.Keywords.{kind-number, kind-coded, coded, numbered, word-at, WordAt, opened-at, part-at as opening-at}
 use Rattle.text.specs.Readings.{any-cond, any-items, any-some}
 use Rattle.text.proofs.Runs.{first-byte, run-from, place-left}
 use Rattle.text.proofs.Views.{view-none, view-here, left-drop}
@@ -65,21 +65,19 @@ module _ (s : Bytes) (p : ℕ) {r : Reference} (e : r ≡ ref-at s p) where
 
 -- a space, an opening bracket and the sign of equality
 module _ (s : Bytes) (at : ℕ) {o : ℕ} (p : o ≡ opening-at s at 0x3d) where
-  opening-none : {X : Type 0} → o ≡ 0 → (byte 32 (drop at s) ≡ none → X) → (byte 32 (drop at s) ≡ some (record { what = tt; left = drop (at + 1) s }) → read-open (G.op-word G.eq) (drop (at + 1) s) ≡ none → X) → X
+  opening-by : {X : Type 0} → (getD s at 0 ≡ 32 → o ≡ opened-at s (at + 1) 0x3d → X) → ((getD s at 0 ≡ 32 → ⊥) → o ≡ 0 → X) → X
   unfolding opening-at
-  opening-none {X} z f g = go (eqb (getD s at 0) 32) refl p
+  opening-by {X} f g = go (eqb (getD s at 0) 32) refl p
     where
       go : (t : Bool) → eqb (getD s at 0) 32 ≡ t → o ≡ opening-at s at 0x3d → X
-      go true t d = g (space-is s at refl (eqb-true (getD s at 0) 32 t)) (open-not s (at + 1) equal-word (d ∙ rw t) z)
-      go false t d = f (space-not s at refl (eqb-false (getD s at 0) 32 t))
+      go true t d = f (eqb-true (getD s at 0) 32 t) (d ∙ rw t)
+      go false t d = g (eqb-false (getD s at 0) 32 t) (d ∙ rw t)
+
+  opening-none : {X : Type 0} → o ≡ 0 → (byte 32 (drop at s) ≡ none → X) → (byte 32 (drop at s) ≡ some (record { what = tt; left = drop (at + 1) s }) → read-open (G.op-word G.eq) (drop (at + 1) s) ≡ none → X) → X
+  opening-none z f g = opening-by (λ b d. g (space-is s at refl b) (open-not s (at + 1) equal-word d z)) (λ b d. f (space-not s at refl b))
 
   opening-some : {X : Type 0} → (o ≡ 0 → ⊥) → (byte 32 (drop at s) ≡ some (record { what = tt; left = drop (at + 1) s }) → read-open (G.op-word G.eq) (drop (at + 1) s) ≡ some (record { what = G.op-word G.eq; left = drop o s }) → X) → X
-  unfolding opening-at
-  opening-some {X} n g = go (eqb (getD s at 0) 32) refl p
-    where
-      go : (t : Bool) → eqb (getD s at 0) 32 ≡ t → o ≡ opening-at s at 0x3d → X
-      go true t d = g (space-is s at refl (eqb-true (getD s at 0) 32 t)) (open-is s (at + 1) equal-word (d ∙ rw t) n)
-      go false t d = absurd (n (d ∙ rw t))
+  opening-some n g = opening-by (λ b d. g (space-is s at refl b) (open-is s (at + 1) equal-word d n)) (λ b d. absurd (n d))
 
 -- ---- a stream's rows
 
@@ -139,9 +137,16 @@ module _ (ns : List ℕ) (s : Bytes) (b n at : ℕ) {c : Columns} (p : c ≡ col
   keep-unread f e = rw (some-of (drop at s), view-none (columns-view ns true s) at p f) e
 
   module _ (ok : not (c .ok) ≡ false) where
-    listed : {X : Type 0} → ((xs : List Ref) → any-items form-next read-ref (drop at s) ≡ some (record { what = xs; left = drop (c .next) s }) → c ≡ columns-read ns s (some (record { what = xs; left = drop (c .next) s })) → X) → X
+    -- what follows from the columns that were read
+    abbrev By : Type 0 → Type 0
+    By X = (xs : List Ref) → any-items form-next read-ref (drop at s) ≡ some (record { what = xs; left = drop (c .next) s }) → c ≡ columns-read ns s (some (record { what = xs; left = drop (c .next) s })) → X
+
+    listed : {X : Type 0} → By X → X
     unfolding columns-at columns-view ends-by
     listed k = view-here (columns-view ns true s) at p ok k
+
+    abbrev rest : Option (Read Part)
+    rest = bind (any-some form-next read-ref (drop at s)) (λ a. bind (byte 32 (a .left)) (λ u. some (record { what = keep (a .what); left = u .left })))
 
     form-there : form-next (drop (c .next) s) ≡ true
     unfolding any-items
@@ -163,7 +168,7 @@ module _ (ns : List ℕ) (s : Bytes) (b n at : ℕ) {c : Columns} (p : c ≡ col
         none-here : any-items form-next read-ref (drop at s) ≡ some (record { what = []; left = drop at s })
         none-here = items-step form-next no-form-next read-ref ref-leaves (drop at s) ∙ rw (ap (λ i. form-next (drop i s)) (sym z) ∙ form-there)
 
-        go : (xs : List Ref) → any-items form-next read-ref (drop at s) ≡ some (record { what = xs; left = drop (c .next) s }) → c ≡ columns-read ns s (some (record { what = xs; left = drop (c .next) s })) → r ≡ own-read ns s b n (bind (any-some form-next read-ref (drop at s)) (λ a. bind (byte 32 (a .left)) (λ u. some (record { what = keep (a .what); left = u .left }))))
+        go : By (r ≡ own-read ns s b n rest)
         go xs f g = rw (some-of (drop at s), none-here) e
 
     -- an empty list ends where it begins
@@ -183,7 +188,7 @@ module _ (ns : List ℕ) (s : Bytes) (b n at : ℕ) {c : Columns} (p : c ≡ col
     unfolding part-at own-read read-part give _>>_ _>>=_ bind ensure empty? own-of columns-read
     keep-done {r} z e = listed go
       where
-        go : (xs : List Ref) → any-items form-next read-ref (drop at s) ≡ some (record { what = xs; left = drop (c .next) s }) → c ≡ columns-read ns s (some (record { what = xs; left = drop (c .next) s })) → r ≡ own-read ns s b n (bind (any-some form-next read-ref (drop at s)) (λ a. bind (byte 32 (a .left)) (λ u. some (record { what = keep (a .what); left = u .left }))))
+        go : By (r ≡ own-read ns s b n rest)
         go [] f g = absurd (z (empty-here f))
         go (x ∷ xs) f g =
             let i = keep-inside in

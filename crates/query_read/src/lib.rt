@@ -1,18 +1,16 @@
 // The forms of a query in a line: read one after another, with no recursion, into a table of forms and the words of their conditions.
 ghost use mathlib.Core.Path.{_≡_};
-ghost use mathlib.Core.Bool.{_||_};
 ghost use Prim.Native.Nat.{_+_, _*_, _≤_, _<_};
-ghost use lib.Dec.{eqb};
 ghost use lib.ListN.{length};
 ghost use Rattle.syntax.specs.Grammar.{numbered-fn};
 ghost use Rattle.syntax.specs.Limits.{max-line, max-forms};
 ghost use Rattle.syntax.specs.Readers.{k-in, k-pick, k-keep, k-join, k-fn};
-ghost use Rattle.terms.specs.Terms.{unknown-code};
 ghost use Rattle.query_read.specs.Seeing.{deep, level, span-of, no-form, no-own, rows-own, pick-own, keep-own, join-own, aggregate-own, with-own, no-reading, reading-ended, max-words, FormRead};
 ghost use Rattle.query_read.specs.Steps.{part-at, PartRead, OwnRead, max-open, stuck, after-form};
 use columns::Columns;
 use conditions::Seen;
 use query::Form;
+use query::Query;
 use schema::Stream;
 use terms::Term;
 use text::Line;
@@ -34,7 +32,13 @@ pub struct Own {
     pub form: Form,
 }
 
-// The forms of a query, the first twelve of them in a table, and what is wrong with them by themselves.
+// SIZE and OFFSET of an aggregate.
+pub struct Spans {
+    pub size: Time,
+    pub offset: Time,
+}
+
+// The forms of a query, the first Query::FORMS of them in a table, and what is wrong with them by themselves.
 pub struct Reading {
     pub ok: bool,
     pub next: usize,
@@ -50,16 +54,9 @@ pub struct Reading {
 
 impl Reading {
     // How many forms a query may have besides its conditions.
-    pub const FORMS: usize = 12;
+    pub const FORMS: usize = Query::FORMS as usize;
     // How many words are lent for the conditions of a query: every word costs five bytes of a line or more.
     pub const WORDS: usize = 102;
-
-    // Returns Reading::FORMS, which is the bound of the definitions.
-    pub fn most() -> usize
-        ensures { λ r. ⌜ r ≡ max-forms ⌝ }
-    {
-        Reading::FORMS
-    }
 
     // Returns Reading::WORDS, which is the number of the definitions.
     pub fn room() -> usize
@@ -77,8 +74,8 @@ pub struct Next {
 }
 
 impl Next {
-    // How many forms can be open at once: each takes five bytes of a line or more.
-    pub const MOST: usize = 128;
+    // How many forms can be open at once: each takes four bytes of a line or more.
+    pub const MOST: usize = Line::BYTES / 4;
 }
 
 // ---- one form by itself
@@ -151,16 +148,6 @@ fn span_of(n: Number) -> Time
         beyond: false,
         value: v as u32,
     }
-}
-
-// Whether one of two terms is not declared.
-fn undeclared(left: u32, right: u32) -> bool
-    ensures { λ r. ⌜ r ≡ (eqb left unknown-code || eqb right unknown-code) ⌝ }
-{
-    if left == Term::UNKNOWN {
-        return true;
-    }
-    right == Term::UNKNOWN
 }
 
 // A stream's rows.
@@ -237,7 +224,7 @@ fn join_own(b: u32, n: usize, over: bool, left: u32, right: u32, next: usize) ->
     ensures { λ r. ⌜ r ≡ join-own b n over left right next ⌝ }
 {
     let bound = text::either(is_deep(n), over);
-    let unknown = undeclared(left, right);
+    let unknown = conditions::undeclared(left, right);
     let form = Form {
         kind: Form::JOIN,
         first: left,
@@ -259,26 +246,17 @@ fn join_own(b: u32, n: usize, over: bool, left: u32, right: u32, next: usize) ->
 }
 
 // An aggregate by its number, its column's code, SIZE and OFFSET.
-fn aggregate_own(
-    b: u32,
-    n: usize,
-    over: bool,
-    f: u32,
-    code: u32,
-    size: Time,
-    offset: Time,
-    next: usize,
-) -> Own
-    ensures { λ r. ⌜ r ≡ aggregate-own b n over f code size offset next ⌝ }
+fn aggregate_own(b: u32, n: usize, over: bool, f: u32, code: u32, spans: Spans, next: usize) -> Own
+    ensures { λ r. ⌜ r ≡ aggregate-own b n over f code (spans .size) (spans .offset) next ⌝ }
 {
-    let beyond = text::either(size.beyond, offset.beyond);
+    let beyond = text::either(spans.size.beyond, spans.offset.beyond);
     let bound = text::either(is_deep(n), text::either(over, beyond));
     let form = Form {
         kind: Form::AGGREGATE,
         first: f,
         second: code,
-        third: size.value,
-        fourth: offset.value,
+        third: spans.size.value,
+        fourth: spans.offset.value,
     };
     Own {
         ok: true,
@@ -416,9 +394,11 @@ fn aggregate_at(s: &[u8], at: usize, names: &[u64], f: u32, b: u32, n: usize) ->
         return no_own();
     }
     let code = terms::term_code(names, c.first, c.second);
-    let size = span_of(z);
-    let offset = span_of(w);
-    aggregate_own(b, n, c.over, f, code, size, offset, k + 1)
+    let spans = Spans {
+        size: span_of(z),
+        offset: span_of(w),
+    };
+    aggregate_own(b, n, c.over, f, code, spans, k + 1)
 }
 
 // The form at a place by itself, inside n others, its condition's words after the first b.

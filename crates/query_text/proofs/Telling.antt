@@ -26,6 +26,7 @@ use Rattle.query_line.specs.declared.Routed.{Routed}
 use Rattle.query_line.specs.Asking.{Means}
 use Rattle.query_line.specs.Texts as L
 use Rattle.query_line.specs.Texts.{QueryTold, AskTold, RouteTold}
+use Rattle.query_line.proofs.Texts.{route-clamped}
 use Rattle.query.specs.Tables.{query-forms}
 use Rattle.needs.specs.Asking.{needs-in}
 use Rattle.needs.specs.declared.Needs.{Needs}
@@ -78,9 +79,9 @@ read-told spare o ns bs r l t =
 of-line : (spare : ℕ) (o : Option RouteLine) (ns : List ℕ) (bs : Bytes) {ws ws′ : List ℕ} {a : Asked} → L.Told (λ (l : RouteLine). l .query) spare o ns bs ws ws′ a
     → L.Told (λ q. q) spare (map-option (λ (l : RouteLine). l .query) o) ns bs ws ws′ a
 unfolding map-option written
-of-line spare none ns bs t = record { checks = t .checks; query = λ s u q e. absurd (Option·none-ne-some q e); kept = t .kept }
+of-line spare none ns bs t = record { is = t .is; stored = t .stored; checks = t .checks; query = λ s u q e. absurd (Option·none-ne-some q e); kept = t .kept }
 of-line spare (some l) ns bs {ws} {ws′} {a} t =
-    record { checks = t .checks; query = λ s u q e f. subst (λ p. Means (schema-of ns) p ws′ (a .query)) (Option·some-injective (l .query) q e) (t .query s u l refl f); kept = t .kept }
+    record { is = t .is; stored = t .stored; checks = t .checks; query = λ s u q e f. subst (λ p. Means (schema-of ns) p ws′ (a .query)) (Option·some-injective (l .query) q e) (t .query s u l refl f); kept = t .kept }
 
 pub query-told : (ns : List ℕ) (bs : Bytes) {ws : List ℕ} {a : Asked} {t : Told} → QueryTold ns bs (replicate max-words 0) ws a → t ≡ told-of ns ws (record { route = pos 0; asked = a }) → QueryRead ns bs t
 query-told ns bs {ws} {a} k e = subst (λ x. QueryRead ns bs x) (sym e) (read-told 0 (parse-query bs) ns bs (record { route = pos 0; asked = a }) (alone-short bs) k)
@@ -93,7 +94,7 @@ unfolding told-of map-option
 line-told ns bs {ws} {r} k e =
     subst (λ x. LineRead ns bs x) (sym e) (record {
       text = read-told 1 (map-option (λ (l : RouteLine). l .query) (parse-as G.line bs)) ns bs r (go (parse-as G.line bs) refl) (of-line 1 (parse-as G.line bs) ns bs (k .told));
-      number = λ s l p f. k .route s room l p f;
+      number = λ s l p f. route-clamped ns bs (replicate max-words 0) ws k room l p f;
     })
   where
     go : (o : Option RouteLine) → parse-as G.line bs ≡ o → (q : Form) → map-option (λ (l : RouteLine). l .query) o ≡ some q → length (query-text q) ≤ length bs

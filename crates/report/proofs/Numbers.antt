@@ -29,6 +29,9 @@ not-low : (z : ℤ) → ltZ z (pos 0) ≡ false → T (nonNeg z) × (natAbs z �
 not-low (pos n) e = (tt, refl)
 not-low (negsuc n) e = absurd (let k : _≡_ {A = ℕ} 0 1 = cc in omega arith)
 
+pub plain-sign : (z : ℤ) → ltZ z (pos 0) ≡ false → T (nonNeg z)
+plain-sign z e = not-low z e .0
+
 module _ (z : ℤ) (fits : SFits w64 z) where
   pub back : toZ w64 (ofZ w64 z) ≡ z
   back = toZ-ofZ w64 z fits
@@ -63,9 +66,6 @@ module _ (z : ℤ) (fits : SFits w64 z) where
 
     pub less-top : natAbs (toZ w64 (ofZ w64 (negsuc 0 -ℤ toZ w64 (ofZ w64 z)))) + 1 ≤ 9223372036854775808
     less-top = subst (λ (y : ℤ). natAbs y + 1 ≤ 9223372036854775808) (sym again) (omega (arith, small))
-
-  pub plain-sign : ltZ (toZ w64 (ofZ w64 z)) (pos 0) ≡ false → T (nonNeg (toZ w64 (ofZ w64 z)))
-  plain-sign e = not-low (toZ w64 (ofZ w64 z)) e .0
 
   pub plain-fits : Fits w64 (natAbs (toZ w64 (ofZ w64 z)))
   plain-fits = rw back (fits-natAbs tt fits)

@@ -40,7 +40,7 @@ use Rattle.routes.specs.Listing.{open-all, side-route, lone-route, gate-
 use Rattle.routes.proofs.Listed.{by-kinds}
 use Rattle.routes.proofs.Owned.{belongs-is, tidy-laid}
 use Rattle.routes.proofs.Shown.{hs}
-use Rattle.routes.proofs.Matched.{reads-is, one-left, two-left, lone-side, two-sides, pair-test, figures-test}
+use Rattle.routes.proofs.Matched.{reads-is, one-left, two-left, lone-side, two-sides, pair-test, figures-test, asked-streams}
 use Rattle.routes.proofs.Places.{Slot, slots, numbered-slots, sound-slots, slots-at, mine, left-places, right-places, pair-places, figures-places, Held, all-held, slots-below}
 
 -- ---- lists
@@ -643,13 +643,6 @@ module _ (ns ws roles profile : List ℕ) (gs : List D.Grant) (q : Query ℕ) (p
         (λ i f. let t = and-r (mine n ws roles profile (f .slot)) _ (f .passes) in (stands f, stands f, by-figures i f t))
         (found-at on-figures (o .figures) (figures-places n ws roles profile gs few))
       where
-        asked-are : streams-asked n ≡ sources q
-        asked-are = go (single (sources q)) refl
-          where
-            go : (x : Bool) → single (sources q) ≡ x → cond (eqb (n .right) no-stream) (n .left ∷ []) (n .left ∷ (n .right ∷ [])) ≡ sources q
-            go true e = rw (eq-eqb (n .right) no-stream (streams-lone (rw e tt) .1)) (sym (streams-lone (rw e tt) .0))
-            go false e = rw (right-some e) (sym (streams-both e .0))
-
         some-aggregate : T (not (eqb (n .aggregate) 0)) → T (not (no-aggregate q))
         some-aggregate t = go (no-aggregate q) refl
           where
@@ -658,7 +651,7 @@ module _ (ns ws roles profile : List ℕ) (gs : List D.Grant) (q : Query ℕ) (p
             go false e = tt
 
         by-figures : (i : ℕ) (f : Found on-figures i) → T (figures-opened n (f .slot .grant) (f .slot .words)) → Granting q placed-grant (lone-route 3 i)
-        by-figures i f t = on-told refl refl (some-aggregate (and-l (not (eqb (n .aggregate) 0)) _ t)) (its-streams (streams-asked n) f (search parts) ∙ asked-are)
+        by-figures i f t = on-told refl refl (some-aggregate (and-l (not (eqb (n .aggregate) 0)) _ t)) (its-streams (streams-asked n) f (search parts) ∙ asked-streams ns q may b)
 
     -- Of every route that is listed: its grants are sound, their numbers are those of opened grants, and their streams are those that are asked for.
     pub routes-known : All Known-route (routes-in o n)

@@ -6,7 +6,7 @@ use Prim.Native.Nat.{ℕ, _+_, _*_, _/_, _≤_, _<_}
 use native.Mathlib.Decide.{ℕ-discrete}
 use native.Mathlib.Omega.{arith}
 use lib.Bits.{bitAnd, bitOr, or-self}
-use lib.Dec.{T, leb, ltb, eqb, eqb→eq, leb→le, ltb→lt}
+use lib.Dec.{T, leb, eqb, eqb→eq, leb→le, ltb→lt}
 use borrow.Author.Tests.{eq-eqb, ne-eqb}
 use Rattle.lists.specs.Lists.{select, every, some?, empty?, gather, same-list, distinct}
 use Rattle.lists.proofs.Laws.{all-weaken, and-l, or-r, parts, every-all, same-list→eq}
@@ -82,6 +82,14 @@ module _ (ns : List ℕ) (q : Query ℕ) (w : T (allowed (hs ns) q)) (b : T (eve
 
   named-bits : bits-of (asked-cols q ++ equal-cols q) ≡ bitOr (n .need) (n .keys)
   named-bits = bits-append (asked-cols q) (equal-cols q) ∙ sym (ap₂ bitOr (need-is ns q) (keys-are ns q))
+
+  pub asked-streams : streams-asked n ≡ sources q
+  unfolding streams-asked
+  asked-streams = go (single (sources q)) refl
+    where
+      go : (x : Bool) → single (sources q) ≡ x → cond (eqb (n .right) no-stream) (n .left ∷ []) (n .left ∷ (n .right ∷ [])) ≡ sources q
+      go true e = let h = streams-are ns (hs ns) q w b .lone (rw e tt) in rw (eq-eqb (n .right) no-stream (h .1)) (sym (h .0))
+      go false e = let h = streams-are ns (hs ns) q w b .both e in rw (ne-eqb (n .right) no-stream (λ i. omega (arith, h .1))) (sym (h .0))
 
   module _ (gs : List M.Grant) (m : ℕ) (h : (s k : ℕ) → s < 4 → k < 6 → shown-by (schema-of ns) gs (col s k) ≡ bit? m (s * 6 + k)) where
     figure-shown : shown-by (schema-of ns) gs figure ≡ true
@@ -171,14 +179,6 @@ module _ (ns : List ℕ) (q : Query ℕ) (w : T (allowed (hs ns) q)) (b : T (eve
 
     -- the aggregate
     module _ (f : Fn) (c : Col) (q′ : Query ℕ) (k : Below ns q f c q′) where
-      asked-streams : streams-asked n ≡ sources q
-      unfolding streams-asked
-      asked-streams = go (single (sources q)) refl
-        where
-          go : (x : Bool) → single (sources q) ≡ x → cond (eqb (n .right) no-stream) (n .left ∷ []) (n .left ∷ (n .right ∷ [])) ≡ sources q
-          go true e = let h = streams-are ns (hs ns) q w b .lone (rw e tt) in rw (eq-eqb (n .right) no-stream (h .1)) (sym (h .0))
-          go false e = let h = streams-are ns (hs ns) q w b .both e in rw (ne-eqb (n .right) no-stream (λ i. omega (arith, h .1))) (sym (h .0))
-
       linked-test : (eqb (n .right) no-stream || equality-held n g ws) ≡ has-equality q Mg
       linked-test = go (single (sources q)) refl
         where

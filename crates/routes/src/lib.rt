@@ -4,7 +4,6 @@ ghost use mathlib.Core.List.{[], _∷_, map};
 ghost use mathlib.Core.Bool.{_&&_, _||_, cond};
 ghost use Prim.Native.Nat.{_+_, _<_, _≤_};
 ghost use lib.Dec.{leb, eqb};
-ghost use lib.ListN.{getD};
 ghost use Rattle.lists.specs.Lists.{some?, same-list, select};
 ghost use Rattle.syntax.specs.Limits.{max-routes};
 ghost use Rattle.text.specs.Words.{name-of};
@@ -26,7 +25,7 @@ fn role_held(role: u64, roles: &[u64]) -> bool
     let n = roles.len();
     let mut i: usize = 0;
     while i < n {
-        if comparisons::number_at(roles, i) == role {
+        if places::number_at(roles, i) == role {
             return true;
         }
         i += 1;
@@ -280,17 +279,6 @@ pub struct Gate {
     pub whole: bool,
 }
 
-// The number in a place, 0 past the last.
-fn number_at(numbers: &[u32], place: u32) -> u32
-    ensures { λ r. ⌜ r ≡ getD (now (numbers .entry)) place 0 ⌝ }
-{
-    let i = place as usize;
-    if numbers.len() <= i {
-        return 0;
-    }
-    numbers[i]
-}
-
 // Whether a route leaves a column of the answer.
 fn leaves_some(g: Gate, shown: &[u32], x: Route) -> bool
     ensures { λ r. ⌜ r ≡ leaves-some g (now (shown .entry)) x ⌝ }
@@ -298,8 +286,8 @@ fn leaves_some(g: Gate, shown: &[u32], x: Route) -> bool
     if g.whole {
         return true;
     }
-    let a = number_at(shown, x.left);
-    let b = number_at(shown, x.right);
+    let a = places::word_at(shown, x.left);
+    let b = places::word_at(shown, x.right);
     (a | b) & g.header != 0
 }
 

@@ -182,9 +182,6 @@ module _ (ns : List ℕ) (s : Stream) (sound : T (schema-sound ns)) (few : strea
   pub older-width : (r : ℕ) → (r ≡ streams-in ns → ⊥) → width-in (with-codes ns (code-of (s .name)) (first-of 6 0 (map code-of (s .columns)))) r ≡ width-in ns r
   older-width = width-kept ns (code-of (s .name)) codes few (facts .long) six
 
-  pub older-stream : (r : ℕ) → r < streams-in ns → stream-in (with-codes ns (code-of (s .name)) (first-of 6 0 (map code-of (s .columns)))) r ≡ stream-in ns r
-  older-stream = older-kept ns (code-of (s .name)) codes few (facts .long) six
-
   pub one-more : streams-in (with-codes ns (code-of (s .name)) (first-of 6 0 (map code-of (s .columns)))) ≡ suc (streams-in ns)
   unfolding streams-in
   one-more = filled-is after 0 4 (suc (streams-in ns)) few above stops

@@ -8,3 +8,4 @@ pub mod Valid
 pub mod Numbers
 pub mod Puts
 pub mod Adding
+pub mod Later

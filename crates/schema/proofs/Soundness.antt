@@ -104,6 +104,14 @@ pub width-is : (ns : List ℕ) (s : ℕ) → s < 4 → width-in ns s ≡ filled 
 unfolding width-in
 width-is ns s h = rw (lt-ltb s 4 h)
 
+-- no place past those of four streams has a width
+pub width-zero : (ns : List ℕ) (s : ℕ) → (s < 4 → width-in ns s ≡ 0) → width-in ns s ≡ 0
+width-zero ns s f = go (decLt s 4)
+  where
+    go : Dec (s < 4) → width-in ns s ≡ 0
+    go (yes k) = f k
+    go (no k) = sym (width-none ns s (omega arith))
+
 pub width-most : (ns : List ℕ) (s : ℕ) → width-in ns s ≤ 6
 unfolding width-in
 width-most ns s = go (ltb s 4) (filled-most ns (column-place s) 6)
@@ -171,16 +179,15 @@ module _ (ns : List ℕ) (t : T (schema-sound ns)) where
             let f = T-false (eqb (wide ns s (streams-in ns)) 0) (and-l (not (eqb (wide ns s (streams-in ns)) 0)) (named-from ns (column-place s) (wide ns s (streams-in ns))) (declared-fine s h k)) in
             let g = eqb-false (wide ns s (streams-in ns)) 0 f in
             omega arith;
-        none = λ s h. none-of s h (decLt s 4);
+        none = λ s h. width-zero ns s (none-of s h);
         columns-after = λ s c h k i.
             let e = width-is ns s h in
             let f = filled-most ns (column-place s) 6 in
             zeros-at ns (column-place s + wide ns s (streams-in ns)) (6 - wide ns s (streams-in ns)) (stream-behind ns s (streams-in ns) (stream-fine s h)) (column-place s + c) (omega arith) (omega arith);
       }
     where
-      none-of : (s : ℕ) → streams-in ns ≤ s → Dec (s < 4) → width-in ns s ≡ 0
-      none-of s h (yes k) = width-is ns s k ∙ eqb→eq (wide ns s (streams-in ns)) 0 (and-r (behind ns s (streams-in ns)) (eqb (wide ns s (streams-in ns)) 0) (rw (stream-undeclared ns s (streams-in ns) h) at (stream-fine s k)))
-      none-of s h (no k) = sym (width-none ns s (omega arith))
+      none-of : (s : ℕ) → streams-in ns ≤ s → s < 4 → width-in ns s ≡ 0
+      none-of s h k = width-is ns s k ∙ eqb→eq (wide ns s (streams-in ns)) 0 (and-r (behind ns s (streams-in ns)) (eqb (wide ns s (streams-in ns)) 0) (rw (stream-undeclared ns s (streams-in ns) h) at (stream-fine s k)))
 
 module _ (ns : List ℕ) (f : Sound ns) where
   stream-made : (s : ℕ) → s < 4 → T (stream-sound ns s (streams-in ns))

@@ -19,9 +19,9 @@ use Rattle.calls.specs.Validity.{free-name, valid-stream, valid-schema}
 use Rattle.text.specs.Words.{name-of}
 use Rattle.schema.specs.Schemas.{code-end, schema-size, column-place, filled, streams-in, width-in, column-in, stream-in, schema-of, zeros, named-from, stream-sound, streams-sound, schema-sound, group-tidy, columns-tidy, tidy}
 use Rattle.schema.proofs.Places.{filled-most}
-use Rattle.schema.proofs.Tests.{streams-most, width-none}
+use Rattle.schema.proofs.Tests.{streams-most}
 use Rattle.schema.proofs.Lookups.{stream-names-are, length-schema}
-use Rattle.schema.proofs.Soundness.{free-below, free-named, word, named-free, words-free, words-once, words-named, zeros-at, zeros-made, width-is, width-most, Sound, sound-facts, facts-sound}
+use Rattle.schema.proofs.Soundness.{width-zero, free-below, free-named, word, named-free, words-free, words-once, words-named, zeros-at, zeros-made, width-is, width-most, Sound, sound-facts, facts-sound}
 
 -- ---- tidy groups
 
@@ -186,7 +186,10 @@ module _ (ns : List ℕ) where
           after = after;
           columns = λ s h. columns s h (omega arith);
           some = λ s h. columns-some s (some-at s (valid-at s h));
-          none = λ s h. none s h (decLt s 4);
+          none = λ s h.
+              width-zero ns s (λ k.
+              width-is ns s k ∙ or-cases (ltb s (streams-in ns)) (eqb (filled ns (column-place s) 6) 0) (and-r (group-tidy ns (column-place s) 6) (ltb s (streams-in ns) || eqb (filled ns (column-place s) 6) 0) (tidy-at s k))
+              (λ u. let l = ltb→lt s (streams-in ns) u in absurd (omega arith)) (λ u. eqb→eq (filled ns (column-place s) 6) 0 u));
           columns-after = λ s c h k l. let e = width-is ns s h in group-after ns (column-place s) 6 (columns-group s h) c (omega arith) l;
         }
       where
@@ -204,11 +207,6 @@ module _ (ns : List ℕ) where
 
         some-at : (s : ℕ) → T (valid-stream (stream-in ns s)) → T (not (empty? (columns-in s)))
         some-at s u = search parts
-
-        none : (s : ℕ) → streams-in ns ≤ s → Dec (s < 4) → width-in ns s ≡ 0
-        none s h (yes k) = width-is ns s k ∙ or-cases (ltb s (streams-in ns)) (eqb (filled ns (column-place s) 6) 0) (and-r (group-tidy ns (column-place s) 6) (ltb s (streams-in ns) || eqb (filled ns (column-place s) 6) 0) (tidy-at s k))
-            (λ u. let l = ltb→lt s (streams-in ns) u in absurd (omega arith)) (λ u. eqb→eq (filled ns (column-place s) 6) 0 u)
-        none s h (no k) = sym (width-none ns s (omega arith))
 
 -- ---- the law
 

@@ -1,7 +1,7 @@
 // The declared streams as lent numbers: the names of four streams, then those of six columns for each; 0 where there is none.
 ghost use mathlib.Core.Path.{_≡_};
 ghost use Prim.Native.Nat.{_+_, _≤_, _<_};
-ghost use lib.ListN.{length, getD};
+ghost use lib.ListN.{length};
 ghost use Rattle.syntax.specs.Grammar.{name?};
 ghost use Rattle.syntax.specs.Limits.{max-streams, max-columns};
 ghost use Rattle.calls.specs.Names.{stream-number};
@@ -85,13 +85,6 @@ pub fn free_name(code: u64) -> bool
     is_name(code)
 }
 
-// Returns the number at a place, 0 past the end.
-pub fn name_in(names: &[u64], i: usize) -> u64
-    ensures { λ r. ⌜ r ≡ getD (now (names .entry)) i 0 ⌝ }
-{
-    if i < names.len() { names[i] } else { 0 }
-}
-
 // How many of n numbers from a place on are not 0, up to the first that is.
 fn filled(names: &[u64], at: usize, n: usize) -> usize
     requires { ⌜ at + n ≤ schema-size ⌝ }
@@ -99,7 +92,7 @@ fn filled(names: &[u64], at: usize, n: usize) -> usize
 {
     let mut i: usize = 0;
     while i < n {
-        if name_in(names, at + i) == 0 {
+        if places::number_at(names, at + i) == 0 {
             return i;
         }
         i += 1;
@@ -131,7 +124,7 @@ pub fn stream_number(names: &[u64], code: u64) -> usize
     let n = streams(names);
     let mut s: usize = 0;
     while s < n {
-        if name_in(names, s) == code {
+        if places::number_at(names, s) == code {
             return s;
         }
         s += 1;

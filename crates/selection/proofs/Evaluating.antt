@@ -2,7 +2,7 @@
 use mathlib.Core.Path.{_≡_, refl, sym, ap, ap₂, _∙_, subst}
 use mathlib.Core.List.{List, [], _∷_}
 use mathlib.Core.Bool.{Bool, true, false, _&&_, _||_}
-use Prim.Native.Nat.{ℕ, zero, suc, _+_, _*_, _-_, _/_, _%_, _<_, _≤_}
+use Prim.Native.Nat.{ℕ, _+_, _*_, _-_, _/_, _%_, _<_, _≤_}
 use native.Mathlib.Decide.{decLt}
 use native.Mathlib.Omega.{arith}
 use lib.IntN.{ℤ, pos, negsuc}
@@ -18,8 +18,8 @@ use Rattle.model.specs.Conditions.{true-of, all-true, any-true, conds-of}
 use Rattle.model.specs.Meaning.{compares, compare-holds, term-value}
 use Rattle.model.specs.Grants.{fill-term, fill-compare}
 use Rattle.nodes.specs.declared.Node.{Node}
-use Rattle.nodes.specs.Nodes.{no-node, node-at, node-of, node-compare, numbered-op, coded-term, link, some-conds, first-cond, headed, cond-in, list-in}
-use Rattle.nodes.proofs.Reaching.{link-falls, list-step, list-stop, list-before, list-on, list-off, cond-on}
+use Rattle.nodes.specs.Nodes.{no-node, node-at, node-of, node-compare, numbered-op, coded-term, link, some-conds, first-cond, headed, cond-in}
+use Rattle.nodes.proofs.Reaching.{link-falls, list-before, list-on, list-off, cond-on, some-listed as some-before, test-headed}
 use Rattle.nodes.proofs.Words.{node-none, node-number, node-entry, node-plain}
 use Rattle.nodes.proofs.Links.{Walk, walk-end}
 use Rattle.rows.specs.declared.Rows.{Rows}
@@ -94,10 +94,6 @@ module _ (ws : List ℕ) (stop j : ℕ) where
 
 -- ---- conditions by their heads
 
-test-headed : (m : Node) (cs : List (Cond Compare)) → (m .head ≡ 7 → ⊥) → (m .head ≡ 8 → ⊥) → (m .head ≡ 9 → ⊥) → headed m cs ≡ test (node-compare m)
-unfolding headed
-test-headed m cs a b c = rw (ne-eqb (m .head) 7 a, ne-eqb (m .head) 8 b, ne-eqb (m .head) 9 c)
-
 not-headed : (m : Node) (cs : List (Cond Compare)) → m .head ≡ 9 → headed m cs ≡ neg (first-cond cs)
 unfolding headed
 not-headed m cs e = rw e
@@ -139,18 +135,9 @@ module _ (p : Compare → Bool) where
   any-some [] e = absurd (let z : _≡_ {A = ℕ} 0 1 = cc in omega arith)
   any-some (c ∷ cs) e = any-conds c cs
 
-some-kept : (f : ℕ) (ws : List ℕ) (stop j : ℕ) (c : Cond Compare) (cs : List (Cond Compare)) → empty? (list-in f ws stop j (c ∷ cs)) ≡ false
-unfolding cond-in empty?
-some-kept zero ws stop j c cs = refl
-some-kept (suc f) ws stop j c cs = go (decLt stop j) (some-kept f ws stop (link ws j) (cond-in f ws j) (c ∷ cs))
-  where
-    go : Dec (stop < j) → empty? (list-in f ws stop (link ws j) (cond-in f ws j ∷ (c ∷ cs))) ≡ false → empty? (list-in (suc f) ws stop j (c ∷ cs)) ≡ false
-    go (yes h) e = ap empty? (list-step ws f stop j (c ∷ cs) h) ∙ e
-    go (no h) e = ap empty? (list-stop ws f stop j (c ∷ cs) (omega arith))
-
 some-listed : (ws : List ℕ) (stop j : ℕ) → stop < j → empty? (list-at ws stop j) ≡ false
 unfolding list-at
-some-listed ws stop j h = ap empty? (list-on ws stop j [] h) ∙ some-kept (2 * link ws j + 1) ws stop (link ws j) (cond-in (2 * j) ws j) []
+some-listed ws stop j h = some-before ws stop j h
 
 listed-none : (ws : List ℕ) (stop j : ℕ) → j ≤ stop → list-at ws stop j ≡ []
 unfolding list-at

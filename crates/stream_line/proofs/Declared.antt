@@ -3,7 +3,7 @@ use mathlib.Core.Path.{_≡_, refl, sym, ap, ap₂, _∙_, subst}
 use mathlib.Core.List.{List, [], _∷_, _++_, map}
 use mathlib.Core.Bool.{Bool, true, false, _&&_, _||_, not}
 use mathlib.Core.Option.{none, some, Option·some-injective}
-use Prim.Native.Nat.{ℕ, suc, _<_}
+use Prim.Native.Nat.{ℕ, _<_}
 use native.Mathlib.Omega.{arith}
 use lib.Dec.{T, leb, ltb, ltb→lt}
 use lib.ListN.{length}
@@ -31,9 +31,10 @@ use Rattle.calls.proofs.Valid.{stream-fine}
 use Rattle.calls.proofs.Written.{written-passes, written-short}
 use Rattle.text.specs.Words.{code-of, name-of}
 use Rattle.items.specs.Items.{first-of}
-use Rattle.schema.specs.Schemas.{streams-in, width-in, stream-in, schema-of, schema-sound, with-codes}
+use Rattle.schema.specs.Schemas.{streams-in, schema-of, schema-sound, with-codes}
 use Rattle.schema.proofs.Lookups.{length-schema}
-use Rattle.schema.proofs.Adding.{schema-more, sound-more, one-more, older-stream, older-width}
+use Rattle.schema.proofs.Adding.{schema-more, sound-more}
+use Rattle.schema.proofs.Later.{Later, schema-later}
 use Rattle.stream_line.specs.declared.StreamLine.{StreamLine}
 use Rattle.stream_line.specs.Declaring.{stream-made, read-line, line-of, stream-line, declare-table, with-stream, names-after, Declares}
 use Rattle.stream_line.proofs.Flags.{flags-of, flags, name-code, columns-codes, flags-said}
@@ -151,12 +152,6 @@ module _ (ns : List ℕ) (bs : Bytes) (ns′ : List ℕ) (v : Verdict) (d : Decl
       pub accepted-sound : T (schema-sound ns′)
       accepted-sound = subst (λ ms. T (schema-sound ms)) (sym left-is) (sound-more ns s accepted-lent few fine (new-pass (schema-of ns) s checks-pass))
 
-      pub accepted-count : streams-in ns′ ≡ suc (streams-in ns)
-      accepted-count = ap streams-in left-is ∙ one-more ns s accepted-lent few fine
-
       -- older streams stay as they were
-      pub accepted-older : (i : ℕ) → i < streams-in ns → stream-in ns′ i ≡ stream-in ns i
-      accepted-older i h = ap (λ ms. stream-in ms i) left-is ∙ older-stream ns s accepted-lent few fine i h
-
-      pub accepted-width : (i : ℕ) → i < streams-in ns → width-in ns′ i ≡ width-in ns i
-      accepted-width i h = ap (λ ms. width-in ms i) left-is ∙ older-width ns s accepted-lent few fine i (λ z. omega arith)
+      pub accepted-later : Later ns ns′
+      accepted-later = schema-later ns ns′ s accepted-schema

@@ -126,7 +126,7 @@ fn find(names: &[u64], at: usize, n: usize, code: u64) -> usize
 {
     let mut i: usize = 0;
     while i < n {
-        if schema::name_in(names, at + i) == code {
+        if places::number_at(names, at + i) == code {
             return i;
         }
         i += 1;

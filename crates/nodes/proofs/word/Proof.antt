@@ -1,5 +1,6 @@
+-- `word`: places before the first are the first.
 use borrow.Author.Needs.{needs}
-use Rattle.nodes.proofs.Words.{word-ends}
+use Rattle.nodes.proofs.Words.{word-front}
 use Rattle.nodes.proofs.word.Statement.{statement}
 use Rattle.nodes.proofs.word.Tie as tie
 
@@ -7,15 +8,11 @@ pub word-spec : {M : Type 1} → statement M
 word-spec =
     tie.close
     (tie.spec
-    {- first-requires -}
+    {- word-in-requires -}
     (λ c κs. search needs)
     {- returns -}
-    (λ c. search word-ends)
+    (λ c. search (word-front, needs))
+    {- word-in-requires-2 -}
+    (λ c κs. search needs)
     {- returns-2 -}
-    (λ c. search word-ends)
-    {- mul-result -}
-    (λ c. search needs)
-    {- shared-slice-read-result -}
-    (λ c. search needs)
-    {- returns-3 -}
-    (λ c. search word-ends))
+    (λ c. search needs))

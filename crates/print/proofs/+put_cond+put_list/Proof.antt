@@ -31,7 +31,7 @@ abbrev μ-put-cond : Measures 4 put-cond-kinds.ps ℕ
 μ-put-cond κs a = 2 * a .1 .1 .1 .0
 
 abbrev μ-put-list : Measures 4 put-list-kinds.ps ℕ
-μ-put-list κs a = 2 * a .1 .1 .1 .1 .0 + 1
+μ-put-list κs a = 2 * a .1 .1 .1 .0 .end + 1
 
 abbrev put-cond-at : ℕ → In 4 put-cond-kinds.ps
 put-cond-at t = and 4 put-cond-kinds.ps (is 4 put-cond-kinds.ps μ-put-cond t) put-cond.Pre
@@ -54,10 +54,10 @@ abbrev put-list-claims : ℕ → put-list-lts.Claims
 put-list-claims t = (put-reads.Asked, put-reads.Learnt, put-cond-below t, put-cond.Post, first-end-reads.Asked, first-end-reads.Learnt)
 
 abbrev put-list-Inv-loop : put-list-lts.InvT-loop
-put-list-Inv-loop out₀ p words stop j names profile own q₀ at₀ out q at = Left (schema-of names) (values own (profile-in profile)) words stop j out₀ p at out q × (length out ≡ length out₀)
+put-list-Inv-loop out₀ p words list names profile own q₀ at₀ out q at = Left (schema-of names) (values own (profile-in profile)) words (list .stop) (list .end) out₀ p at out q × (length out ≡ length out₀)
 
 abbrev put-list-μ-loop : put-list-lts.MeasureT-loop
-put-list-μ-loop out₀ p words stop j names profile own q₀ at₀ out q at = j - at
+put-list-μ-loop out₀ p words list names profile own q₀ at₀ out q at = list .end - at
 
 pub +put-cond+put-list-spec : {M : Type 1} → statement M
 +put-cond+put-list-spec =

@@ -23,9 +23,9 @@ entry-value-spec =
     μ-loop
     {- loop-holds -}
     (λ c. search (entry-ends, needs))
-    {- mul-name-in -}
+    {- mul-number-at -}
     (λ c. search needs)
-    {- name-in-requires -}
+    {- number-at-requires -}
     (λ c κs. search needs)
     {- mul-result -}
     (λ c. search needs)

@@ -21,9 +21,9 @@ group-name-spec =
     μ-loop
     {- loop-holds -}
     (λ c. (search needs, search group-ends))
-    {- add-name-in -}
+    {- add-number-at -}
     (λ c. search needs)
-    {- name-in-requires -}
+    {- number-at-requires -}
     (λ c κs. search needs)
     {- returns -}
     (λ c. search (group-ends, needs))
@@ -33,9 +33,9 @@ group-name-spec =
     (λ c. search needs)
     {- loop-again -}
     (λ c. (search needs, search group-ends))
-    {- add-name-in-2 -}
+    {- add-number-at-2 -}
     (λ c. search needs)
-    {- name-in-requires-2 -}
+    {- number-at-requires-2 -}
     (λ c κs. search needs)
     {- returns-2 -}
     (λ c. search (group-ends, needs)))

@@ -11,10 +11,10 @@ use Rattle.print_query.proofs.put_table.Statement.{statement}
 use Rattle.print_query.proofs.put_table.Tie as tie
 
 abbrev Inv-loop : tie.InvT-loop
-Inv-loop out₀ p table n words granted names profile q₀ marks₀ i₀ out q marks i = Going (schema-of names) (words-lent words granted profile) (forms-in table n) out₀ p i marks out q × (length out ≡ length out₀)
+Inv-loop out₀ table n words granted names profile q₀ marks₀ i₀ out q marks i = Going (schema-of names) (words-lent words granted profile) (forms-in table n) out₀ 0 i marks out q × (length out ≡ length out₀)
 
 abbrev μ-loop : tie.MeasureT-loop
-μ-loop out₀ p table n words granted names profile q₀ marks₀ i₀ out q marks i = (16 - i) * 131072 + marks
+μ-loop out₀ table n words granted names profile q₀ marks₀ i₀ out q marks i = (16 - i) * 131072 + marks
 
 pub put-table-spec : {M : Type 1} → statement M
 put-table-spec =

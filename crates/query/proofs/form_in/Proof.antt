@@ -16,23 +16,23 @@ form-in-spec =
     (λ c. search form-ends)
     {- mul-k -}
     (λ c. search needs)
-    {- word-requires -}
+    {- word-in-requires -}
     (λ c κs. search needs)
-    {- add-word -}
+    {- add-word-in -}
     (λ c. search needs)
-    {- word-requires-2 -}
+    {- word-in-requires-2 -}
     (λ c κs. search needs)
-    {- add-word-2 -}
+    {- add-word-in-2 -}
     (λ c. search needs)
-    {- word-requires-3 -}
+    {- word-in-requires-3 -}
     (λ c κs. search needs)
-    {- add-word-3 -}
+    {- add-word-in-3 -}
     (λ c. search needs)
-    {- word-requires-4 -}
+    {- word-in-requires-4 -}
     (λ c κs. search needs)
-    {- add-word-4 -}
+    {- add-word-in-4 -}
     (λ c. search needs)
-    {- word-requires-5 -}
+    {- word-in-requires-5 -}
     (λ c κs. search needs)
     {- returns-2 -}
     (λ c. search form-ends))

@@ -10,9 +10,9 @@ leaves-some-spec =
     (tie.spec
     {- returns -}
     (λ c. search leaves-ends)
-    {- number-at-requires -}
+    {- word-at-requires -}
     (λ c κs. search needs)
-    {- number-at-requires-2 -}
+    {- word-at-requires-2 -}
     (λ c κs. search needs)
     {- returns-2 -}
     (λ c. search leaves-ends))

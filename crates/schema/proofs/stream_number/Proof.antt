@@ -26,7 +26,7 @@ stream-number-spec =
     (λ c κs. search needs)
     {- loop-holds -}
     (λ c. (search needs, search seek-ends))
-    {- name-in-requires -}
+    {- number-at-requires -}
     (λ c κs. search needs)
     {- returns -}
     (λ c. search seek-ends)

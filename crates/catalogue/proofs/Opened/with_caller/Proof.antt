@@ -27,29 +27,32 @@ least-requires-2 c κs = search needs
 mul-e : tie.Need-mul-e
 mul-e c = search needs
 
-sub-with : tie.Need-sub-with
-sub-with c = search needs
+sub-place-bits : tie.Need-sub-place-bits
+sub-place-bits c = search needs
 
-part-with-start : tie.Need-part-with-start
-part-with-start c = search needs
+part-place-bits-start : tie.Need-part-place-bits-start
+part-place-bits-start c = search needs
 
-part-with-end : tie.Need-part-with-end
-part-with-end c = let h = four (c .before .before .before .before .before .before .before .before .before) in search needs
+part-place-bits-end : tie.Need-part-place-bits-end
+part-place-bits-end c = let h = four (c .before .before .before .before .before .before .before .before .before) in search needs
 
-sub-with-2 : tie.Need-sub-with-2
-sub-with-2 c = search needs
+sub-place-bits-2 : tie.Need-sub-place-bits-2
+sub-place-bits-2 c = search needs
 
-part-with-start-2 : tie.Need-part-with-start-2
-part-with-start-2 c = search needs
+part-place-bits-start-2 : tie.Need-part-place-bits-start-2
+part-place-bits-start-2 c = search needs
 
-part-with-end-2 : tie.Need-part-with-end-2
-part-with-end-2 c = search needs
+part-place-bits-end-2 : tie.Need-part-place-bits-end-2
+part-place-bits-end-2 c = search needs
+
+place-bits-requires : tie.Need-place-bits-requires
+place-bits-requires c κs = search needs
 
 with-requires : tie.Need-with-requires
 with-requires c κs = search needs
 
 returns : tie.Need-returns
-returns c = let h = four (c .before .before .before .before .before .before .before .before .before .before .before .before .before) in search (caller-end, needs)
+returns c = let h = four (c .before .before .before .before .before .before .before .before .before .before .before .before .before .before) in search (caller-end, needs)
 
 pub with-caller-spec : {M : Type 1} → statement M
 with-caller-spec =
@@ -61,11 +64,12 @@ with-caller-spec =
     cast-least-2
     least-requires-2
     mul-e
-    sub-with
-    part-with-start
-    part-with-end
-    sub-with-2
-    part-with-start-2
-    part-with-end-2
+    sub-place-bits
+    part-place-bits-start
+    part-place-bits-end
+    sub-place-bits-2
+    part-place-bits-start-2
+    part-place-bits-end-2
+    place-bits-requires
     with-requires
     returns)

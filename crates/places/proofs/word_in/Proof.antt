@@ -1,11 +1,11 @@
--- `number_at`: past the last there is none.
+-- `word_in`: past the last there is none.
 use borrow.Author.Needs.{needs}
 use Rattle.lists.proofs.Counting.{number-none}
-use Rattle.comparisons.proofs.number_at.Statement.{statement}
-use Rattle.comparisons.proofs.number_at.Tie as tie
+use Rattle.places.proofs.word_in.Statement.{statement}
+use Rattle.places.proofs.word_in.Tie as tie
 
-pub number-at-spec : {M : Type 1} → statement M
-number-at-spec =
+pub word-in-spec : {M : Type 1} → statement M
+word-in-spec =
     tie.close
     (tie.spec
     {- returns -}
