@@ -31,8 +31,8 @@ use Rattle.needs.specs.Asking.{needs-in, needs-of}
 use Rattle.needs.proofs.Exact.{needs-exact}
 use Rattle.sides.specs.Sides.{words-of}
 use Rattle.plan.proofs.Rewritten.{Asked}
-use Rattle.evaluate.proofs.Meant.{Checked}
-use Rattle.evaluate.proofs.Spans.{near-offset}
+use Rattle.route_plan.proofs.Meant.{Checked}
+use Rattle.route_plan.proofs.Spans.{near-offset}
 
 -- the rows of a declared stream have a value for each of its columns
 memory-wide : (m : Memory) (s : ℕ) → s < streams-in (m .names) → Wide (table-of (record-of m) s)

@@ -34,9 +34,9 @@ use Rattle.routes.specs.Listing.{open-all, routes-in, numbers-of}
 use Rattle.plan.specs.Plans.{planned}
 use Rattle.sides.specs.Sides.{words-of}
 use Rattle.pairs.specs.Given.{plan-rows}
-use Rattle.evaluate.specs.Ways.{granted-in, way-of}
-use Rattle.evaluate.proofs.Meant.{Checked, route-in, listed}
-use Rattle.evaluate.proofs.Evaluated.{Evaluates, all-evaluates}
+use Rattle.route_plan.specs.Ways.{granted-in, way-of}
+use Rattle.route_plan.proofs.Meant.{Checked, route-in, listed}
+use Rattle.route_plan.proofs.Evaluated.{Evaluates, all-evaluates}
 use Rattle.route_rows.specs.Rows.{plan-width}
 use Rattle.route_cells.specs.Routes.{Setting, plan-of, way-rows, second-number, way-header, way-cells}
 use Rattle.ask.specs.Cells.{routes-cells, run-cells, run-checks}

@@ -30,9 +30,9 @@ use Rattle.plan.specs.declared.Plan.{Plan}
 use Rattle.plan.specs.Plans.{plan-streams}
 use Rattle.sides.specs.Sides.{words-of}
 use Rattle.pairs.specs.Given.{plan-rows}
-use Rattle.evaluate.specs.Ways.{way-of}
-use Rattle.evaluate.proofs.Meant.{Checked, placing}
-use Rattle.evaluate.proofs.Evaluated.{Evaluates, all-evaluates, spans-some}
+use Rattle.route_plan.specs.Ways.{way-of}
+use Rattle.route_plan.proofs.Meant.{Checked, placing}
+use Rattle.route_plan.proofs.Evaluated.{Evaluates, all-evaluates, spans-some}
 use Rattle.route_rows.specs.Rows.{room-end, plan-width}
 use Rattle.route_cells.specs.Routes.{Setting, plan-of, way-rows, way-cells}
 use Rattle.ask.specs.Cells.{most-cells, Evaluable, Ready}

@@ -34,8 +34,8 @@ use Rattle.routes.proofs.Listed.{route-listed}
 use Rattle.print.specs.Writing.{furthest}
 use Rattle.print_query.specs.Texts.{has-room, Lined}
 use Rattle.print_query.specs.declared.Printed.{Printed}
-use Rattle.evaluate.specs.Ways.{way-of}
-use Rattle.evaluate.specs.declared.Way.{Way}
+use Rattle.route_plan.specs.Ways.{way-of}
+use Rattle.route_plan.specs.declared.Way.{Way}
 use Rattle.ask.specs.declared.Reply.{Reply}
 use Rattle.ask.specs.Replies.{refused-with, reply-of, Replies}
 use Rattle.route_line.specs.Texts.{Wording, way-text}

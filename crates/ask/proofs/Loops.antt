@@ -25,8 +25,8 @@ use Rattle.routes.specs.declared.Routes.{Routes}
 use Rattle.routes.specs.Listing.{routes-in, routes-of, route-at, no-route}
 use Rattle.routes.proofs.Listed.{route-listed}
 use Rattle.pairs.specs.Given.{Counted}
-use Rattle.evaluate.specs.Ways.{way-of}
-use Rattle.evaluate.specs.declared.Way.{Way}
+use Rattle.route_plan.specs.Ways.{way-of}
+use Rattle.route_plan.specs.declared.Way.{Way}
 use Rattle.route_cells.proofs.Routes.{set-past}
 use Rattle.route_cells.specs.Kept.{kept-size, kept-at, Keepable, Keeping}
 use Rattle.route_cells.specs.Routes.{Setting, left-of, way-cells, Enterable, Turns}

@@ -38,9 +38,9 @@ use Rattle.routes.proofs.Agreed.{all-unmap}
 use Rattle.sides.specs.Sides.{words-of}
 use Rattle.print.specs.Writing.{furthest}
 use Rattle.print_query.specs.Texts.{table-text}
-use Rattle.evaluate.specs.Ways.{way-of}
-use Rattle.evaluate.proofs.Meant.{Checked, Meant, all-meant, route-in}
-use Rattle.evaluate.proofs.Short.{line-short}
+use Rattle.route_plan.specs.Ways.{way-of}
+use Rattle.route_plan.proofs.Meant.{Checked, Meant, all-meant, route-in}
+use Rattle.route_plan.proofs.Short.{line-short}
 use Rattle.ask.proofs.Cells.{routes-are}
 use Rattle.route_line.specs.Texts.{Wording, written-forms, way-text}
 use Rattle.ask.specs.Lines.{place-of, text-at, Printable}

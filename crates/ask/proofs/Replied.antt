@@ -44,7 +44,7 @@ use Rattle.catalogue.specs.Callers.{roles-of, profile-of}
 use Rattle.catalogue.specs.Opened.{blank, opened-in}
 use Rattle.catalogue.specs.declared.Opened.{Opened}
 use Rattle.catalogue.proofs.Held.{caller-held}
-use Rattle.evaluate.proofs.Meant.{Checked}
+use Rattle.route_plan.proofs.Meant.{Checked}
 use Rattle.ask.specs.declared.Reply.{Reply}
 use Rattle.query_text.specs.declared.Told.{Told}
 use Rattle.ask.specs.Replies.{refused-with, reply-of, Replies}

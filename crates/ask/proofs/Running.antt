@@ -22,7 +22,7 @@ use Rattle.routes.specs.declared.Open.{Open}
 use Rattle.routes.specs.declared.Route.{Route}
 use Rattle.routes.specs.declared.Routes.{Routes}
 use Rattle.routes.specs.Listing.{routes-in, routes-of}
-use Rattle.evaluate.specs.Ways.{way-of}
+use Rattle.route_plan.specs.Ways.{way-of}
 use Rattle.ask.specs.declared.Reply.{Reply}
 use Rattle.ask.specs.Replies.{refused-with, reply-of, Replies}
 use Rattle.route_rows.specs.Rows.{room-end}

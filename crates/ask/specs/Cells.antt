@@ -21,9 +21,9 @@ use Rattle.routes.specs.declared.Open.{Open}
 use Rattle.routes.specs.declared.Route.{Route}
 use Rattle.routes.specs.declared.Routes.{Routes}
 use Rattle.routes.specs.Listing.{routes-in, routes-of, no-route}
-use Rattle.evaluate.specs.Ways.{way-of}
-use Rattle.evaluate.specs.declared.Way.{Way}
-use Rattle.evaluate.specs.Suits.{Suits}
+use Rattle.route_plan.specs.Ways.{way-of}
+use Rattle.route_plan.specs.declared.Way.{Way}
+use Rattle.route_plan.specs.Suits.{Suits}
 use Rattle.route_rows.specs.Rows.{room-end}
 use Rattle.route_cells.specs.Kept.{kept-size, kept-at}
 use Rattle.route_rows.specs.Rows.{most-a-route}

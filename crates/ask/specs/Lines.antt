@@ -20,7 +20,7 @@ use Rattle.routes.specs.declared.Open.{Open}
 use Rattle.routes.specs.declared.Route.{Route}
 use Rattle.routes.specs.Listing.{no-route, routes-in}
 use Rattle.print.specs.Writing.{furthest}
-use Rattle.evaluate.specs.Ways.{way-of}
+use Rattle.route_plan.specs.Ways.{way-of}
 use Rattle.route_line.specs.Texts.{Wording, way-text}
 
 -- the place of the route of a number; routes are numbered from 1

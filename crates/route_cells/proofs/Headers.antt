@@ -14,7 +14,7 @@ use lib.ListN.{set}
 use lib.Seq.{sets}
 use borrow.Author.Tests.{ne-eqb}
 use Rattle.pairs.specs.Given.{Counted}
-use Rattle.evaluate.specs.declared.Way.{Way}
+use Rattle.route_plan.specs.declared.Way.{Way}
 use Rattle.route_cells.specs.Routes.{second-number, way-header}
 
 -- ---- its cells

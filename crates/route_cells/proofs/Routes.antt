@@ -26,9 +26,9 @@ use Rattle.answer.specs.Given.{MostGiven}
 use Rattle.ledger.specs.Records.{Memory}
 use Rattle.ledger.specs.declared.Ledger.{Ledger}
 use Rattle.query.specs.declared.Form.{Form}
-use Rattle.evaluate.specs.Ways.{way-plan}
-use Rattle.evaluate.specs.declared.Way.{Way}
-use Rattle.evaluate.specs.Suits.{Suits}
+use Rattle.route_plan.specs.Ways.{way-plan}
+use Rattle.route_plan.specs.declared.Way.{Way}
+use Rattle.route_plan.specs.Suits.{Suits}
 use Rattle.route_rows.specs.Rows.{plan-width, Gives}
 use Rattle.route_cells.specs.Kept.{Keepable, Keeping}
 use Rattle.route_cells.specs.Routes.{Setting, plan-of, left-of, way-rows, way-header, way-cells, Bounds, Enterable, Turns}
@@ -122,7 +122,7 @@ module _ (m : Memory) (own gs ps : List ℕ) (fs : List Form) (y : Way) (write :
             written = λ z t. absurd (true≢false (sym d ∙ t));
           }
 
-  module _ {w n : ℕ} {cells₁ : List ℤ} (g : w ≡ plan-width q) (h : Gives (plan-width q) (plan-rows m own gs ps q) (record { write = write; at = at + 4; room = room }) cells cells₁ n) where
+  module _ {w n : ℕ} {cells₁ : List ℤ} (g : w ≡ plan-width q) (h : Gives (plan-width q) (plan-rows m own gs ps q) (record { write = write; at = at + 4; room = room; width = w }) cells cells₁ n) where
     wide : 1 ≤ w
     wide = let a = way-wide s y (e .suits) in rw (g, f) a
 

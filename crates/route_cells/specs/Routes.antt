@@ -18,9 +18,9 @@ use Rattle.plan.specs.declared.Plan.{Plan}
 use Rattle.rows.specs.declared.Rows.{Rows}
 use Rattle.sides.specs.Sides.{words-of, left-mask}
 use Rattle.pairs.specs.Given.{Masked, plan-rows, Counted}
-use Rattle.evaluate.specs.Ways.{way-plan}
-use Rattle.evaluate.specs.declared.Way.{Way}
-use Rattle.evaluate.specs.Suits.{Suits}
+use Rattle.route_plan.specs.Ways.{way-plan}
+use Rattle.route_plan.specs.declared.Way.{Way}
+use Rattle.route_plan.specs.Suits.{Suits}
 use Rattle.route_rows.specs.Rows.{room-end, plan-width}
 
 -- what routes are evaluated over: the record, the words of the query and of the grants, the profile, and the query's forms

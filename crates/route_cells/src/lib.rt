@@ -11,11 +11,11 @@ ghost use Rattle.pairs.specs.Given.{Counted};
 ghost use Rattle.route_rows.specs.Rows.{room-end, most-width};
 ghost use Rattle.route_cells.specs.Kept.{kept-size, kept-at, words-in, Keepable, Keeping};
 ghost use Rattle.route_cells.specs.Routes.{second-number, way-header, left-of, Bounds, Enterable, Turns};
-use evaluate::Way;
 use ledger::Ledger;
 use plan::Plan;
 use query::Query;
 use rewrite::Granted;
+use route_plan::Way;
 use route_rows::Aim;
 use routes::Route;
 use rows::Rows;
@@ -97,11 +97,21 @@ fn keep_rows(kept: &mut [u32], i: u32, m: Rows)
     kept[k + 3] = m.d;
 }
 
+// What is wanted of a route: its place among the routes, whether its rows are known, whether it is the last; written from a place of the cells on, or counted as far
+// as the room goes.
+pub struct Turn {
+    pub place: u32,
+    pub known: bool,
+    pub last: bool,
+    pub write: bool,
+    pub at: u32,
+    pub room: u32,
+}
+
 // The rows of the left stream of the plan of the route in a place: as they were kept where they are known, or selected and kept.
 fn left_rows(
     p: Plan,
-    i: u32,
-    known: bool,
+    turn: Turn,
     l: Ledger,
     names: &[u64],
     times: &[u32],
@@ -111,14 +121,14 @@ fn left_rows(
     profile: &[u64],
     kept: &mut [u32],
 ) -> Rows
-    requires { ⌜ Keepable (left-mask (record { ledger = l; names = now names; times = now times; values = now values }) (words-of (now words) (now granted) (now profile)) p) i known (now kept) ⌝ }
-    ensures { λ r. ⌜ (r ≡ left-mask (record { ledger = l; names = now (names .entry); times = now (times .entry); values = now (values .entry) }) (words-of (now (words .entry)) (now (granted .entry)) (now (profile .entry))) p) × Keeping r i (now (kept .entry)) (now (kept .exit)) ⌝ }
+    requires { ⌜ Keepable (left-mask (record { ledger = l; names = now names; times = now times; values = now values }) (words-of (now words) (now granted) (now profile)) p) (turn .place) (turn .known) (now kept) ⌝ }
+    ensures { λ r. ⌜ (r ≡ left-mask (record { ledger = l; names = now (names .entry); times = now (times .entry); values = now (values .entry) }) (words-of (now (words .entry)) (now (granted .entry)) (now (profile .entry))) p) × Keeping r (turn .place) (now (kept .entry)) (now (kept .exit)) ⌝ }
 {
-    if known {
-        return kept_rows(kept, i);
+    if turn.known {
+        return kept_rows(kept, turn.place);
     }
     let m = sides::left(p, l, names, times, values, words, granted, profile);
-    keep_rows(kept, i, m);
+    keep_rows(kept, turn.place, m);
     m
 }
 
@@ -131,27 +141,25 @@ fn bound(
     l: Ledger,
     names: &[u64],
     values: &[i32],
-    at: u32,
-    room: u32,
+    turn: Turn,
 ) -> u32
-    requires { ⌜ (p .number ≡ 0 → w ≤ most-width) × (at ≤ room) × (room ≤ room-end) ⌝ }
-    ensures { λ r. ⌜ Bounds l (now (names .entry)) (now (values .entry)) p w lefts rights at room r ⌝ }
+    requires { ⌜ (p .number ≡ 0 → w ≤ most-width) × (turn .at ≤ turn .room) × (turn .room ≤ room-end) ⌝ }
+    ensures { λ r. ⌜ Bounds l (now (names .entry)) (now (values .entry)) p w lefts rights (turn .at) (turn .room) r ⌝ }
 {
     if p.joined {
         if p.number == 0 {
             let n = answer::most_pairs(p, lefts, rights, l, names, values);
-            return at + HEADER + n * w;
+            return turn.at + HEADER + n * w;
         }
     }
-    room + 1
+    turn.room + 1
 }
 
-// The place after the cells of the route in a place, from a place of the cells on: counted as far as the room goes, and past it where they have none; or written.
+// The place after the cells of a route, as wanted: past the room where they are counted and have none.
 // Of the last route that is counted it may be a later place in the room.
 pub fn enter(
     y: Way,
-    i: u32,
-    known: bool,
+    turn: Turn,
     q: Query,
     l: Ledger,
     names: &[u64],
@@ -161,20 +169,15 @@ pub fn enter(
     granted: &[u32],
     profile: &[u64],
     kept: &mut [u32],
-    write: bool,
-    last: bool,
-    at: u32,
-    room: u32,
     cells: &mut [i64],
 ) -> u32
-    requires { ⌜ Enterable (record { memory = record { ledger = l; names = now names; times = now times; values = now values }; own = now words; granted = now granted; profile = now profile; forms = query-forms q }) y write at room (length (now cells)) × Keepable (left-of (record { memory = record { ledger = l; names = now names; times = now times; values = now values }; own = now words; granted = now granted; profile = now profile; forms = query-forms q }) y) i known (now kept) ⌝ }
-    ensures { λ r. ⌜ Turns (record { memory = record { ledger = l; names = now (names .entry); times = now (times .entry); values = now (values .entry) }; own = now (words .entry); granted = now (granted .entry); profile = now (profile .entry); forms = query-forms q }) y write last at room (now (cells .entry)) (now (cells .exit)) r × Keeping (left-of (record { memory = record { ledger = l; names = now (names .entry); times = now (times .entry); values = now (values .entry) }; own = now (words .entry); granted = now (granted .entry); profile = now (profile .entry); forms = query-forms q }) y) i (now (kept .entry)) (now (kept .exit)) ⌝ }
+    requires { ⌜ Enterable (record { memory = record { ledger = l; names = now names; times = now times; values = now values }; own = now words; granted = now granted; profile = now profile; forms = query-forms q }) y (turn .write) (turn .at) (turn .room) (length (now cells)) × Keepable (left-of (record { memory = record { ledger = l; names = now names; times = now times; values = now values }; own = now words; granted = now granted; profile = now profile; forms = query-forms q }) y) (turn .place) (turn .known) (now kept) ⌝ }
+    ensures { λ r. ⌜ Turns (record { memory = record { ledger = l; names = now (names .entry); times = now (times .entry); values = now (values .entry) }; own = now (words .entry); granted = now (granted .entry); profile = now (profile .entry); forms = query-forms q }) y (turn .write) (turn .last) (turn .at) (turn .room) (now (cells .entry)) (now (cells .exit)) r × Keeping (left-of (record { memory = record { ledger = l; names = now (names .entry); times = now (times .entry); values = now (values .entry) }; own = now (words .entry); granted = now (granted .entry); profile = now (profile .entry); forms = query-forms q }) y) (turn .place) (now (kept .entry)) (now (kept .exit)) ⌝ }
 {
     let p = y.plan(q, names);
     let lefts = left_rows(
         p,
-        i,
-        known,
+        turn,
         l,
         names,
         times,
@@ -186,20 +189,20 @@ pub fn enter(
     );
     let rights = sides::right(p, l, names, times, values, words, granted, profile);
     let w = route_rows::width(p);
-    if last {
-        let end = bound(p, w, lefts, rights, l, names, values, at, room);
-        if end <= room {
+    if turn.last {
+        let end = bound(p, w, lefts, rights, l, names, values, turn);
+        if end <= turn.room {
             return end;
         }
     }
     let aim = Aim {
-        write: write,
-        at: at + HEADER,
-        room: room,
+        write: turn.write,
+        at: turn.at + HEADER,
+        room: turn.room,
+        width: w,
     };
     let n = route_rows::rows(
         p,
-        w,
         lefts,
         rights,
         l,
@@ -212,9 +215,9 @@ pub fn enter(
         aim,
         cells,
     );
-    if !write {
-        return after(n, w, at, room);
+    if !turn.write {
+        return after(n, w, turn.at, turn.room);
     }
-    put_header(y, w, n, cells, at);
-    at + HEADER + n * w
+    put_header(y, w, n, cells, turn.at);
+    turn.at + HEADER + n * w
 }

@@ -10,8 +10,8 @@ use Rattle.query.specs.Tables.{table-words, held, forms-in, rewritten-forms, re
 use Rattle.sides.specs.Sides.{words-of}
 use Rattle.print_query.specs.Texts.{table-text, Lined}
 use Rattle.print_query.specs.declared.Printed.{Printed}
-use Rattle.evaluate.specs.Ways.{way-forms}
-use Rattle.evaluate.specs.declared.Way.{Way}
+use Rattle.route_plan.specs.Ways.{way-forms}
+use Rattle.route_plan.specs.declared.Way.{Way}
 use Rattle.route_line.specs.Texts.{written-forms, way-text}
 
 pub line-written : (ns own ws ps : List ℕ) (fs : List Form) (y : Way) {table : List ℕ} {n : ℕ} {m m′ : Bytes} {r : Printed} → held table n ≡ rewritten-table (replicate table-words 0) (way-forms ns y fs)

@@ -8,8 +8,8 @@ use Rattle.query.specs.declared.Form.{Form}
 use Rattle.query.specs.Tables.{table-words, rewritten-forms, rewritten-table}
 use Rattle.sides.specs.Sides.{words-of}
 use Rattle.print_query.specs.Texts.{table-text}
-use Rattle.evaluate.specs.Ways.{way-forms}
-use Rattle.evaluate.specs.declared.Way.{Way}
+use Rattle.route_plan.specs.Ways.{way-forms}
+use Rattle.route_plan.specs.declared.Way.{Way}
 
 -- what routes are written by: the names of the schema, the words of the query and of the grants, the profile, and the query's forms
 pub record Wording : Type 0 where

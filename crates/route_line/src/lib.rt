@@ -2,9 +2,9 @@
 ghost use Rattle.query.specs.Tables.{query-forms};
 ghost use Rattle.print_query.specs.Texts.{Lined};
 ghost use Rattle.route_line.specs.Texts.{way-text};
-use evaluate::Way;
 use print_query::Printed;
 use query::Query;
+use route_plan::Way;
 
 // Whether there was room for the line of a route, and how long it is.
 pub fn write_line(

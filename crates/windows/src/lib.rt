@@ -15,8 +15,9 @@ ghost use Rattle.windows.specs.Lent.{windows-sound, part-sound, event-so
 use figures::Answer;
 use text::Time;
 
-// The windows of an aggregate: number k covers the times from k * offset up to, not including, k * offset + size.
+// The windows of an aggregate, with its number: window k covers the times from k * offset up to, not including, k * offset + size.
 pub struct Windows {
+    pub number: u32,
     pub clock: u32,
     pub size: u32,
     pub offset: u32,
@@ -450,9 +451,15 @@ fn no_rows() -> Run
     }
 }
 
-// How many answer rows pass with those of the windows from number k to the last, whose first event stands at one place; one more than the room where they are more.
+// Windows one after the other that have the same first event, which stands at a place.
+struct Stretch {
+    event: u32,
+    first: u32,
+    last: u32,
+}
+
+// How many answer rows pass with those of a run of windows; one more than the room where they are more.
 fn count_run(
-    f: u32,
     w: Windows,
     times: &[u32],
     counts: &[u16],
@@ -460,18 +467,16 @@ fn count_run(
     words: &[u32],
     picks: &[u32],
     room: u32,
-    event: u32,
-    k: u32,
-    last: u32,
+    run: Stretch,
     begun: Run,
 ) -> Run
-    requires { ⌜ Bounded w × Timed (w .clock) (now times) × Parts (now times) (now counts) (now parts) × (begun .rows ≤ room) × (begun .rows ≤ k) × (k ≤ last) × Runs w (now times) event k (last + 1) × Kept w (numbered-fn f) (now times) (now counts) (now parts) k (begun .span) ⌝ }
-    ensures { λ r. ⌜ (r .rows ≡ min (begun .rows + length (picked-rows (now (words .entry)) (now (picks .entry)) (run-rows w (numbered-fn f) (now (times .entry)) (now (counts .entry)) (now (parts .entry)) event k (last + 1)))) (suc room)) × Kept w (numbered-fn f) (now (times .entry)) (now (counts .entry)) (now (parts .entry)) (last + 1) (r .span) ⌝ }
+    requires { ⌜ Bounded w × Timed (w .clock) (now times) × Parts (now times) (now counts) (now parts) × (begun .rows ≤ room) × (begun .rows ≤ run .first) × (run .first ≤ run .last) × Runs w (now times) (run .event) (run .first) (run .last + 1) × Kept w (numbered-fn (w .number)) (now times) (now counts) (now parts) (run .first) (begun .span) ⌝ }
+    ensures { λ r. ⌜ (r .rows ≡ min (begun .rows + length (picked-rows (now (words .entry)) (now (picks .entry)) (run-rows w (numbered-fn (w .number)) (now (times .entry)) (now (counts .entry)) (now (parts .entry)) (run .event) (run .first) (run .last + 1)))) (suc room)) × Kept w (numbered-fn (w .number)) (now (times .entry)) (now (counts .entry)) (now (parts .entry)) (run .last + 1) (r .span) ⌝ }
 {
     let mut r = begun.rows;
     let mut span = begun.span;
-    let mut end = k * w.offset + w.size;
-    let last_end = last * w.offset + w.size;
+    let mut end = run.first * w.offset + w.size;
+    let last_end = run.last * w.offset + w.size;
     while end <= last_end {
         if room < r {
             return Run {
@@ -479,8 +484,8 @@ fn count_run(
                 span: span,
             };
         }
-        span = moved(f, times, counts, parts, span, event, end);
-        let a = answer_of(f, span, end);
+        span = moved(w.number, times, counts, parts, span, run.event, end);
+        let a = answer_of(w.number, span, end);
         r = counted(words, picks, a, r);
         end += w.offset;
     }
@@ -492,7 +497,6 @@ fn count_run(
 
 // How many of them pass; one more than the room where they are more.
 fn count_picked(
-    f: u32,
     w: Windows,
     times: &[u32],
     counts: &[u16],
@@ -502,7 +506,7 @@ fn count_picked(
     room: u32,
 ) -> u32
     requires { ⌜ Bounded w × Timed (w .clock) (now times) × Parts (now times) (now counts) (now parts) ⌝ }
-    ensures { λ r. ⌜ r ≡ min (length (picked-rows (now (words .entry)) (now (picks .entry)) (answers w (numbered-fn f) (events-from (now (times .entry)) (now (counts .entry)) (now (parts .entry)) 0)))) (suc room) ⌝ }
+    ensures { λ r. ⌜ r ≡ min (length (picked-rows (now (words .entry)) (now (picks .entry)) (answers w (numbered-fn (w .number)) (events-from (now (times .entry)) (now (counts .entry)) (now (parts .entry)) 0)))) (suc room) ⌝ }
 {
     let mut r = no_rows();
     let mut p = next(w, times, 0, 0);
@@ -513,7 +517,6 @@ fn count_picked(
         let i = p.event as usize;
         let last = last_with(w, times[i]);
         r = count_run(
-            f,
             w,
             times,
             counts,
@@ -521,9 +524,11 @@ fn count_picked(
             words,
             picks,
             room,
-            p.event,
-            p.window,
-            last,
+            Stretch {
+                event: p.event,
+                first: p.window,
+                last: last,
+            },
             r,
         );
         p = next(w, times, last + 1, p.event);
@@ -533,7 +538,6 @@ fn count_picked(
 
 // Returns how many answer rows pass the conditions that end at some places of the words, or one more than the room where they are more; 0 where the events may not be lent.
 pub fn count(
-    f: u32,
     w: Windows,
     times: &[u32],
     counts: &[u16],
@@ -542,7 +546,7 @@ pub fn count(
     picks: &[u32],
     room: u32,
 ) -> u32
-    ensures { λ r. ⌜ r ≡ min (length (picked-rows (now (words .entry)) (now (picks .entry)) (answers-in (numbered-fn f) w (now (times .entry)) (now (counts .entry)) (now (parts .entry))))) (suc room) ⌝ }
+    ensures { λ r. ⌜ r ≡ min (length (picked-rows (now (words .entry)) (now (picks .entry)) (answers-in (numbered-fn (w .number)) w (now (times .entry)) (now (counts .entry)) (now (parts .entry))))) (suc room) ⌝ }
 {
     if !sound(w, times, counts, parts) {
         return 0;
@@ -550,12 +554,11 @@ pub fn count(
     if picks.len() == 0 {
         return count_windows(w, times, room);
     }
-    count_picked(f, w, times, counts, parts, words, picks, room)
+    count_picked(w, times, counts, parts, words, picks, room)
 }
 
-// The answer rows that pass of the windows from number k to the last, whose first event stands at one place, behind those before them; how many there are then.
+// The answer rows that pass of a run of windows, behind those before them; how many there are then.
 fn put_run(
-    f: u32,
     w: Windows,
     times: &[u32],
     counts: &[u16],
@@ -564,21 +567,19 @@ fn put_run(
     picks: &[u32],
     cells: &mut [i64],
     at: u32,
-    event: u32,
-    k: u32,
-    last: u32,
+    run: Stretch,
     begun: Run,
 ) -> Run
-    requires { ⌜ Bounded w × Timed (w .clock) (now times) × Parts (now times) (now counts) (now parts) × (begun .rows ≤ k) × (k ≤ last) × Runs w (now times) event k (last + 1) × Kept w (numbered-fn f) (now times) (now counts) (now parts) k (begun .span) ⌝ }
-    ensures { λ r. ⌜ Behind (picked-rows (now (words .entry)) (now (picks .entry)) (run-rows w (numbered-fn f) (now (times .entry)) (now (counts .entry)) (now (parts .entry)) event k (last + 1))) (now (cells .entry)) at (begun .rows) (now (cells .exit)) (r .rows) × Kept w (numbered-fn f) (now (times .entry)) (now (counts .entry)) (now (parts .entry)) (last + 1) (r .span) ⌝ }
+    requires { ⌜ Bounded w × Timed (w .clock) (now times) × Parts (now times) (now counts) (now parts) × (begun .rows ≤ run .first) × (run .first ≤ run .last) × Runs w (now times) (run .event) (run .first) (run .last + 1) × Kept w (numbered-fn (w .number)) (now times) (now counts) (now parts) (run .first) (begun .span) ⌝ }
+    ensures { λ r. ⌜ Behind (picked-rows (now (words .entry)) (now (picks .entry)) (run-rows w (numbered-fn (w .number)) (now (times .entry)) (now (counts .entry)) (now (parts .entry)) (run .event) (run .first) (run .last + 1))) (now (cells .entry)) at (begun .rows) (now (cells .exit)) (r .rows) × Kept w (numbered-fn (w .number)) (now (times .entry)) (now (counts .entry)) (now (parts .entry)) (run .last + 1) (r .span) ⌝ }
 {
     let mut r = begun.rows;
     let mut span = begun.span;
-    let mut end = k * w.offset + w.size;
-    let last_end = last * w.offset + w.size;
+    let mut end = run.first * w.offset + w.size;
+    let last_end = run.last * w.offset + w.size;
     while end <= last_end {
-        span = moved(f, times, counts, parts, span, event, end);
-        let a = answer_of(f, span, end);
+        span = moved(w.number, times, counts, parts, span, run.event, end);
+        let a = answer_of(w.number, span, end);
         r = put(words, picks, a, cells, at, r);
         end += w.offset;
     }
@@ -590,7 +591,6 @@ fn put_run(
 
 // The cells of those that pass.
 fn write_rows(
-    f: u32,
     w: Windows,
     times: &[u32],
     counts: &[u16],
@@ -601,7 +601,7 @@ fn write_rows(
     at: u32,
 ) -> u32
     requires { ⌜ Bounded w × Timed (w .clock) (now times) × Parts (now times) (now counts) (now parts) ⌝ }
-    ensures { λ r. ⌜ Written (picked-rows (now (words .entry)) (now (picks .entry)) (answers w (numbered-fn f) (events-from (now (times .entry)) (now (counts .entry)) (now (parts .entry)) 0))) (now (cells .entry)) at (now (cells .exit)) r ⌝ }
+    ensures { λ r. ⌜ Written (picked-rows (now (words .entry)) (now (picks .entry)) (answers w (numbered-fn (w .number)) (events-from (now (times .entry)) (now (counts .entry)) (now (parts .entry)) 0))) (now (cells .entry)) at (now (cells .exit)) r ⌝ }
 {
     let mut r = no_rows();
     let mut p = next(w, times, 0, 0);
@@ -609,7 +609,6 @@ fn write_rows(
         let i = p.event as usize;
         let last = last_with(w, times[i]);
         r = put_run(
-            f,
             w,
             times,
             counts,
@@ -618,9 +617,11 @@ fn write_rows(
             picks,
             cells,
             at,
-            p.event,
-            p.window,
-            last,
+            Stretch {
+                event: p.event,
+                first: p.window,
+                last: last,
+            },
             r,
         );
         p = next(w, times, last + 1, p.event);
@@ -631,7 +632,6 @@ fn write_rows(
 // Returns how many answer rows pass the conditions that end at some places of the words; 0 where the events may not be lent.
 // Leaves two cells a row from a place on, its end and its figure, as far as there are cells, and all others as they were.
 pub fn write(
-    f: u32,
     w: Windows,
     times: &[u32],
     counts: &[u16],
@@ -641,10 +641,10 @@ pub fn write(
     cells: &mut [i64],
     at: u32,
 ) -> u32
-    ensures { λ r. ⌜ Written (picked-rows (now (words .entry)) (now (picks .entry)) (answers-in (numbered-fn f) w (now (times .entry)) (now (counts .entry)) (now (parts .entry)))) (now (cells .entry)) at (now (cells .exit)) r ⌝ }
+    ensures { λ r. ⌜ Written (picked-rows (now (words .entry)) (now (picks .entry)) (answers-in (numbered-fn (w .number)) w (now (times .entry)) (now (counts .entry)) (now (parts .entry)))) (now (cells .entry)) at (now (cells .exit)) r ⌝ }
 {
     if !sound(w, times, counts, parts) {
         return 0;
     }
-    write_rows(f, w, times, counts, parts, words, picks, cells, at)
+    write_rows(w, times, counts, parts, words, picks, cells, at)
 }

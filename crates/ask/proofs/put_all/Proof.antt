@@ -11,15 +11,15 @@ use Rattle.ask.proofs.put_all.Statement.{statement}
 use Rattle.ask.proofs.put_all.Tie as tie
 
 abbrev Inv-loop : tie.InvT-loop
-Inv-loop q n o r l names times values words granted profile room known kept₀ cells₀ at₀ i₀ kept cells at i =
-    (i ≤ r .count)
-    × (cells ≡ sets cells₀ 1 (first-cells (record { memory = record { ledger = l; names = names; times = times; values = values }; own = words; granted = granted; profile = profile; forms = query-forms q }) o n i))
-    × (at ≡ suc (length (first-cells (record { memory = record { ledger = l; names = names; times = times; values = values }; own = words; granted = granted; profile = profile; forms = query-forms q }) o n i)))
-    × Keeps (record { memory = record { ledger = l; names = names; times = times; values = values }; own = words; granted = granted; profile = profile; forms = query-forms q }) o n known kept
+Inv-loop q o task l names times values words granted profile kept₀ cells₀ at₀ i₀ kept cells at i =
+    (i ≤ task .routes .count)
+    × (cells ≡ sets cells₀ 1 (first-cells (record { memory = record { ledger = l; names = names; times = times; values = values }; own = words; granted = granted; profile = profile; forms = query-forms q }) o (task .needs) i))
+    × (at ≡ suc (length (first-cells (record { memory = record { ledger = l; names = names; times = times; values = values }; own = words; granted = granted; profile = profile; forms = query-forms q }) o (task .needs) i)))
+    × Keeps (record { memory = record { ledger = l; names = names; times = times; values = values }; own = words; granted = granted; profile = profile; forms = query-forms q }) o (task .needs) (task .known) kept
     × (length kept ≡ length kept₀)
 
 abbrev μ-loop : tie.MeasureT-loop
-μ-loop q n o r l names times values words granted profile room known kept₀ cells₀ at₀ i₀ kept cells at i = r .count - i
+μ-loop q o task l names times values words granted profile kept₀ cells₀ at₀ i₀ kept cells at i = task .routes .count - i
 
 loop-holds : tie.Need-loop-holds Inv-loop μ-loop
 loop-holds c = let x = write-start _ _ _ (c .before .before .before .before .before .before .pre .0) _ in (omega arith, x .0, x .1, c .before .before .before .before .before .before .pre .2, refl)
@@ -31,7 +31,7 @@ of-requires : tie.Need-of-requires Inv-loop μ-loop
 of-requires c κs = search needs
 
 enter-requires : tie.Need-enter-requires Inv-loop μ-loop
-enter-requires c κs = (write-ready _ _ _ (c .before .before .before .before .before .before .before .before .before .before .before .before .before .pre .0) (c .before .before .before .before .if1 .taken) (c .before .before .before .route .ensures) (c .before .before .of .ensures) (c .before .before .before .before .before .before .before .before .before .before .before .before .before .pre .1) (c .before .before .before .before .before .before .loop .cells) (write-long _ _ _ (c .before .before .before .before .before .before .before .before .before .before .before .before .before .pre .0) _ (c .before .before .before .before .before .before .loop .i) (c .before .before .before .before .before .before .loop .inv .1)) (c .before .before .before .before .before .before .loop .inv .2), keep-known _ _ _ (c .before .before .before .before .before .before .before .before .before .before .before .before .before .pre .0) (c .before .before .before .before .if1 .taken) (c .before .before .before .route .ensures) (c .before .before .of .ensures) (c .before .before .before .before .before .before .loop .inv .3))
+enter-requires c κs = (write-ready _ _ _ (c .before .before .before .before .before .before .before .before .before .before .before .before .before .before .pre .0) (c .before .before .before .before .before .if1 .taken) (c .before .before .before .before .route .ensures) (c .before .before .before .of .ensures) (c .before .before .before .before .before .before .before .before .before .before .before .before .before .before .pre .1) (c .before .before .before .before .before .before .before .loop .cells) (write-long _ _ _ (c .before .before .before .before .before .before .before .before .before .before .before .before .before .before .pre .0) _ (c .before .before .before .before .before .before .before .loop .i) (c .before .before .before .before .before .before .before .loop .inv .1)) (c .before .before .before .before .before .before .before .loop .inv .2), keep-known _ _ _ (c .before .before .before .before .before .before .before .before .before .before .before .before .before .before .pre .0) (c .before .before .before .before .before .if1 .taken) (c .before .before .before .before .route .ensures) (c .before .before .before .of .ensures) (c .before .before .before .before .before .before .before .loop .inv .3))
 
 add-i : tie.Need-add-i Inv-loop μ-loop
 add-i c = search needs
@@ -41,8 +41,8 @@ loop-less c = omega arith
 
 loop-again : tie.Need-loop-again Inv-loop μ-loop
 loop-again c =
-    let x = write-more _ _ _ (c .before .before .before .before .before .before .before .before .before .before .before .before .before .before .before .before .before .pre .0) (c .before .before .before .before .before .before .before .before .if1 .taken) (c .before .before .before .before .before .before .before .route .ensures) (c .before .before .before .before .before .before .of .ensures) (c .before .before .before .before .before .before .before .before .before .before .before .before .before .before .before .before .before .pre .1) _ (c .before .before .before .before .before .before .before .before .before .before .loop .inv .2) (c .before .before .before .before .before .before .before .before .before .before .loop .inv .1) (c .before .before .before .enter .ensures .0) in
-    (omega arith, x .0, x .1, keep-still _ _ _ (c .before .before .before .before .before .before .before .before .before .before .before .before .before .before .before .before .before .pre .0) (c .before .before .before .before .before .before .before .before .if1 .taken) (c .before .before .before .before .before .before .before .route .ensures) (c .before .before .before .before .before .before .of .ensures) (c .before .before .before .before .before .before .before .before .before .before .loop .inv .3) (c .before .before .before .enter .ensures .1), c .before .before .before .enter .ensures .1 .size ∙ c .before .before .before .before .before .before .before .before .before .before .loop .inv .4)
+    let x = write-more _ _ _ (c .before .before .before .before .before .before .before .before .before .before .before .before .before .before .before .before .before .before .pre .0) (c .before .before .before .before .before .before .before .before .before .if1 .taken) (c .before .before .before .before .before .before .before .before .route .ensures) (c .before .before .before .before .before .before .before .of .ensures) (c .before .before .before .before .before .before .before .before .before .before .before .before .before .before .before .before .before .before .pre .1) _ (c .before .before .before .before .before .before .before .before .before .before .before .loop .inv .2) (c .before .before .before .before .before .before .before .before .before .before .before .loop .inv .1) (c .before .before .before .enter .ensures .0) in
+    (omega arith, x .0, x .1, keep-still _ _ _ (c .before .before .before .before .before .before .before .before .before .before .before .before .before .before .before .before .before .before .pre .0) (c .before .before .before .before .before .before .before .before .before .if1 .taken) (c .before .before .before .before .before .before .before .before .route .ensures) (c .before .before .before .before .before .before .before .of .ensures) (c .before .before .before .before .before .before .before .before .before .before .before .loop .inv .3) (c .before .before .before .enter .ensures .1), c .before .before .before .enter .ensures .1 .size ∙ c .before .before .before .before .before .before .before .before .before .before .before .loop .inv .4)
 
 cast-put-number : tie.Need-cast-put-number Inv-loop μ-loop
 cast-put-number c = search needs

@@ -11,17 +11,17 @@ add-result : tie.Need-add-result
 add-result c = search needs
 
 mul-result : tie.Need-mul-result
-mul-result c = let h = bound-small (c .most-pairs .ensures .low) (c .before .before .before .before .before .pre .0 (c .before .if2 .taken)) in record { fits = omega arith }
+mul-result c = let h = bound-small (c .before .most-pairs .ensures .low) (c .before .before .before .before .before .before .pre .0 (c .before .before .if2 .taken)) in record { fits = omega arith }
 
 add-result-2 : tie.Need-add-result-2
 add-result-2 c =
-    let h = bound-small (c .most-pairs .ensures .low) (c .before .before .before .before .before .pre .0 (c .before .if2 .taken)) in
-    let a = c .before .before .before .before .before .pre .1 in
-    let b = c .before .before .before .before .before .pre .2 in
+    let h = bound-small (c .before .most-pairs .ensures .low) (c .before .before .before .before .before .before .pre .0 (c .before .before .if2 .taken)) in
+    let a = c .before .before .before .before .before .before .pre .1 in
+    let b = c .before .before .before .before .before .before .pre .2 in
     record { fits = omega arith }
 
 returns : tie.Need-returns
-returns c = bound-made _ _ _ _ _ _ _ _ _ (c .before .before .before .if1 .taken) (c .before .if2 .taken) (c .most-pairs .ensures)
+returns c = bound-made _ _ _ _ _ _ _ _ _ (c .before .before .before .before .if1 .taken) (c .before .before .if2 .taken) (c .before .most-pairs .ensures)
 
 add-result-3 : tie.Need-add-result-3
 add-result-3 c = search needs

@@ -20,49 +20,49 @@ bound-requires : tie.Need-bound-requires
 bound-requires c κs = bound-ready _ _ _ _ _ _ _ _ _ (c .before .before .before .before .before .before .before .before .before .before .before .before .before .before .args .cells .now) (c .before .before .before .before .before .before .before .before .before .before .before .before .before .before .pre .0) (c .before .before .before .before .before .before .before .plan .ensures) (c .before .width .ensures)
 
 same-length : tie.Need-same-length
-same-length c = c .before .before .before .before .before .before .before .left-rows .ensures .1 .size
+same-length c = c .before .before .before .before .before .before .before .before .left-rows .ensures .1 .size
 
 returns : tie.Need-returns
-returns c = (route-bounded _ _ _ _ _ _ _ _ _ _ (c .before .before .before .before .before .before .before .before .before .before .before .before .before .before .before .before .pre .0) (c .before .before .before .before .before .before .before .before .before .plan .ensures) (c .before .before .before .width .ensures) (c .before .before .before .before .before .before .before .left-rows .ensures .0) (c .before .before .before .before .right .ensures) (c .before .bound .ensures) (c .if2 .taken) (c .before .before .if1 .taken), left-kept _ _ _ _ _ _ _ _ _ (c .before .before .before .before .before .before .before .before .before .before .before .before .before .before .before .before .args .cells .now) (c .before .before .before .before .before .before .before .before .before .before .before .before .before .before .before .before .pre .0) (c .before .before .before .before .before .before .before .before .before .plan .ensures) (c .before .before .before .before .before .before .before .left-rows .ensures .0) (c .before .before .before .before .before .before .before .left-rows .ensures .1))
+returns c = (route-bounded _ _ _ _ _ _ _ _ _ _ (c .before .before .before .before .before .before .before .before .before .before .before .before .before .before .before .before .before .pre .0) (c .before .before .before .before .before .before .before .before .before .before .plan .ensures) (c .before .before .before .before .width .ensures) (c .before .before .before .before .before .before .before .before .left-rows .ensures .0) (c .before .before .before .before .before .right .ensures) (c .before .before .bound .ensures) (c .if2 .taken) (c .before .before .before .if1 .taken), left-kept _ _ _ _ _ _ _ _ _ (c .before .before .before .before .before .before .before .before .before .before .before .before .before .before .before .before .before .args .cells .now) (c .before .before .before .before .before .before .before .before .before .before .before .before .before .before .before .before .before .pre .0) (c .before .before .before .before .before .before .before .before .before .before .plan .ensures) (c .before .before .before .before .before .before .before .before .left-rows .ensures .0) (c .before .before .before .before .before .before .before .before .left-rows .ensures .1))
 
 add-result : tie.Need-add-result
-add-result c = let a = c .before .before .before .before .before .before .before .before .before .before .before .before .before .before .pre .0 .from in let b = c .before .before .before .before .before .before .before .before .before .before .before .before .before .before .pre .0 .near in record { fits = omega arith }
+add-result c = let a = c .before .before .before .before .before .before .before .before .before .before .before .before .before .before .before .pre .0 .from in let b = c .before .before .before .before .before .before .before .before .before .before .before .before .before .before .before .pre .0 .near in record { fits = omega arith }
 
 rows-requires : tie.Need-rows-requires
-rows-requires c κs = let x = rows-ready _ _ _ _ _ _ _ _ _ (c .before .before .before .before .before .before .before .before .before .before .before .before .before .before .before .args .cells .now) (c .before .before .before .before .before .before .before .before .before .before .before .before .before .before .before .pre .0) (c .before .before .before .before .before .before .before .before .plan .ensures) (c .before .before .before .before .before .before .left-rows .ensures .0) (c .before .before .before .right .ensures) in (x .0, x .1, c .before .before .width .ensures)
+rows-requires c κs = let x = rows-ready _ _ _ _ _ _ _ _ _ (c .before .before .before .before .before .before .before .before .before .before .before .before .before .before .before .before .args .cells .now) (c .before .before .before .before .before .before .before .before .before .before .before .before .before .before .before .before .pre .0) (c .before .before .before .before .before .before .before .before .before .plan .ensures) (c .before .before .before .before .before .before .before .left-rows .ensures .0) (c .before .before .before .before .right .ensures) in (x .0, x .1, c .before .before .before .width .ensures)
 
 after-requires : tie.Need-after-requires
-after-requires c κs = after-ready _ _ _ _ _ _ _ _ _ _ (c .before .before .before .before .before .before .before .before .before .before .before .before .before .before .before .before .before .before .pre .0) (c .before .before .before .before .before .before .before .before .before .before .before .plan .ensures) (c .before .before .before .before .before .width .ensures) (c .before .before .rows .ensures)
+after-requires c κs = after-ready _ _ _ _ _ _ _ _ _ _ (c .before .before .before .before .before .before .before .before .before .before .before .before .before .before .before .before .before .before .before .before .pre .0) (c .before .before .before .before .before .before .before .before .before .before .before .before .before .plan .ensures) (c .before .before .before .before .before .before .before .width .ensures) (c .before .before .before .rows .ensures)
 
 same-length-2 : tie.Need-same-length-2
-same-length-2 c = c .before .before .before .before .before .before .before .before .before .before .left-rows .ensures .1 .size
+same-length-2 c = c .before .before .before .before .before .before .before .before .before .before .before .before .left-rows .ensures .1 .size
 
 same-length-3 : tie.Need-same-length-3
 same-length-3 c = search needs
 
 returns-2 : tie.Need-returns-2
-returns-2 c = (route-counted _ _ _ _ _ _ _ _ _ _ (c .before .before .before .before .before .before .before .before .before .before .before .before .before .before .before .before .before .before .before .pre .0) (c .before .before .before .before .before .before .before .before .before .before .before .before .plan .ensures) (c .before .before .before .before .before .before .width .ensures) (c .before .before .before .rows .ensures) (c .before .if3 .taken) (c .after .ensures), left-kept _ _ _ _ _ _ _ _ _ (c .before .before .before .before .before .before .before .before .before .before .before .before .before .before .before .before .before .before .before .args .cells .now) (c .before .before .before .before .before .before .before .before .before .before .before .before .before .before .before .before .before .before .before .pre .0) (c .before .before .before .before .before .before .before .before .before .before .before .before .plan .ensures) (c .before .before .before .before .before .before .before .before .before .before .left-rows .ensures .0) (c .before .before .before .before .before .before .before .before .before .before .left-rows .ensures .1))
+returns-2 c = (route-counted _ _ _ _ _ _ _ _ _ _ (c .before .before .before .before .before .before .before .before .before .before .before .before .before .before .before .before .before .before .before .before .before .pre .0) (c .before .before .before .before .before .before .before .before .before .before .before .before .before .before .plan .ensures) (c .before .before .before .before .before .before .before .before .width .ensures) (c .before .before .before .before .rows .ensures) (c .before .if3 .taken) (c .after .ensures), left-kept _ _ _ _ _ _ _ _ _ (c .before .before .before .before .before .before .before .before .before .before .before .before .before .before .before .before .before .before .before .before .before .args .cells .now) (c .before .before .before .before .before .before .before .before .before .before .before .before .before .before .before .before .before .before .before .before .before .pre .0) (c .before .before .before .before .before .before .before .before .before .before .before .before .before .before .plan .ensures) (c .before .before .before .before .before .before .before .before .before .before .before .before .left-rows .ensures .0) (c .before .before .before .before .before .before .before .before .before .before .before .before .left-rows .ensures .1))
 
 put-header-requires : tie.Need-put-header-requires
-put-header-requires c κs = header-ready _ _ _ _ _ _ _ _ _ _ (c .before .before .before .before .before .before .before .before .before .before .before .before .before .before .before .before .before .before .before .pre .0) (c .before .before .before .before .before .before .before .before .before .before .before .before .plan .ensures) (c .before .before .before .before .before .before .width .ensures) (c .before .before .before .rows .ensures) (c .before .if3 .left)
+put-header-requires c κs = header-ready _ _ _ _ _ _ _ _ _ _ (c .before .before .before .before .before .before .before .before .before .before .before .before .before .before .before .before .before .before .before .before .before .pre .0) (c .before .before .before .before .before .before .before .before .before .before .before .before .before .before .plan .ensures) (c .before .before .before .before .before .before .before .before .width .ensures) (c .before .before .before .before .rows .ensures) (c .before .if3 .left)
 
 add-result-2 : tie.Need-add-result-2
-add-result-2 c = header-fits _ _ _ _ _ _ _ _ _ _ (c .before .before .before .before .before .before .before .before .before .before .before .before .before .before .before .before .before .before .before .before .before .pre .0) (c .before .before .before .before .before .before .before .before .before .before .before .before .before .before .plan .ensures) (c .before .before .before .before .before .before .before .before .width .ensures) (c .before .before .before .before .before .rows .ensures) (c .before .before .before .if3 .left)
+add-result-2 c = header-fits _ _ _ _ _ _ _ _ _ _ (c .before .before .before .before .before .before .before .before .before .before .before .before .before .before .before .before .before .before .before .before .before .before .before .before .pre .0) (c .before .before .before .before .before .before .before .before .before .before .before .before .before .before .before .before .before .plan .ensures) (c .before .before .before .before .before .before .before .before .before .before .before .width .ensures) (c .before .before .before .before .before .before .before .rows .ensures) (c .before .before .before .before .if3 .left)
 
 mul-result : tie.Need-mul-result
-mul-result c = rows-fit _ _ _ _ _ _ _ _ _ _ (c .before .before .before .before .before .before .before .before .before .before .before .before .before .before .before .before .before .before .before .before .before .pre .0) (c .before .before .before .before .before .before .before .before .before .before .before .before .before .before .plan .ensures) (c .before .before .before .before .before .before .before .before .width .ensures) (c .before .before .before .before .before .rows .ensures) (c .before .before .before .if3 .left)
+mul-result c = rows-fit _ _ _ _ _ _ _ _ _ _ (c .before .before .before .before .before .before .before .before .before .before .before .before .before .before .before .before .before .before .before .before .before .before .before .before .pre .0) (c .before .before .before .before .before .before .before .before .before .before .before .before .before .before .before .before .before .plan .ensures) (c .before .before .before .before .before .before .before .before .before .before .before .width .ensures) (c .before .before .before .before .before .before .before .rows .ensures) (c .before .before .before .before .if3 .left)
 
 add-result-3 : tie.Need-add-result-3
-add-result-3 c = route-fits _ _ _ _ _ _ _ _ _ _ (c .before .before .before .before .before .before .before .before .before .before .before .before .before .before .before .before .before .before .before .before .before .pre .0) (c .before .before .before .before .before .before .before .before .before .before .before .before .before .before .plan .ensures) (c .before .before .before .before .before .before .before .before .width .ensures) (c .before .before .before .before .before .rows .ensures) (c .before .before .before .if3 .left)
+add-result-3 c = route-fits _ _ _ _ _ _ _ _ _ _ (c .before .before .before .before .before .before .before .before .before .before .before .before .before .before .before .before .before .before .before .before .before .before .before .before .pre .0) (c .before .before .before .before .before .before .before .before .before .before .before .before .before .before .before .before .before .plan .ensures) (c .before .before .before .before .before .before .before .before .before .before .before .width .ensures) (c .before .before .before .before .before .before .before .rows .ensures) (c .before .before .before .before .if3 .left)
 
 same-length-4 : tie.Need-same-length-4
-same-length-4 c = c .before .before .before .before .before .before .before .before .before .before .before .before .left-rows .ensures .1 .size
+same-length-4 c = c .before .before .before .before .before .before .before .before .before .before .before .before .before .before .before .left-rows .ensures .1 .size
 
 same-length-5 : tie.Need-same-length-5
 same-length-5 c = search needs
 
 returns-3 : tie.Need-returns-3
-returns-3 c = (route-written _ _ _ _ _ _ _ _ _ _ (c .before .before .before .before .before .before .before .before .before .before .before .before .before .before .before .before .before .before .before .before .before .pre .0) (c .before .before .before .before .before .before .before .before .before .before .before .before .before .before .plan .ensures) (c .before .before .before .before .before .before .before .before .width .ensures) (c .before .before .before .before .before .rows .ensures) (c .before .before .before .if3 .left) (c .before .put-header .ensures), left-kept _ _ _ _ _ _ _ _ _ (c .before .before .before .before .before .before .before .before .before .before .before .before .before .before .before .before .before .before .before .before .before .args .cells .now) (c .before .before .before .before .before .before .before .before .before .before .before .before .before .before .before .before .before .before .before .before .before .pre .0) (c .before .before .before .before .before .before .before .before .before .before .before .before .before .before .plan .ensures) (c .before .before .before .before .before .before .before .before .before .before .before .before .left-rows .ensures .0) (c .before .before .before .before .before .before .before .before .before .before .before .before .left-rows .ensures .1))
+returns-3 c = (route-written _ _ _ _ _ _ _ _ _ _ (c .before .before .before .before .before .before .before .before .before .before .before .before .before .before .before .before .before .before .before .before .before .before .before .before .pre .0) (c .before .before .before .before .before .before .before .before .before .before .before .before .before .before .before .before .before .plan .ensures) (c .before .before .before .before .before .before .before .before .before .before .before .width .ensures) (c .before .before .before .before .before .before .before .rows .ensures) (c .before .before .before .before .if3 .left) (c .before .before .put-header .ensures), left-kept _ _ _ _ _ _ _ _ _ (c .before .before .before .before .before .before .before .before .before .before .before .before .before .before .before .before .before .before .before .before .before .before .before .before .args .cells .now) (c .before .before .before .before .before .before .before .before .before .before .before .before .before .before .before .before .before .before .before .before .before .before .before .before .pre .0) (c .before .before .before .before .before .before .before .before .before .before .before .before .before .before .before .before .before .plan .ensures) (c .before .before .before .before .before .before .before .before .before .before .before .before .before .before .before .left-rows .ensures .0) (c .before .before .before .before .before .before .before .before .before .before .before .before .before .before .before .left-rows .ensures .1))
 
 pub enter-spec : {M : Type 1} → statement M
 enter-spec =

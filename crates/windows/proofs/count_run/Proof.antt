@@ -14,117 +14,117 @@ use Rattle.windows.proofs.count_run.Statement.{statement}
 use Rattle.windows.proofs.count_run.Tie as tie
 
 abbrev Inv-loop : tie.InvT-loop
-Inv-loop f w times counts parts words picks room event k last r₀ span₀ end₀ last-end r span end =
-    (j : ℕ) × (end ≡ j * w .offset + w .size) × (k ≤ j) × (j ≤ last + 1) × (r ≤ j) × (r ≤ suc room) × (last-end ≡ last * w .offset + w .size)
-    × (r + length (run-left w (numbered-fn f) times counts parts words picks event j (last + 1)) ≡ r₀ + length (picked-rows words picks (run-rows w (numbered-fn f) times counts parts event k (last + 1))))
-    × Kept w (numbered-fn f) times counts parts j span
+Inv-loop w times counts parts words picks room run r₀ span₀ end₀ last-end r span end =
+    (j : ℕ) × (end ≡ j * w .offset + w .size) × (run .first ≤ j) × (j ≤ run .last + 1) × (r ≤ j) × (r ≤ suc room) × (last-end ≡ run .last * w .offset + w .size)
+    × (r + length (run-left w (numbered-fn (w .number)) times counts parts words picks (run .event) j (run .last + 1)) ≡ r₀ + length (picked-rows words picks (run-rows w (numbered-fn (w .number)) times counts parts (run .event) (run .first) (run .last + 1))))
+    × Kept w (numbered-fn (w .number)) times counts parts j span
 
 abbrev μ-loop : tie.MeasureT-loop
-μ-loop f w times counts parts words picks room event k last r₀ span₀ end₀ last-end r span end = suc last-end - end
+μ-loop w times counts parts words picks room run r₀ span₀ end₀ last-end r span end = suc last-end - end
 
 mul-end : tie.Need-mul-end Inv-loop μ-loop
 mul-end c =
-    let s = c .before .before .before .before .before .before in
-    omega (arith, s .pre .6 (s .args .k) (omega arith) (omega arith) .ended, s .pre .0 .clock)
+    let s = c .before .before .before .before .before .before .before in
+    omega (arith, s .pre .6 (s .args .run .first) (omega arith) (omega arith) .ended, s .pre .0 .clock)
 
 add-end : tie.Need-add-end Inv-loop μ-loop
 add-end c =
-    let s = c .before .before .before .before .before .before .before in
-    omega (arith, s .pre .6 (s .args .k) (omega arith) (omega arith) .ended, s .pre .0 .clock)
+    let s = c .before .before .before .before .before .before .before .before in
+    omega (arith, s .pre .6 (s .args .run .first) (omega arith) (omega arith) .ended, s .pre .0 .clock)
 
 mul-last-end : tie.Need-mul-last-end Inv-loop μ-loop
 mul-last-end c =
-    let s = c .before .before .before .before .before .before .before .before in
-    omega (arith, s .pre .6 (s .args .last) (omega arith) (omega arith) .ended, s .pre .0 .clock)
+    let s = c .before .before .before .before .before .before .before .before .before .before in
+    omega (arith, s .pre .6 (s .args .run .last) (omega arith) (omega arith) .ended, s .pre .0 .clock)
 
 add-last-end : tie.Need-add-last-end Inv-loop μ-loop
 add-last-end c =
-    let s = c .before .before .before .before .before .before .before .before .before in
-    omega (arith, s .pre .6 (s .args .last) (omega arith) (omega arith) .ended, s .pre .0 .clock)
+    let s = c .before .before .before .before .before .before .before .before .before .before .before in
+    omega (arith, s .pre .6 (s .args .run .last) (omega arith) (omega arith) .ended, s .pre .0 .clock)
 
 loop-holds : tie.Need-loop-holds Inv-loop μ-loop
 loop-holds c =
-    let s = c .before .before .before .before .before .before .before .before .before in
+    let s = c .before .before .before .before .before .before .before .before .before .before .before in
     let a = s .args in
-    (a .k, refl, omega arith, omega arith, omega arith, omega arith, refl, omega arith, s .pre .7)
+    (a .run .first, refl, omega arith, omega arith, omega arith, omega arith, refl, omega arith, s .pre .7)
 
 returns : tie.Need-returns Inv-loop μ-loop
 returns c =
-    let a = c .before .before .before .before .before .before .before .before .before .before .before .before .args in
+    let a = c .before .before .before .before .before .before .before .before .before .before .before .before .before .before .args in
     let l = c .before .before .loop in
     let r = l .inv .5 in
     let e = l .inv .7 in
-    (omega arith, kept-on (a .w) (numbered-fn (a .f)) (a .times .now) (a .counts .now) (a .parts .now) (l .inv .0) (a .last + 1) (l .inv .8) (l .inv .3))
+    (omega arith, kept-on (a .w) (numbered-fn (a .w .number)) (a .times .now) (a .counts .now) (a .parts .now) (l .inv .0) (a .run .last + 1) (l .inv .8) (l .inv .3))
 
 moved-requires : tie.Need-moved-requires Inv-loop μ-loop
 moved-requires c κs =
-    let s = c .before .before .before .before .before .before .before .before .before .before .before .before in
+    let s = c .before .before .before .before .before .before .before .before .before .before .before .before .before .before in
     let a = s .args in
     let l = c .before .before .loop in
     let j = l .inv .0 in
-    let t = end-in (a .w) j (a .last) (l .inv .1) (l .inv .6) (s .pre .0 .offset) (c .before .loop-test .taken) in
+    let t = end-in (a .w) j (a .run .last) (l .inv .1) (l .inv .6) (s .pre .0 .offset) (c .before .loop-test .taken) in
     let x = l .inv .1 in
     let y = l .inv .2 in
     let h = s .pre .6 j (omega arith) (omega arith) in
     let p = l .inv .8 in
-    (s .pre .1 .order, s .pre .2, h .within, omega (arith, h .inside), p .spans, kept-from (a .w) (numbered-fn (a .f)) (a .times .now) (a .counts .now) (a .parts .now) j j (a .event) p (omega arith) h, λ m b. omega (arith, p .ended m b))
+    (s .pre .1 .order, s .pre .2, h .within, omega (arith, h .inside), p .spans, kept-from (a .w) (numbered-fn (a .w .number)) (a .times .now) (a .counts .now) (a .parts .now) j j (a .run .event) p (omega arith) h, λ m b. omega (arith, p .ended m b))
 
 answer-of-requires : tie.Need-answer-of-requires Inv-loop μ-loop
 answer-of-requires c κs = c .moved .ensures .4
 
 counted-requires : tie.Need-counted-requires Inv-loop μ-loop
 counted-requires c κs =
-    let s = c .before .before .before .before .before .before .before .before .before .before .before .before .before .before in
+    let s = c .before .before .before .before .before .before .before .before .before .before .before .before .before .before .before .before in
     let l = c .before .before .before .before .loop in
     let j = l .inv .0 in
-    let h = end-in (s .args .w) j (s .args .last) (l .inv .1) (l .inv .6) (s .pre .0 .offset) (c .before .before .before .loop-test .taken) in
+    let h = end-in (s .args .w) j (s .args .run .last) (l .inv .1) (l .inv .6) (s .pre .0 .offset) (c .before .before .before .loop-test .taken) in
     let x = l .inv .2 in
-    let m = held-below (s .args .w) (s .args .times .now) j (s .args .event) (s .pre .0 .offset) (s .pre .6 j (omega arith) (omega arith)) in
+    let m = held-below (s .args .w) (s .args .times .now) j (s .args .run .event) (s .pre .0 .offset) (s .pre .6 j (omega arith) (omega arith)) in
     omega (arith, l .inv .4, s .pre .0 .clock)
 
 add-end-2 : tie.Need-add-end-2 Inv-loop μ-loop
 add-end-2 c =
-    let s = c .before .before .before .before .before .before .before .before .before .before .before .before .before .before .before .before in
+    let s = c .before .before .before .before .before .before .before .before .before .before .before .before .before .before .before .before .before .before in
     let l = c .before .before .before .before .before .before .loop in
     let j = l .inv .0 in
-    let h = end-in (s .args .w) j (s .args .last) (l .inv .1) (l .inv .6) (s .pre .0 .offset) (c .before .before .before .before .before .loop-test .taken) in
+    let h = end-in (s .args .w) j (s .args .run .last) (l .inv .1) (l .inv .6) (s .pre .0 .offset) (c .before .before .before .before .before .loop-test .taken) in
     let x = l .inv .2 in
     omega (arith, l .inv .1, s .pre .6 j (omega arith) (omega arith) .ended, s .pre .0 .clock, s .pre .0 .offsets)
 
 loop-less : tie.Need-loop-less Inv-loop μ-loop
-loop-less c = let s = c .before .before .before .before .before .before .before .before .before .before .before .before .before .before .before .before in omega (arith, s .pre .0 .offset)
+loop-less c = let s = c .before .before .before .before .before .before .before .before .before .before .before .before .before .before .before .before .before .before in omega (arith, s .pre .0 .offset)
 
 loop-again : tie.Need-loop-again Inv-loop μ-loop
 loop-again c =
-    let s = c .before .before .before .before .before .before .before .before .before .before .before .before .before .before .before .before in
+    let s = c .before .before .before .before .before .before .before .before .before .before .before .before .before .before .before .before .before .before in
     let a = s .args in
     let l = c .before .before .before .before .before .before .loop in
     let j = l .inv .0 in
-    let h = end-in (s .args .w) j (s .args .last) (l .inv .1) (l .inv .6) (s .pre .0 .offset) (c .before .before .before .before .before .loop-test .taken) in
+    let h = end-in (s .args .w) j (s .args .run .last) (l .inv .1) (l .inv .6) (s .pre .0 .offset) (c .before .before .before .before .before .loop-test .taken) in
     let v = c .before .before .answer-of in
     let p = c .before .before .before .moved in
     let n = c .before .counted .ensures in
     let i = c .before .before .before .before .if1 .left in
     let g = one-few (a .words .now) (a .picks .now) (v .result) in
-    let m = run-next (a .w) (numbered-fn (a .f)) (a .times .now) (a .counts .now) (a .parts .now) (a .words .now) (a .picks .now) (a .event) j (a .last + 1) (omega arith) (v .result) (l .inv .1) (v .ensures .0) (v .ensures .1 ∙ ap (figure-in (numbered-fn (a .f))) (p .ensures .3)) in
-    let q = counted-more (picked-one (a .words .now) (a .picks .now) (v .result)) (run-left (a .w) (numbered-fn (a .f)) (a .times .now) (a .counts .now) (a .parts .now) (a .words .now) (a .picks .now) (a .event) (j + 1) (a .last + 1)) (l .r) n m in
+    let m = run-next (a .w) (numbered-fn (a .w .number)) (a .times .now) (a .counts .now) (a .parts .now) (a .words .now) (a .picks .now) (a .run .event) j (a .run .last + 1) (omega arith) (v .result) (l .inv .1) (v .ensures .0) (v .ensures .1 ∙ ap (figure-in (numbered-fn (a .w .number))) (p .ensures .3)) in
+    let q = counted-more (picked-one (a .words .now) (a .picks .now) (v .result)) (run-left (a .w) (numbered-fn (a .w .number)) (a .times .now) (a .counts .now) (a .parts .now) (a .words .now) (a .picks .now) (a .run .event) (j + 1) (a .run .last + 1)) (l .r) n m in
     let x = l .inv .1 in
     let y = l .inv .2 in
     let u = l .inv .4 in
     let o = l .inv .5 in
     let e = l .inv .7 in
-    (j + 1, omega arith, omega arith, omega arith, omega arith, omega arith, l .inv .6, omega arith, kept-next (a .w) (numbered-fn (a .f)) (a .times .now) (a .counts .now) (a .parts .now) j (a .event) (s .pre .6 j (omega arith) (omega arith)) (p .ensures .0) (p .ensures .1) (λ m b. omega (arith, p .ensures .2 m b)))
+    (j + 1, omega arith, omega arith, omega arith, omega arith, omega arith, l .inv .6, omega arith, kept-next (a .w) (numbered-fn (a .w .number)) (a .times .now) (a .counts .now) (a .parts .now) j (a .run .event) (s .pre .6 j (omega arith) (omega arith)) (p .ensures .0) (p .ensures .1) (λ m b. omega (arith, p .ensures .2 m b)))
 
 returns-2 : tie.Need-returns-2 Inv-loop μ-loop
 returns-2 c =
-    let a = c .before .before .before .before .before .before .before .before .before .before .before .args in
+    let a = c .before .before .before .before .before .before .before .before .before .before .before .before .before .args in
     let l = c .before .loop in
     let j = l .inv .0 in
-    let d = end-out (a .w) j (a .last) (l .inv .1) (l .inv .6) (c .loop-test .left) (l .inv .3) in
-    let g = ap length (run-done (a .w) (numbered-fn (a .f)) (a .times .now) (a .counts .now) (a .parts .now) (a .words .now) (a .picks .now) (a .event) j (a .last + 1) (omega arith)) in
+    let d = end-out (a .w) j (a .run .last) (l .inv .1) (l .inv .6) (c .loop-test .left) (l .inv .3) in
+    let g = ap length (run-done (a .w) (numbered-fn (a .w .number)) (a .times .now) (a .counts .now) (a .parts .now) (a .words .now) (a .picks .now) (a .run .event) j (a .run .last + 1) (omega arith)) in
     let o = l .inv .5 in
     let e = l .inv .7 in
-    (omega arith, kept-on (a .w) (numbered-fn (a .f)) (a .times .now) (a .counts .now) (a .parts .now) j (a .last + 1) (l .inv .8) (l .inv .3))
+    (omega arith, kept-on (a .w) (numbered-fn (a .w .number)) (a .times .now) (a .counts .now) (a .parts .now) j (a .run .last + 1) (l .inv .8) (l .inv .3))
 
 pub count-run-spec : {M : Type 1} → statement M
 count-run-spec =

@@ -22,7 +22,7 @@ write-spec =
     {- returns -}
     (λ c.
     let a = c .before .before .before .before .before .before .args in
-    let e = sym (picked-none (a .words .now) (a .picks .now)) ∙ ap (picked-rows (a .words .now) (a .picks .now)) (answers-unlent (a .w) (numbered-fn (a .f)) (a .times .now) (a .counts .now) (a .parts .now) (c .before .sound .ensures) (c .if1 .taken)) in
+    let e = sym (picked-none (a .words .now) (a .picks .now)) ∙ ap (picked-rows (a .words .now) (a .picks .now)) (answers-unlent (a .w) (numbered-fn (a .w .number)) (a .times .now) (a .counts .now) (a .parts .now) (c .before .sound .ensures) (c .if1 .taken)) in
     subst (λ (rs : List Row). Written rs (a .cells .now) (a .at) (a .cells .now) 0) e (written-none (a .cells .now) (a .at)))
     {- write-rows-requires -}
     (λ c κs.
@@ -35,7 +35,7 @@ write-spec =
     {- returns-2 -}
     (λ c.
     let a = c .before .before .before .before .before .before .before .before .before .args in
-    let e = answers-lent (a .w) (numbered-fn (a .f)) (a .times .now) (a .counts .now) (a .parts .now) (c .before .before .before .before .sound .ensures) (c .before .before .before .if1 .left) in
+    let e = answers-lent (a .w) (numbered-fn (a .w .number)) (a .times .now) (a .counts .now) (a .parts .now) (c .before .before .before .before .sound .ensures) (c .before .before .before .if1 .left) in
     let w = c .before .write-rows .ensures in
     record {
       cells-left = w .cells-left ∙ ap (λ (rs : List Row). sets (a .cells .now) (a .at) (gather row-cells (picked-rows (a .words .now) (a .picks .now) rs))) e;
