@@ -68,6 +68,16 @@ pub left-between : happened (caller (bytes "(caller (roles r) (self n 1))") ∷ 
 unfolding scripts-compute
 left-between = refl
 
+-- a grant line adds to the catalogue and a caller line replaces the caller, where they are accepted
+pub happenings : happened (map call lines ++ (grant (bytes "(grant r read (of a) (show a.v))") ∷ grant (bytes "(grant r read (of c) (show *))") ∷ caller (bytes "(caller (roles r))") ∷ caller (bytes "(caller (roles b b))") ∷ query ∷ []))
+    ≡ record {
+      record-kept = after lines;
+      catalogue = record { role = bytes "r"; right = read; of = 0 ∷ []; shown = col 0 1 ∷ []; when = []; from = none; to = none; size = 0; offset = 0 } ∷ [];
+      caller = record { roles = bytes "r" ∷ []; profile = [] };
+    }
+unfolding scripts-compute
+happenings = refl
+
 -- ---- replies
 
 abbrev reading : List Grant

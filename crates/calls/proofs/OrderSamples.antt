@@ -99,6 +99,8 @@ pub repeated-fourth : Holds
     ∷ "(grant a read (of s) (show time time))"
     ∷ "(grant a read (of s s s) (show *))"
     ∷ "(ask (keep time time (in s)))"
+    ∷ "(ask (keep figure figure (in s)))"
+    ∷ "(ask (keep figure figure (sum s.v 1 1 (in s))))"
     ∷ "(ask (keep self.v self.v (in s)))"
     ∷ "(ask (keep s.v s.v (pick (= s.v time) (in s))))"
     ∷ "(ask (pick (= s.v time) (keep s.v s.v (in s))))"
@@ -110,6 +112,9 @@ repeated-fourth = refl
 -- 4 before 5; both before 9
 pub misplaced-fifth : Holds
     (clocked ++ ("(ask (sum s.v 0 0 (keep s.w (in s))))" says refusal 4
+    ∷ "(ask (keep time figure (in s)))" says refusal 4
+    ∷ "(ask (keep s.v figure time (in s)))" says refusal 4
+    ∷ "(ask (keep self.v s.v (in s)))" says refusal 4
     ∷ "(ask (pick (= s.v 1) (sum s.v 0 0 (in s))))" says refusal 4
     ∷ "(ask (sum s.v 0 0 (sum s.v 0 0 (in s))))" says refusal 4
     ∷ "(caller (roles))" says quiet

@@ -21,6 +21,7 @@ use Rattle.model.specs.Queries.{Schema, Row, Record}
 use Rattle.calls.specs.Names.{stream-number}
 use Rattle.calls.specs.Tables.{row-checks, row-line-checks}
 use Rattle.calls.specs.Calls.{Call, stream, clock, row, clear, clock-line, row-line, clear-line, call-checks, call-table, with-stream, with-clock, add-row, with-row, with-row-line, cleared, effect, next, replay, fresh, after}
+use Rattle.calls.specs.Events.{Fixture, new-fixture, Event, call, grant, caller, query, happen, happened-from, happened}
 use Rattle.calls.proofs.Written.{written-passes}
 
 -- ---- what accepted calls give, the last of them first
@@ -222,3 +223,25 @@ replay-left x past (c ∷ cs) h = replay-left (next x c) _ cs (next-left x past 
 pub after-left : (cs : List Call) → Left (after cs) (accepted cs)
 unfolding after accepted fresh clock-left streams-left rows-left nth
 after-left cs = replay-left fresh [] cs (record { clock-same = refl; schema-same = refl; rows-many = refl; rows-same = λ s. refl })
+
+-- ---- events of every kind
+
+unfoldable pub calls-of : List Event → List Call
+calls-of [] = []
+calls-of (call c ∷ es) = c ∷ calls-of es
+calls-of (grant bs ∷ es) = calls-of es
+calls-of (caller bs ∷ es) = calls-of es
+calls-of (query ∷ es) = calls-of es
+
+kept-from : (f : Fixture) (es : List Event) → (happened-from f es) .record-kept ≡ replay (f .record-kept) (calls-of es)
+unfolding happened-from happen calls-of replay
+kept-from f [] = refl
+kept-from f (call c ∷ es) = kept-from _ es
+kept-from f (grant bs ∷ es) = kept-from _ es
+kept-from f (caller bs ∷ es) = kept-from _ es
+kept-from f (query ∷ es) = kept-from f es
+
+-- grant, caller, ask and line calls in between change none of this
+pub happened-left : (es : List Event) → Left (happened es .record-kept) (accepted (calls-of es))
+unfolding happened new-fixture after
+happened-left es = rw (kept-from new-fixture es) (after-left (calls-of es))

@@ -7,3 +7,4 @@ pub mod Fitting
 pub mod Extending
 pub mod Running
 pub mod Witnesses
+pub mod Unseen

@@ -1,4 +1,5 @@
 mod Samples
+pub mod ReadingSamples
 pub mod Steps
 pub mod Lexical
 pub mod Terms

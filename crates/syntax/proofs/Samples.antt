@@ -3,6 +3,7 @@ use mathlib.Core.Path.{_≡_, refl}
 use mathlib.Core.List.{List, [], _∷_, map}
 use mathlib.Core.Option.{Option, some}
 use Rattle.syntax.specs.Grammar.{Bytes, bytes, min, max, count, avg, sum, read, figures, fn-number, numbered-fn, right-number, numbered-right, line-text}
+use Rattle.syntax.specs.Limits.{max-streams, max-columns, max-rows, max-grants, max-granted, max-forms, max-rewritten, max-depth, max-line, max-printed, max-name, max-roles, max-entries, max-routes, max-overlap, top}
 use Rattle.syntax.specs.Readers.{parse-line, bind, readers-compute}
 
 back : Bytes → Option Bytes
@@ -39,3 +40,8 @@ rights-numbered = refl
 rights-back : map numbered-right (0 ∷ 1 ∷ 2 ∷ 3 ∷ 4 ∷ 5 ∷ []) ≡ read ∷ figures min ∷ figures max ∷ figures count ∷ figures avg ∷ figures sum ∷ []
 unfolding readers-compute
 rights-back = refl
+
+-- the bounds: streams, columns, rows, grants, streams of a grant, forms and rewritten forms, brackets, bytes of a line, of a rewritten line and of a name, roles, entries, routes, offsets of a window, and the highest number
+limits : max-streams ∷ max-columns ∷ max-rows ∷ max-grants ∷ max-granted ∷ max-forms ∷ max-rewritten ∷ max-depth ∷ max-line ∷ max-printed ∷ max-name ∷ max-roles ∷ max-entries ∷ max-routes ∷ max-overlap ∷ top ∷ []
+    ≡ 4 ∷ 6 ∷ 128 ∷ 24 ∷ 2 ∷ 12 ∷ 16 ∷ 8 ∷ 512 ∷ 4096 ∷ 8 ∷ 4 ∷ 4 ∷ 16 ∷ 64 ∷ 2147483647 ∷ []
+limits = refl
