@@ -168,20 +168,20 @@ module _ (s : Bytes) (start : Run) {r t : Run} {p q u : Point} {l l₁ l₂ m m�
       subst (λ (v : Bytes). Advances w v start t p u l l₂ m m₂) (sym (take-add (r .at) (t .at - r .at) s) ∙ ap (λ (n : ℕ). take n s) f)
       (advances-then a (y .advances (begun w (take (r .at) s)) (a .rest ∙ ap (λ (n : ℕ). take n (begun w (take (r .at) s))) (sym (a .sized .line)))))
 
--- before the first of them
-pub block-start : (s : Bytes) (start : Run) {p : Point} {l m : Bytes} → start .at ≡ 0 → (w : Bytes) → Known w start l → Advances w (take (start .at) s) start start p p l l m m
-block-start s start {p} {l} {m} e w k =
+-- nothing of it
+pub advances-none : (start : Run) {p : Point} {l m : Bytes} (w : Bytes) → Known w start l → Advances w [] start start p p l l m m
+advances-none start {p} {l} {m} w k =
     record {
       outcomes = [];
-      runs = subst (λ (v : List Bytes). Runs p (map (take (length l)) v) [] p) (sym (ap (ended w) none ∙ ended-none w [] (omega arith))) stop;
-      rest = k ∙ ap (λ (v : Bytes). take (length l) v) (sym (ap (begun w) none ∙ begun-none w [] (omega arith) ∙ append-nil w));
+      runs = subst (λ (v : List Bytes). Runs p (map (take (length l)) v) [] p) (sym (ended-none w [] (omega arith))) stop;
+      rest = k ∙ ap (λ (v : Bytes). take (length l) v) (sym (begun-none w [] (omega arith) ∙ append-nil w));
       output = λ i j. record { written = []; all = sym (append-nil (take (start .output .used) m)) ∙ ap (λ (v : Bytes). take (start .output .used) m ++ v) (unfold texts in refl) };
       counts = record { lines = unfold lines-after in refl; refused = unfold refused-after in refl; explains = refl };
       sized = record { cells = refl; bytes = refl; line = refl; out = refl };
     }
-  where
-    none : take (start .at) s ≡ []
-    none = ap (λ (n : ℕ). take n s) e
+
+pub block-start : (s : Bytes) (start : Run) {p : Point} {l m : Bytes} → start .at ≡ 0 → (w : Bytes) → Known w start l → Advances w (take (start .at) s) start start p p l l m m
+block-start s start {p} {l} {m} e w k = subst (λ (v : Bytes). Advances w v start start p p l l m m) (sym (ap (λ (n : ℕ). take n s) e)) (advances-none start w k)
 
 -- all of it; a run starts a block from its first byte
 pub block-end : (s : Bytes) (start run : Run) {r : Run} {p q : Point} {l l₁ m m₁ : Bytes} → start .kept ≡ run .kept → start .lines ≡ run .lines → start .refused ≡ run .refused → start .explains ≡ run .explains

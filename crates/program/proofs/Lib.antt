@@ -4,3 +4,4 @@ pub mod Rooms
 pub mod Printing
 pub mod Cut
 pub mod Advancing
+pub mod Whole

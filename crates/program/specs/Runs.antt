@@ -16,7 +16,7 @@ use Rattle.script.specs.Steps.{outcome-of, Does}
 use Rattle.script.specs.Runs.{Held, store}
 use Rattle.program.specs.declared.Run.{Run}
 use Rattle.program.specs.declared.Got.{Got}
-use Rattle.program.specs.Lines.{ended, begun, Reads}
+use Rattle.program.specs.Lines.{ended, begun, closing, Reads}
 use Rattle.program.specs.Output.{most-text, Writes, Adds}
 
 -- where a run stands: the state, the memory lent with it, and the cells and bytes that are lent to a line
@@ -129,3 +129,29 @@ pub record Turn (s : Bytes) (run r : Run) (p q : Point) (l l′ m m′ : Bytes) 
   pub ended : r .ended ≡ cond (got .ended) true (r .output .lost)
   pub written : r .output .used ≡ 0
   pub advances : (w : Bytes) → Known w run l → Advances w (take (got .count) s) run r p q l l′ m m′
+
+-- blocks of input, one behind the other
+unfoldable pub joined : List Bytes → Bytes
+joined [] = []
+joined (b ∷ bs) = b ++ joined bs
+
+-- b is a text that goes on a line of which w was there, and a line feed behind it where its last line has none
+pub record Closed (w b : Bytes) : Type 0 where
+  pub input : Bytes
+  pub same : b ≡ input ++ closing (begun w input)
+
+-- what a run must be lent: room for the longest line and one byte more, for a block, and for any text
+pub record Lent (run : Run) (p : Point) (b l m : Bytes) : Type 0 where
+  pub block : 1 ≤ length b
+  pub line : length l ≡ 513
+  pub texts : text-room p ≤ most-text
+  pub out : most-text ≤ length m
+  pub goes : run .ended ≡ false
+
+-- The input is done, block by block, to its end, and all that its lines print is written; unless it could not be read, output was lost, or 2 ^ 64 - 1 blocks were read.
+pub record All (run r : Run) (p q : Point) (l l′ m m′ : Bytes) : Type 0 where
+  pub blocks : List Bytes
+  pub advances : (w : Bytes) → Known w run l → Advances w (joined blocks) run r p q l l′ m m′
+  pub written : run .output .used ≡ 0 → r .output .used ≡ 0
+  pub closed : r .ended ≡ true → r .failed ≡ false → r .output .lost ≡ false → (w : Bytes) → Known w run l → Closed w (joined blocks)
+  pub over : r .ended ≡ false → length blocks ≡ 2 ^ 64 - 1

@@ -10,7 +10,7 @@ ghost use Rattle.report.specs.Written.{Written};
 ghost use Rattle.script.specs.Steps.{outcome-of};
 ghost use Rattle.program.specs.Lines.{Ends, Keeps, Closes, Reads};
 ghost use Rattle.program.specs.Output.{Room, Tells, Adds};
-ghost use Rattle.program.specs.Runs.{point, Done, Part, Block, Turn};
+ghost use Rattle.program.specs.Runs.{point, Done, Part, Block, Turn, Lent, All};
 use caller::Caller;
 use grant::Grant;
 use ledger::Ledger;
@@ -501,7 +501,10 @@ fn do_all(
     cells: &mut [i64],
     bytes: &mut [u8],
     out: &mut [u8],
-) -> Run {
+) -> Run
+    requires { ⌜ Lent run (point (run .state) (now names) (now times) (now values) (now words) (now cells) (now bytes)) (now block) (now line) (now out) ⌝ }
+    ensures { λ r. ⌜ All run r (point (run .state) (now (names .entry)) (now (times .entry)) (now (values .entry)) (now (words .entry)) (now (cells .entry)) (now (bytes .entry))) (point (r .state) (now (names .exit)) (now (times .exit)) (now (values .exit)) (now (words .exit)) (now (cells .exit)) (now (bytes .exit))) (now (line .entry)) (now (line .exit)) (now (out .entry)) (now (out .exit)) ⌝ }
+{
     let mut r = run;
     let mut turns = u64::MAX;
     while 0 < turns {

@@ -8,9 +8,6 @@ use Rattle.program.specs.Runs.{point, Advances, Known}
 use Rattle.program.proofs.Advancing.{block-start, block-more, block-end}
 use Rattle.program.proofs.do_block.Statement.{statement}
 use Rattle.program.proofs.do_block.Tie as tie
-use Rattle.program.proofs.do_block.Reads as reads
-use Rattle.program.proofs.do_block.Lts as lts
-use Rattle.program.proofs.do_part.Reads as do-part-reads
 
 abbrev Inv-loop : tie.InvT-loop
 Inv-loop block names₀ times₀ values₀ words₀ line₀ cells₀ bytes₀ out₀ r₀ names times values words line cells bytes out r =
@@ -20,55 +17,42 @@ abbrev μ-loop : tie.MeasureT-loop
 μ-loop block names₀ times₀ values₀ words₀ line₀ cells₀ bytes₀ out₀ r₀ names times values words line cells bytes out r =
     length block - r .at
 
--- src/main.rt:372:5
 loop-holds : tie.Need-loop-holds Inv-loop μ-loop
 loop-holds c = (refl, refl, refl, refl, refl, refl, refl, refl, omega arith, refl, refl, block-start (c .before .before .before .before .before .before .before .args .block .now) _ refl)
 
--- src/main.rt:373:9
 do-part-requires : tie.Need-do-part-requires Inv-loop μ-loop
 do-part-requires c κs = search needs
 
--- src/main.rt:372:5
 loop-less : tie.Need-loop-less Inv-loop μ-loop
 loop-less c = omega (arith, c .before .before .before .before .before .before .before .before .before .before .before .before .before .before .do-part .ensures .more (c .before .before .before .before .before .before .before .before .before .before .before .before .before .before .before .before .before .before .before .before .before .before .before .if1 .taken), c .before .before .before .before .before .before .before .before .before .before .before .before .before .before .do-part .ensures .inside, c .before .before .before .before .before .before .before .before .before .before .before .before .before .before .before .before .before .before .before .before .before .before .before .if1 .taken)
 
--- src/main.rt:372:5
 loop-again : tie.Need-loop-again Inv-loop μ-loop
 loop-again c = let k = c .before .before .before .before .before .before .before .before .before .before .before .before .before .before .do-part .kept in let v = c .before .before .before .before .before .before .before .before .before .before .before .before .before .before .before .before .before .before .before .before .before .before .before .before .before .loop .inv in (k .1 .1 .0 ∙ v .0, k .1 .1 .1 .0 ∙ v .1, k .1 .1 .1 .1 .0 ∙ v .2, k .1 .1 .1 .1 .1 .0 ∙ v .3, k .1 .1 .1 .1 .1 .1 .0 ∙ v .4, k .1 .1 .1 .1 .1 .1 .1 .0 ∙ v .5, k .1 .1 .1 .1 .1 .1 .1 .1 .0 ∙ v .6, k .1 .1 .1 .1 .1 .1 .1 .1 .1 .0 ∙ v .7, c .before .before .before .before .before .before .before .before .before .before .before .before .before .before .do-part .ensures .inside, c .before .before .before .before .before .before .before .before .before .before .before .before .before .before .do-part .ensures .failed ∙ v .9, c .before .before .before .before .before .before .before .before .before .before .before .before .before .before .do-part .ensures .ended ∙ v .10, block-more _ _ (v .11) (c .before .before .before .before .before .before .before .before .before .before .before .before .before .before .do-part .ensures) (c .before .before .before .before .before .before .before .before .before .before .before .before .before .before .before .before .before .before .before .before .before .before .before .if1 .taken))
 
--- src/main.rt:356:1
 same-length : tie.Need-same-length Inv-loop μ-loop
 same-length c = search needs
 
--- src/main.rt:356:1
 same-length-2 : tie.Need-same-length-2 Inv-loop μ-loop
 same-length-2 c = search needs
 
--- src/main.rt:356:1
 same-length-3 : tie.Need-same-length-3 Inv-loop μ-loop
 same-length-3 c = search needs
 
--- src/main.rt:356:1
 same-length-4 : tie.Need-same-length-4 Inv-loop μ-loop
 same-length-4 c = search needs
 
--- src/main.rt:356:1
 same-length-5 : tie.Need-same-length-5 Inv-loop μ-loop
 same-length-5 c = search needs
 
--- src/main.rt:356:1
 same-length-6 : tie.Need-same-length-6 Inv-loop μ-loop
 same-length-6 c = search needs
 
--- src/main.rt:356:1
 same-length-7 : tie.Need-same-length-7 Inv-loop μ-loop
 same-length-7 c = search needs
 
--- src/main.rt:356:1
 same-length-8 : tie.Need-same-length-8 Inv-loop μ-loop
 same-length-8 c = search needs
 
--- src/main.rt:356:1
 returns : tie.Need-returns Inv-loop μ-loop
 returns c = record { failed = (c .before .before .loop .inv) .9; ended = (c .before .before .loop .inv) .10; advances = block-end _ _ _ refl refl refl refl refl ((c .before .before .loop .inv) .11) (c .if1 .left) }
 

@@ -3,82 +3,58 @@ use Rattle.program.proofs.Advancing.{part-kept, part-done}
 use borrow.Author.Needs.{needs}
 use Rattle.program.proofs.do_part.Statement.{statement}
 use Rattle.program.proofs.do_part.Tie as tie
-use Rattle.program.proofs.do_part.Reads as reads
-use Rattle.program.proofs.do_part.Lts as lts
-use Rattle.program.proofs.after.Reads as after-reads
-use Rattle.program.proofs.do_line.Reads as do-line-reads
-use Rattle.program.proofs.keep.Reads as keep-reads
-use Rattle.program.proofs.line_end.Reads as line-end-reads
 
--- src/main.rt:345:9
 line-end-requires : tie.Need-line-end-requires
 line-end-requires c κs = search needs
 
--- src/main.rt:347:35
 sub-keep : tie.Need-sub-keep
 sub-keep c = search needs
 
--- src/main.rt:347:35
 part-keep-start : tie.Need-part-keep-start
 part-keep-start c = search needs
 
--- src/main.rt:347:35
 part-keep-end : tie.Need-part-keep-end
 part-keep-end c = search needs
 
--- src/main.rt:347:5
 keep-requires : tie.Need-keep-requires
 keep-requires c κs = search needs
 
--- src/main.rt:348:5
 after-requires : tie.Need-after-requires
 after-requires c κs = search needs
 
--- src/main.rt:350:9
 same-length : tie.Need-same-length
 same-length c = search needs
 
--- src/main.rt:350:9
 returns : tie.Need-returns
 returns c = part-kept _ _ _ (c .before .before .before .before .before .before .before .line-end .ensures) (c .before .before .before .before .keep .ensures) (search needs) (c .before .after .ensures) refl refl refl refl refl refl (c .if1 .taken)
 
--- src/main.rt:352:5
 do-line-requires : tie.Need-do-line-requires
 do-line-requires c κs = search needs
 
--- src/main.rt:329:1
 same-length-2 : tie.Need-same-length-2
 same-length-2 c = search needs
 
--- src/main.rt:329:1
 same-length-3 : tie.Need-same-length-3
 same-length-3 c = search needs
 
--- src/main.rt:329:1
 same-length-4 : tie.Need-same-length-4
 same-length-4 c = search needs
 
--- src/main.rt:329:1
 same-length-5 : tie.Need-same-length-5
 same-length-5 c = search needs
 
--- src/main.rt:329:1
 same-length-6 : tie.Need-same-length-6
 same-length-6 c = c .before .before .before .before .before .before .before .before .before .before .before .before .before .before .before .before .before .before .before .before .before .before .before .before .before .keep .kept .0
 
--- src/main.rt:329:1
 same-length-7 : tie.Need-same-length-7
 same-length-7 c = search needs
 
--- src/main.rt:329:1
 same-length-8 : tie.Need-same-length-8
 same-length-8 c = search needs
 
--- src/main.rt:329:1
 same-length-9 : tie.Need-same-length-9
 same-length-9 c = search needs
 
--- src/main.rt:329:1
 returns-2 : tie.Need-returns-2
 returns-2 c = part-done _ _ _ (c .before .before .before .before .before .before .before .before .before .before .before .before .before .before .before .before .before .before .before .before .before .before .before .before .before .before .before .before .line-end .ensures) (c .before .before .before .before .before .before .before .before .before .before .before .before .before .before .before .before .before .before .before .before .before .before .before .before .before .keep .ensures) (c .before .before .before .before .before .before .before .before .before .before .before .before .before .before .before .before .before .before .before .before .before .before .before .before .before .keep .kept .0) (c .before .before .before .before .before .before .before .before .before .before .before .before .before .before .before .before .before .before .before .before .before .before .after .ensures) refl refl refl refl refl refl (c .before .before .before .before .before .before .before .before .before .before .before .before .before .before .before .before .before .before .before .before .before .if1 .left) (c .before .before .before .before .before .before .before .before .before .before .before .before .do-line .ensures) (c .before .before .before .before .before .before .before .before .before .before .before .before .do-line .kept .1 .1 .1 .1 .1 .1 .0) (c .before .before .before .before .before .before .before .before .before .before .before .before .do-line .kept .1 .1 .1 .1 .1 .1 .1 .0) (c .before .before .before .before .before .before .before .before .before .before .before .before .do-line .kept .1 .1 .1 .1 .1 .1 .1 .1 .0)
 

@@ -2,26 +2,19 @@ use Rattle.program.proofs.Rooms.{close-ends}
 use borrow.Author.Needs.{needs}
 use Rattle.program.proofs.end_line.Statement.{statement}
 use Rattle.program.proofs.end_line.Tie as tie
-use Rattle.program.proofs.end_line.Reads as reads
-use Rattle.program.proofs.end_line.Lts as lts
 
--- src/main.rt:227:9
 returns : tie.Need-returns
 returns c = search (close-ends, needs)
 
--- src/main.rt:230:9
 returns-2 : tie.Need-returns-2
 returns-2 c = search (close-ends, needs)
 
--- src/main.rt:232:5
 slice-write-block : tie.Need-slice-write-block
 slice-write-block c = search needs
 
--- src/main.rt:223:1
 same-length : tie.Need-same-length
 same-length c = search needs
 
--- src/main.rt:223:1
 returns-3 : tie.Need-returns-3
 returns-3 c = search (close-ends, needs)
 
