@@ -1,4 +1,7 @@
 pub mod Lines
 pub mod Keeping
-pub mod Output
+pub mod Rooms
+pub mod Printing
 pub mod Cut
+pub mod Advancing
+pub mod Whole

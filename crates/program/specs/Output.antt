@@ -1,35 +1,33 @@
 -- Output that is kept until it is written.
 use mathlib.Core.Path.{_≡_}
-use mathlib.Core.List.{List, _++_}
-use Prim.Native.Nat.{ℕ, _+_, _*_, _≤_}
-use lib.IntN.{ℤ}
+use mathlib.Core.List.{_++_}
+use mathlib.Core.Bool.{Bool, false}
+use Prim.Native.Nat.{ℕ, _+_, _≤_}
 use lib.ListN.{length, take}
 use Rattle.syntax.specs.Grammar.{Bytes}
-use Rattle.syntax.specs.Readers.{verb-of}
-use Rattle.history.specs.Fixtures.{Store}
-use Rattle.report.specs.Outcomes.{outcome-text}
-use Rattle.script.specs.States.{Saying}
-use Rattle.script.specs.Steps.{outcome-of, Does}
 
 -- how many bytes any text takes at most
 abbrev pub most-text : ℕ
 most-text = 131072
 
--- Of m, r bytes are kept: those that were, or none where they were written. Where m is large enough, there is room for any text behind them.
+-- Of output that is kept, some is written, and the rest stays.
+pub record Writes (o o′ : Bytes) : Type 0 where
+  pub written : Bytes
+  pub all : written ++ o′ ≡ o
+
+-- Of the bytes kept in m, r stay: all of them while there is room for any text behind them. Where m is large enough, there is then.
 pub record Room (m : Bytes) (used r : ℕ) : Type 0 where
   pub inside : r ≤ length m
-  pub kept : (r ≡ 0 → ⊥) → used ≤ length m → r ≡ used
+  pub rest : Writes (take used m) (take r m)
+  pub kept : used + most-text ≤ length m → r ≡ used
   pub room : most-text ≤ length m → r + most-text ≤ length m
 
--- A text of at most n bytes goes behind what is kept of the output, which is what was, or nothing where that was written.
-pub record Adds (text : Bytes) (n : ℕ) (m : Bytes) (used : ℕ) (m′ : Bytes) (r : ℕ) : Type 0 where
-  pub from : ℕ
-  pub start : Room m used from
-  pub inside : r ≤ length m′
-  pub bytes : n ≤ most-text → most-text ≤ length m → take r m′ ≡ take from m ++ text
+-- Of the bytes kept in m, r stay: all of them where nothing is to be explained.
+pub record Tells (m : Bytes) (used : ℕ) (explains : Bool) (r : ℕ) : Type 0 where
+  pub rest : Writes (take used m) (take r m)
+  pub kept : explains ≡ false → r ≡ used
 
--- A line is done: from one store and from cells and bytes lent to others, by what the script's step does of its text; and the text of its outcome goes behind the output.
-pub record Done (bs : Bytes) (s s′ : Store) (zs : List ℤ) (ys : Bytes) (zs′ : List ℤ) (ys′ m : Bytes) (used : ℕ) (m′ : Bytes) (used′ : ℕ) : Type 0 where
-  pub said : Saying
-  pub does : Does bs zs ys (verb-of bs) s s′ zs′ ys′ said
-  pub adds : Adds (outcome-text (outcome-of (said .kind) (said .number) zs′ ys′)) (28 * length zs′ + length ys′ + 20) m used m′ used′
+-- A text of at most n bytes goes behind what is kept of the output; nothing of it is written while there is room for any text and nothing is to be explained.
+pub record Adds (text : Bytes) (n : ℕ) (explains : Bool) (m : Bytes) (used : ℕ) (m′ : Bytes) (r : ℕ) : Type 0 where
+  pub rest : n ≤ most-text → most-text ≤ length m → Writes (take used m ++ text) (take r m′)
+  pub kept : explains ≡ false → n ≤ most-text → used + most-text ≤ length m → take r m′ ≡ take used m ++ text

@@ -1,14 +1,17 @@
 // Reads a script from standard input, does its lines one after another, and writes what they print to standard output.
-// With the argument `--explain` it also says on standard error which line is refused, and why.
+// With the argument `--explain` it also says on standard error which line is refused, and why; with `--status`, on descriptor 3 how it ended.
 ghost use mathlib.Core.Path.{_≡_};
-ghost use Prim.Native.Nat.{_+_, _*_, _-_, _≤_, min};
+ghost use mathlib.Core.Bool.{true, false, cond};
+ghost use Prim.Native.Nat.{_+_, _*_, _-_, _≤_, _<_, min};
+ghost use lib.Dec.{eqb};
 ghost use lib.ListN.{length, take};
 ghost use Rattle.report.specs.Outcomes.{outcome-text};
 ghost use Rattle.report.specs.Written.{Written};
-ghost use Rattle.script.specs.States.{store-of};
 ghost use Rattle.script.specs.Steps.{outcome-of};
-ghost use Rattle.program.specs.Lines.{Ends, Keeps};
-ghost use Rattle.program.specs.Output.{Room, Adds, Done};
+ghost use Rattle.program.specs.Lines.{Ends, Keeps, Closes, Reads};
+ghost use Rattle.program.specs.Output.{Room, Tells, Adds};
+ghost use Rattle.program.specs.Runs.{point, Done, Part, Block, Turn, Lent, All};
+use caller::Caller;
 use grant::Grant;
 use ledger::Ledger;
 use libc::STDERR_FILENO;
@@ -32,14 +35,30 @@ const OUT: usize = 262144;
 
 const MOST: usize = 131072;
 
-// What goes from line to line: the state of the script, how many lines were done, how many bytes of the next one are kept, how many bytes of output, whether refusals are explained, and whether the input ended.
+// Where the output stands: how many bytes of it are kept until they are written, and whether some could not be written.
+struct Output {
+    used: usize,
+    lost: bool,
+}
+
+// What goes from line to line: the state of the script, how many lines were done, how many bytes of the next one are kept, how far the block is done, where the output stands, whether refusals are explained, and whether a line was refused, input could not be read, and the input ended.
 struct Run {
     state: State,
     lines: u64,
     kept: usize,
-    used: usize,
+    at: usize,
+    output: Output,
     explains: bool,
+    refused: bool,
+    failed: bool,
     ended: bool,
+}
+
+// What was read: how many bytes of the block, whether the input ended, and whether that is because it could not be read.
+struct Got {
+    count: usize,
+    ended: bool,
+    failed: bool,
 }
 
 fn least(a: usize, b: usize) -> usize
@@ -97,16 +116,44 @@ fn keep(line: &mut [u8], kept: usize, part: &[u8]) -> usize
 
 // ---- output
 
-// Writes what is kept of the output where less room is left than any text takes. Returns how much is kept.
-fn made_room(out: &[u8], used: usize) -> usize
-    ensures { λ r. ⌜ Room (now (out .entry)) used r ⌝ }
-{
-    let n = least(used, out.len());
-    if out.len() - n < MOST {
-        io::write_all(STDOUT_FILENO, &out[0..n]);
-        return 0;
+// Writes a part of the output. Returns whether it could not be written, which is said.
+fn write_out(part: &[u8]) -> bool {
+    if io::write_all(STDOUT_FILENO, part) {
+        return false;
     }
-    n
+    os::fail(b"maltziru: standard output");
+    true
+}
+
+// Writes what is kept of the output; once some is lost, no more is tried.
+fn flush(out: &[u8], o: Output) -> Output
+    ensures { λ r. ⌜ r .used ≡ 0 ⌝ }
+{
+    let n = least(o.used, out.len());
+    if o.lost {
+        return Output {
+            used: 0,
+            lost: true,
+        };
+    }
+    Output {
+        used: 0,
+        lost: write_out(&out[0..n]),
+    }
+}
+
+// Writes what is kept of the output where less room is left than any text takes.
+fn made_room(out: &[u8], o: Output) -> Output
+    ensures { λ r. ⌜ Room (now (out .entry)) (o .used) (r .used) ⌝ }
+{
+    let n = least(o.used, out.len());
+    if out.len() - n < MOST {
+        return flush(out, o);
+    }
+    Output {
+        used: n,
+        lost: o.lost,
+    }
 }
 
 // The text of an outcome, by its kind and number and the cells and bytes that it left. Returns how many bytes it has.
@@ -127,13 +174,17 @@ fn print(out: &mut [u8], kind: u32, number: u32, cells: &[i64], bytes: &[u8]) ->
     report::write_text(out, &bytes[0..n]) as usize
 }
 
-// The text of an outcome after what is kept of the output. Returns how much is kept then.
-fn add(out: &mut [u8], used: usize, kind: u32, number: u32, cells: &[i64], bytes: &[u8]) -> usize
-    ensures { λ r. ⌜ Adds (outcome-text (outcome-of kind number (now (cells .entry)) (now (bytes .entry)))) (28 * length (now (cells .entry)) + length (now (bytes .entry)) + 20) (now (out .entry)) used (now (out .exit)) r ⌝ }
+// The text of an outcome after what is kept of the output.
+fn add(out: &mut [u8], o: Output, kind: u32, number: u32, cells: &[i64], bytes: &[u8]) -> Output
+    ensures { λ r. ⌜ Adds (outcome-text (outcome-of kind number (now (cells .entry)) (now (bytes .entry)))) (28 * length (now (cells .entry)) + length (now (bytes .entry)) + 20) false (now (out .entry)) (o .used) (now (out .exit)) (r .used) ⌝ }
 {
-    let at = made_room(out, used);
+    let room = made_room(out, o);
+    let at = room.used;
     let n = print(&mut out[at..], kind, number, cells, bytes);
-    at + least(n, out.len() - at)
+    Output {
+        used: at + least(n, out.len() - at),
+        lost: room.lost,
+    }
 }
 
 // ---- refusals in words
@@ -207,17 +258,32 @@ fn explain(line: u64, number: u32) {
     io::write_all(STDERR_FILENO, b"\n");
 }
 
-// Explains a refusal where that is asked for.
-fn tell(explains: bool, line: u64, kind: u32, number: u32) {
+// Explains a refusal where that is asked for, once the output up to it is written.
+fn tell(out: &[u8], o: Output, explains: bool, line: u64, kind: u32, number: u32) -> Output
+    ensures { λ r. ⌜ Tells (now (out .entry)) (o .used) explains (r .used) ⌝ }
+{
     if !explains {
-        return;
+        return o;
     }
     if kind == Stepped::REFUSED {
+        let r = flush(out, o);
         explain(line, number);
+        return r;
     }
+    o
 }
 
 // ---- the script
+
+// Whether a line was refused so far.
+fn refused_by(refused: bool, kind: u32) -> bool
+    ensures { λ r. ⌜ r ≡ cond refused true (eqb kind 1) ⌝ }
+{
+    if refused {
+        return true;
+    }
+    kind == Stepped::REFUSED
+}
 
 // Does the line that is kept.
 fn do_line(
@@ -231,7 +297,7 @@ fn do_line(
     bytes: &mut [u8],
     out: &mut [u8],
 ) -> Run
-    ensures { λ r. ⌜ Done (take (run .kept) (now (line .entry))) (store-of (run .state) (now (names .entry)) (now (times .entry)) (now (values .entry)) (now (words .entry))) (store-of (r .state) (now (names .exit)) (now (times .exit)) (now (values .exit)) (now (words .exit))) (now (cells .entry)) (now (bytes .entry)) (now (cells .exit)) (now (bytes .exit)) (now (out .entry)) (run .used) (now (out .exit)) (r .used) × (r .kept ≡ 0) ⌝ }
+    ensures { λ r. ⌜ Done (take (run .kept) (now (line .entry))) run r (point (run .state) (now (names .entry)) (now (times .entry)) (now (values .entry)) (now (words .entry)) (now (cells .entry)) (now (bytes .entry))) (point (r .state) (now (names .exit)) (now (times .exit)) (now (values .exit)) (now (words .exit)) (now (cells .exit)) (now (bytes .exit))) (now (out .entry)) (now (out .exit)) ⌝ }
 {
     let n = least(run.kept, line.len());
     let r = script::step(
@@ -245,25 +311,27 @@ fn do_line(
         bytes,
     );
     let lines = std::num::wrapping_add_u64(run.lines, 1);
-    tell(run.explains, lines, r.kind, r.number);
-    let used = add(out, run.used, r.kind, r.number, cells, bytes);
+    let added = add(out, run.output, r.kind, r.number, cells, bytes);
+    let told = tell(out, added, run.explains, lines, r.kind, r.number);
+    let refused = refused_by(run.refused, r.kind);
     let state = r.state;
     Run {
         state: state,
         lines: lines,
         kept: 0,
-        used: used,
+        at: run.at,
+        output: told,
         explains: run.explains,
+        refused: refused,
+        failed: run.failed,
         ended: run.ended,
     }
 }
 
-// Keeps a part of a block that no line feed interrupts, and does the line where one follows.
+// From where the block is done, keeps what comes before the next line feed, and does the line where there is one.
 fn do_part(
     run: Run,
     block: &[u8],
-    at: usize,
-    e: usize,
     names: &mut [u64],
     times: &mut [u32],
     values: &mut [i32],
@@ -273,10 +341,14 @@ fn do_part(
     bytes: &mut [u8],
     out: &mut [u8],
 ) -> Run
-    requires { ⌜ (at ≤ e) × (e ≤ length (now block)) ⌝ }
+    requires { ⌜ run .at ≤ length (now block) ⌝ }
+    ensures { λ r. ⌜ Part (now (block .entry)) run r (point (run .state) (now (names .entry)) (now (times .entry)) (now (values .entry)) (now (words .entry)) (now (cells .entry)) (now (bytes .entry))) (point (r .state) (now (names .exit)) (now (times .exit)) (now (values .exit)) (now (words .exit)) (now (cells .exit)) (now (bytes .exit))) (now (line .entry)) (now (line .exit)) (now (out .entry)) (now (out .exit)) ⌝ }
 {
+    let from = run.at;
+    let e = line_end(block, from);
     let mut r = run;
-    r.kept = keep(line, run.kept, &block[at..e]);
+    r.kept = keep(line, run.kept, &block[from..e]);
+    r.at = after(block, e);
     if block.len() <= e {
         return r;
     }
@@ -295,18 +367,15 @@ fn do_block(
     cells: &mut [i64],
     bytes: &mut [u8],
     out: &mut [u8],
-) -> Run {
+) -> Run
+    ensures { λ r. ⌜ Block (now (block .entry)) run r (point (run .state) (now (names .entry)) (now (times .entry)) (now (values .entry)) (now (words .entry)) (now (cells .entry)) (now (bytes .entry))) (point (r .state) (now (names .exit)) (now (times .exit)) (now (values .exit)) (now (words .exit)) (now (cells .exit)) (now (bytes .exit))) (now (line .entry)) (now (line .exit)) (now (out .entry)) (now (out .exit)) ⌝ }
+{
     let mut r = run;
-    let mut at: usize = 0;
-    while at < block.len() {
-        let e = line_end(block, at);
-        let from = at;
-        at = after(block, e);
+    r.at = 0;
+    while r.at < block.len() {
         r = do_part(
             r,
             block,
-            from,
-            e,
             names,
             times,
             values,
@@ -320,7 +389,49 @@ fn do_block(
     r
 }
 
-// Reads a block and does the lines that end in it.
+// Reads what is there of the input, and waits where nothing is. At its end, a line feed ends a line that has none.
+fn read_some(block: &mut [u8], kept: usize) -> Got
+    ensures { λ r. ⌜ Reads kept (now (block .exit)) r ⌝ }
+{
+    let got = libc::read(STDIN_FILENO, block);
+    let n = io::count(got, block);
+    if 0 < n {
+        return Got {
+            count: n,
+            ended: false,
+            failed: false,
+        };
+    }
+    if got < 0 {
+        os::fail(b"maltziru: standard input");
+        return Got {
+            count: 0,
+            ended: true,
+            failed: true,
+        };
+    }
+    Got {
+        count: end_line(block, kept),
+        ended: true,
+        failed: false,
+    }
+}
+
+// A line feed for a line of which something is kept. Returns how many bytes that is.
+fn end_line(block: &mut [u8], kept: usize) -> usize
+    ensures { λ r. ⌜ Closes kept (now (block .exit)) r ⌝ }
+{
+    if kept == 0 {
+        return 0;
+    }
+    if block.len() == 0 {
+        return 0;
+    }
+    block[0] = b'\n';
+    1
+}
+
+// Reads a part of the input, does the lines that end in it, and writes what they print before more is waited for.
 fn do_some(
     run: Run,
     block: &mut [u8],
@@ -332,16 +443,14 @@ fn do_some(
     cells: &mut [i64],
     bytes: &mut [u8],
     out: &mut [u8],
-) -> Run {
-    let n = io::read_full(STDIN_FILENO, block);
-    if n == 0 {
-        let mut r = run;
-        r.ended = true;
-        return r;
-    }
-    do_block(
+) -> Run
+    ensures { λ r. ⌜ Turn (now (block .exit)) run r (point (run .state) (now (names .entry)) (now (times .entry)) (now (values .entry)) (now (words .entry)) (now (cells .entry)) (now (bytes .entry))) (point (r .state) (now (names .exit)) (now (times .exit)) (now (values .exit)) (now (words .exit)) (now (cells .exit)) (now (bytes .exit))) (now (line .entry)) (now (line .exit)) (now (out .entry)) (now (out .exit)) ⌝ }
+{
+    let got = read_some(block, run.kept);
+    let n = got.count;
+    let mut r = do_block(
         run,
-        &block[..n],
+        &block[0..n],
         names,
         times,
         values,
@@ -350,12 +459,26 @@ fn do_some(
         cells,
         bytes,
         out,
-    )
+    );
+    r.output = flush(out, r.output);
+    r.failed = got.failed;
+    r.ended = is_over(got.ended, r.output.lost);
+    r
 }
 
-// One turn less, none where the input ended.
+// A run ends with its input, or where output is lost.
+fn is_over(ended: bool, lost: bool) -> bool
+    ensures { λ r. ⌜ r ≡ cond ended true lost ⌝ }
+{
+    if ended {
+        return true;
+    }
+    lost
+}
+
+// One turn less, none where the run ended.
 fn turns_left(turns: u64, ended: bool) -> u64
-    ensures { λ r. ⌜ r ≤ turns - 1 ⌝ }
+    ensures { λ r. ⌜ r ≡ cond ended 0 (turns - 1) ⌝ }
 {
     if ended {
         return 0;
@@ -378,7 +501,10 @@ fn do_all(
     cells: &mut [i64],
     bytes: &mut [u8],
     out: &mut [u8],
-) -> Run {
+) -> Run
+    requires { ⌜ Lent run (point (run .state) (now names) (now times) (now values) (now words) (now cells) (now bytes)) (now block) (now line) (now out) ⌝ }
+    ensures { λ r. ⌜ All run r (point (run .state) (now (names .entry)) (now (times .entry)) (now (values .entry)) (now (words .entry)) (now (cells .entry)) (now (bytes .entry))) (point (r .state) (now (names .exit)) (now (times .exit)) (now (values .exit)) (now (words .exit)) (now (cells .exit)) (now (bytes .exit))) (now (line .entry)) (now (line .exit)) (now (out .entry)) (now (out .exit)) ⌝ }
+{
     let mut r = run;
     let mut turns = u64::MAX;
     while 0 < turns {
@@ -399,11 +525,41 @@ fn do_all(
     r
 }
 
-// Whether the first argument is `--explain`.
-fn explains() -> bool {
-    let mut word = [0u8; 9];
-    let n = os::arg(1, &mut word);
-    n == 9 && check::same(&word, b"--explain")
+// ---- the program
+
+// Whether one of the program's arguments is a word.
+fn is_argument(i: usize, word: &[u8]) -> bool {
+    let mut got = [0u8; 16];
+    let n = os::arg(i, &mut got);
+    check::same(&got[..n], word)
+}
+
+// Whether one of its first two arguments is.
+fn is_given(word: &[u8]) -> bool {
+    if is_argument(1, word) {
+        return true;
+    }
+    is_argument(2, word)
+}
+
+// With the argument `--status`, how the run ended, as a digit on descriptor 3, since a program has no exit status of its own: 0, 1 where a line was refused, 3 where output could not be written or input not read.
+fn say_status(failed: bool, lost: bool, refused: bool) {
+    if !is_given(b"--status") {
+        return;
+    }
+    if failed {
+        io::write_all(3, b"3");
+        return;
+    }
+    if lost {
+        io::write_all(3, b"3");
+        return;
+    }
+    if refused {
+        io::write_all(3, b"1");
+        return;
+    }
+    io::write_all(3, b"0");
 }
 
 fn main() {
@@ -420,8 +576,14 @@ fn main() {
         state: State::new(),
         lines: 0,
         kept: 0,
-        used: 0,
-        explains: explains(),
+        at: 0,
+        output: Output {
+            used: 0,
+            lost: false,
+        },
+        explains: is_given(b"--explain"),
+        refused: false,
+        failed: false,
         ended: false,
     };
     let r = do_all(
@@ -436,40 +598,5 @@ fn main() {
         &mut bytes,
         &mut out,
     );
-    let t = do_last(
-        r,
-        &mut names,
-        &mut times,
-        &mut values,
-        &mut words,
-        &line,
-        &mut cells,
-        &mut bytes,
-        &mut out,
-    );
-    finish(&out, t.used);
-}
-
-// Does a last line that no line feed ends.
-fn do_last(
-    run: Run,
-    names: &mut [u64],
-    times: &mut [u32],
-    values: &mut [i32],
-    words: &mut [u32],
-    line: &[u8],
-    cells: &mut [i64],
-    bytes: &mut [u8],
-    out: &mut [u8],
-) -> Run {
-    if run.kept == 0 {
-        return run;
-    }
-    do_line(run, names, times, values, words, line, cells, bytes, out)
-}
-
-// Writes what is kept of the output.
-fn finish(out: &[u8], used: usize) {
-    let n = least(used, out.len());
-    io::write_all(STDOUT_FILENO, &out[0..n]);
+    say_status(r.failed, r.output.lost, r.refused);
 }

@@ -1,56 +1,63 @@
 use borrow.Author.Needs.{needs}
-use mathlib.Core.Path.{_≡_, _∙_}
-use native.Mathlib.Omega.{arith}
+use mathlib.Core.Path.{_≡_, refl, _∙_}
 use lib.ListN.{length}
+use Rattle.program.specs.Runs.{point}
+use Rattle.program.proofs.Rooms.{turns-less}
+use Rattle.program.proofs.Whole.{Turns, turns-start, turns-more, turns-end, wide, wide-line}
 use Rattle.program.proofs.do_all.Statement.{statement}
 use Rattle.program.proofs.do_all.Tie as tie
 
 abbrev Inv-loop : tie.InvT-loop
 Inv-loop block₀ names₀ times₀ values₀ words₀ line₀ cells₀ bytes₀ out₀ r₀ turns₀ block names times values words line cells bytes out r turns =
-    (length block ≡ length block₀) × (length names ≡ length names₀) × (length times ≡ length times₀) × (length values ≡ length values₀) × (length words ≡ length words₀) × (length line ≡ length line₀) × (length cells ≡ length cells₀) × (length bytes ≡ length bytes₀) × (length out ≡ length out₀)
+    (length block ≡ length block₀) × (length names ≡ length names₀) × (length times ≡ length times₀) × (length values ≡ length values₀) × (length words ≡ length words₀) × (length line ≡ length line₀) × (length cells ≡ length cells₀) × (length bytes ≡ length bytes₀) × (length out ≡ length out₀) × Turns r₀ r (point (r₀ .state) names₀ times₀ values₀ words₀ cells₀ bytes₀) (point (r .state) names times values words cells bytes) line₀ line out₀ out turns
 
 abbrev μ-loop : tie.MeasureT-loop
-μ-loop block₀ names₀ times₀ values₀ words₀ line₀ cells₀ bytes₀ out₀ r₀ turns₀ block names times values words line cells bytes out r turns =
-    turns
+μ-loop block₀ names₀ times₀ values₀ words₀ line₀ cells₀ bytes₀ out₀ r₀ turns₀ block names times values words line cells bytes out r turns = turns
+
+loop-holds : tie.Need-loop-holds Inv-loop μ-loop
+loop-holds c = (refl, refl, refl, refl, refl, refl, refl, refl, refl, turns-start _ (c .before .before .before .before .before .before .before .pre .goes) refl)
+
+do-some-requires : tie.Need-do-some-requires Inv-loop μ-loop
+do-some-requires c κs = search needs
+
+turns-left-requires : tie.Need-turns-left-requires Inv-loop μ-loop
+turns-left-requires c κs = search needs
+
+loop-less : tie.Need-loop-less Inv-loop μ-loop
+loop-less c = turns-less (c .before .before .before .before .before .before .before .before .before .before .before .before .before .before .before .before .before .do-some .result .ended) (c .turns-left .ensures) (c .before .before .before .before .before .before .before .before .before .before .before .before .before .before .before .before .before .before .before .before .before .before .before .before .before .before .before .loop-test .taken)
+
+loop-again : tie.Need-loop-again Inv-loop μ-loop
+loop-again c = let k = c .before .before .before .before .before .before .before .before .before .before .before .before .before .before .before .before .before .do-some .kept in let v = c .before .before .before .before .before .before .before .before .before .before .before .before .before .before .before .before .before .before .before .before .before .before .before .before .before .before .before .before .loop .inv in let g = c .before .before .before .before .before .before .before .before .before .before .before .before .before .before .before .before .before .before .before .before .before .before .before .before .before .before .before .before .before .before .before .before .before .before .before .before .pre in (k .1 .0 ∙ v .0, k .1 .1 .0 ∙ v .1, k .1 .1 .1 .0 ∙ v .2, k .1 .1 .1 .1 .0 ∙ v .3, k .1 .1 .1 .1 .1 .0 ∙ v .4, k .1 .1 .1 .1 .1 .1 .0 ∙ v .5, k .1 .1 .1 .1 .1 .1 .1 .0 ∙ v .6, k .1 .1 .1 .1 .1 .1 .1 .1 .0 ∙ v .7, k .1 .1 .1 .1 .1 .1 .1 .1 .1 .0 ∙ v .8, turns-more (v .9) (c .before .before .before .before .before .before .before .before .before .before .before .before .before .before .before .before .before .do-some .ensures) (c .before .before .before .before .before .before .before .before .before .before .before .before .before .before .before .before .before .before .before .before .before .before .before .before .before .before .before .loop-test .taken) (c .turns-left .ensures) (wide (g .block) (k .1 .0 ∙ v .0)) (wide-line (g .line) (v .5)))
+
+same-length : tie.Need-same-length Inv-loop μ-loop
+same-length c = search needs
+
+same-length-2 : tie.Need-same-length-2 Inv-loop μ-loop
+same-length-2 c = search needs
+
+same-length-3 : tie.Need-same-length-3 Inv-loop μ-loop
+same-length-3 c = search needs
+
+same-length-4 : tie.Need-same-length-4 Inv-loop μ-loop
+same-length-4 c = search needs
+
+same-length-5 : tie.Need-same-length-5 Inv-loop μ-loop
+same-length-5 c = search needs
+
+same-length-6 : tie.Need-same-length-6 Inv-loop μ-loop
+same-length-6 c = search needs
+
+same-length-7 : tie.Need-same-length-7 Inv-loop μ-loop
+same-length-7 c = search needs
+
+same-length-8 : tie.Need-same-length-8 Inv-loop μ-loop
+same-length-8 c = search needs
+
+same-length-9 : tie.Need-same-length-9 Inv-loop μ-loop
+same-length-9 c = search needs
+
+returns : tie.Need-returns Inv-loop μ-loop
+returns c = turns-end (c .before .loop .inv .9) (c .loop-test .left)
 
 pub do-all-spec : {M : Type 1} → statement M
-do-all-spec =
-    tie.close
-    (tie.spec
-    Inv-loop
-    μ-loop
-    {-
-    loop-holds
-    -}
-    (λ
-    c.
-    search
-    needs)
-    {- do-some-requires -}
-    (λ c κs. search needs)
-    {- turns-left-requires -}
-    (λ c κs. search needs)
-    {- loop-less -}
-    (λ c. omega (arith, c .turns-left .ensures, c .before .before .before .before .before .before .before .before .before .before .before .before .before .before .before .before .before .before .before .before .before .before .before .before .before .before .before .loop-test .taken))
-    {- loop-again -}
-    (λ c. let k = c .before .before .before .before .before .before .before .before .before .before .before .before .before .before .before .before .before .do-some .kept in let v = c .before .before .before .before .before .before .before .before .before .before .before .before .before .before .before .before .before .before .before .before .before .before .before .before .before .before .before .before .loop .inv in (k .1 .0 ∙ v .0, k .1 .1 .0 ∙ v .1, k .1 .1 .1 .0 ∙ v .2, k .1 .1 .1 .1 .0 ∙ v .3, k .1 .1 .1 .1 .1 .0 ∙ v .4, k .1 .1 .1 .1 .1 .1 .0 ∙ v .5, k .1 .1 .1 .1 .1 .1 .1 .0 ∙ v .6, k .1 .1 .1 .1 .1 .1 .1 .1 .0 ∙ v .7, k .1 .1 .1 .1 .1 .1 .1 .1 .1 .0 ∙ v .8))
-    {- same-length -}
-    (λ c. search needs)
-    {- same-length-2 -}
-    (λ c. search needs)
-    {- same-length-3 -}
-    (λ c. search needs)
-    {- same-length-4 -}
-    (λ c. search needs)
-    {- same-length-5 -}
-    (λ c. search needs)
-    {- same-length-6 -}
-    (λ c. search needs)
-    {- same-length-7 -}
-    (λ c. search needs)
-    {- same-length-8 -}
-    (λ c. search needs)
-    {- same-length-9 -}
-    (λ c. search needs)
-    {- returns -}
-    (λ c. search needs))
+do-all-spec = tie.close (tie.spec Inv-loop μ-loop loop-holds do-some-requires turns-left-requires loop-less loop-again same-length same-length-2 same-length-3 same-length-4 same-length-5 same-length-6 same-length-7 same-length-8 same-length-9 returns)

@@ -1,5 +1,5 @@
 use borrow.Author.Needs.{needs}
-use Rattle.program.proofs.Output.{print-ends}
+use Rattle.program.proofs.Printing.{print-ends}
 use Rattle.program.proofs.print.Statement.{statement}
 use Rattle.program.proofs.print.Tie as tie
 

@@ -1,6 +1,7 @@
 -- The text of an outcome, and output that is kept.
 use mathlib.Core.Path.{_≡_, refl, sym, ap, _∙_, subst}
 use mathlib.Core.List.{List, _++_, append-assoc}
+use mathlib.Core.Bool.{Bool, false}
 use Prim.Native.Nat.{ℕ, zero, suc, _+_, _*_, _-_, _≤_, min}
 use native.Mathlib.Omega.{arith}
 use lib.IntN.{ℤ}
@@ -11,10 +12,12 @@ use Rattle.calls.specs.Scripts.{refusal, cells, text}
 use Rattle.report.specs.Outcomes.{put-outcome, outcome-text}
 use Rattle.report.specs.Written.{Written}
 use Rattle.syntax.specs.Readers.{verb-of}
-use Rattle.history.specs.Fixtures.{Store}
 use Rattle.script.specs.States.{Saying}
 use Rattle.script.specs.Steps.{outcome-of, Does}
-use Rattle.program.specs.Output.{most-text, Room, Adds, Done}
+use Rattle.script.specs.Runs.{store}
+use Rattle.program.specs.declared.Run.{Run}
+use Rattle.program.specs.Output.{most-text, Room, Tells, Adds}
+use Rattle.program.specs.Runs.{Point, outcome-at, text-room, Follows, Done}
 use Rattle.program.proofs.Keeping.{take-min}
 
 -- ---- outcomes by kind
@@ -69,10 +72,13 @@ take-more a b n e c = ap (λ (w : Bytes). take n w) (sym (append-assoc a b c)) �
 
 module _ (t : Bytes) (most used : ℕ) (m : Bytes) {at : ℕ} (x : Room m used at) where
   -- the text is written into the part of m from `at` on, which leaves q
-  pub text-added : {q : Bytes} {n k : ℕ} (e : ℕ) → e ≡ length m → Written t most (take (e - at) (drop at m)) q n → k ≡ min n (length m - at) → length (take at m ++ (q ++ drop (e - at) (drop at m))) ≡ length m
-      → Adds t most m used (take at m ++ (q ++ drop (e - at) (drop at m))) (at + k)
-  text-added {q} {n} {k} e f y g l =
-      record { from = at; start = x; inside = let a = x .inside in omega arith; bytes = fits }
+  pub text-added : {q : Bytes} {n k : ℕ} (e : ℕ) → e ≡ length m → Written t most (take (e - at) (drop at m)) q n → k ≡ min n (length m - at)
+      → Adds t most false m used (take at m ++ (q ++ drop (e - at) (drop at m))) (at + k)
+  text-added {q} {n} {k} e f y g =
+      record {
+        rest = λ h i. record { written = x .rest .written; all = ap (λ (w : Bytes). x .rest .written ++ w) (fits h i) ∙ sym (append-assoc (x .rest .written) (take at m) t) ∙ ap (λ (w : Bytes). w ++ t) (x .rest .all) };
+        kept = λ o h i. fits h (omega arith) ∙ ap (λ (j : ℕ). take j m ++ t) (x .kept i);
+      }
     where
       fits : most ≤ most-text → most-text ≤ length m → take (at + k) (take at m ++ (q ++ drop (e - at) (drop at m))) ≡ take at m ++ t
       fits h i =
@@ -88,11 +94,19 @@ module _ (t : Bytes) (most used : ℕ) (m : Bytes) {at : ℕ} (x : Room m used a
           ∙ ap (λ (z : Bytes). take (at + k) (take at m ++ z)) (append-assoc t (drop (length t) (take (e - at) (drop at m))) (drop (e - at) (drop at m)))
           ∙ take-more (take at m) t (at + k) (omega arith) (drop (length t) (take (e - at) (drop at m)) ++ drop (e - at) (drop at m))
 
+-- the output up to a refusal is written before the reason
+pub told-behind : {t : Bytes} {n used : ℕ} {m m′ : Bytes} {r r′ : ℕ} (explains : Bool) → Adds t n false m used m′ r → Tells m′ r explains r′ → Adds t n explains m used m′ r′
+told-behind {t} {n} {used} {m} {m′} {r} {r′} explains x y =
+    record {
+      rest = λ h i. let z = x .rest h i in record { written = z .written ++ y .rest .written; all = append-assoc (z .written) (y .rest .written) (take r′ m′) ∙ ap (λ (w : Bytes). z .written ++ w) (y .rest .all) ∙ z .all };
+      kept = λ e h i. ap (λ (j : ℕ). take j m′) (y .kept e) ∙ x .kept refl h i;
+    }
+
 -- ---- a line
 
-pub line-done : (l : Bytes) (kept n : ℕ) {s s′ : Store} {zs : List ℤ} {ys : Bytes} {zs′ : List ℤ} {ys′ m : Bytes} {used : ℕ} {m′ : Bytes} {used′ : ℕ} (y : Saying) → n ≡ min kept (length l)
-    → Does (take (n - 0) l) zs ys (verb-of (take (n - 0) l)) s s′ zs′ ys′ y → Adds (outcome-text (outcome-of (y .kind) (y .number) zs′ ys′)) (28 * length zs′ + length ys′ + 20) m used m′ used′
-    → Done (take kept l) s s′ zs ys zs′ ys′ m used m′ used′
-line-done l kept n {s} {s′} {zs} {ys} {zs′} {ys′} y e d a =
-    let f : n - 0 ≡ n = omega arith in
-    record { said = y; does = subst (λ (w : Bytes). Does w zs ys (verb-of w) s s′ zs′ ys′ y) (ap (λ (j : ℕ). take j l) (f ∙ e) ∙ take-min l kept) d; adds = a }
+pub line-done : (l : Bytes) (kept n : ℕ) {run r : Run} {p q : Point} {m m′ : Bytes} (y : Saying) → n ≡ min kept (length l)
+    → Does (take (n - 0) l) (p .cells) (p .bytes) (verb-of (take (n - 0) l)) (store (p .held)) (store (q .held)) (q .cells) (q .bytes) y
+    → Adds (outcome-text (outcome-at q y)) (text-room q) (run .explains) m (run .output .used) m′ (r .output .used) → Follows run r y → Done (take kept l) run r p q m m′
+line-done l kept n {run} {r} {p} {q} y e d a f =
+    let g : n - 0 ≡ n = omega arith in
+    record { said = y; does = subst (λ (w : Bytes). Does w (p .cells) (p .bytes) (verb-of w) (store (p .held)) (store (q .held)) (q .cells) (q .bytes) y) (ap (λ (j : ℕ). take j l) (g ∙ e) ∙ take-min l kept) d; adds = a; follows = f }
