@@ -49,7 +49,7 @@ first-stops (c ∷ cs) ds r e = go (c .fails) e (first-stops cs ds r)
     go true e k = e
     go false e k = k e
 
-first-goes-on : (cs ds : List Check) → first cs ≡ none → first (cs ++ ds) ≡ first ds
+pub first-goes-on : (cs ds : List Check) → first cs ≡ none → first (cs ++ ds) ≡ first ds
 unfolding first
 first-goes-on [] ds e = refl
 first-goes-on (c ∷ cs) ds e = go (c .fails) e (first-goes-on cs ds)

@@ -1,8 +1,8 @@
 -- A query that was answered has a line for each of its routes: the call for it is refused for want of room alone.
-use mathlib.Core.Path.{_≡_, refl, sym, ap, _∙_, subst}
+use mathlib.Core.Path.{_≡_, refl, ap, _∙_, subst}
 use mathlib.Core.List.{List, [], _∷_, _++_}
-use mathlib.Core.Bool.{Bool, true, false, not, cond, true≢false}
-use mathlib.Core.Option.{Option, none, some, Option·none-ne-some}
+use mathlib.Core.Bool.{Bool, true, false, not, true≢false}
+use mathlib.Core.Option.{Option, some}
 use Prim.Native.Nat.{ℕ, zero, suc, _<_}
 use native.Mathlib.Omega.{arith}
 use lib.IntN.{ℤ, pos}
@@ -18,7 +18,7 @@ use Rattle.model.specs.Routes.{Route}
 use Rattle.calls.specs.Names.{map-option}
 use Rattle.calls.specs.Replies.{written}
 use Rattle.calls.specs.Tables.{query-checks}
-use Rattle.calls.specs.Asking.{answer, answer-checks, numbered-line, no-line, line-given, printed-line, line-checks, with-route}
+use Rattle.calls.specs.Asking.{answer-checks, numbered-line, no-line, line-given, line-checks, with-route}
 use Rattle.schema.specs.Schemas.{schema-of}
 use Rattle.ledger.specs.Records.{record-of}
 use Rattle.caller.specs.Callers.{caller-of}
@@ -26,21 +26,12 @@ use Rattle.grant.specs.Catalogues.{catalogue-of}
 use Rattle.ask.specs.declared.Reply.{Reply}
 use Rattle.ask.specs.Replies.{Replies}
 use Rattle.ask.specs.Asking.{Lending, lent-sound, asked-table, asked, lined-table, lined}
+use Rattle.ask.proofs.Passed.{first-goes-on}
 use Rattle.query_text.proofs.Firsts.{not-first}
 use Rattle.demands.specs.Holding.{routes-of}
 use Rattle.demands.specs.Refusing.{refused-number, first-number}
 use Rattle.demands.proofs.Refused.{lined-refusal}
 use Rattle.demands.proofs.Answered.{both-pass, replied}
-
--- where the checks in front all pass, the others tell
-tail-first : (cs ds : List Check) → first cs ≡ none → first (cs ++ ds) ≡ first ds
-unfolding first
-tail-first [] ds h = refl
-tail-first (c ∷ cs) ds h = go (c .fails) h (tail-first cs ds)
-  where
-    go : (b : Bool) → cond b (some (c .refusal)) (first cs) ≡ none → (first cs ≡ none → first (cs ++ ds) ≡ first ds) → cond b (some (c .refusal)) (first (cs ++ ds)) ≡ first ds
-    go true h k = absurd (Option·none-ne-some (c .refusal) (sym h))
-    go false h k = k h
 
 line-there : (d : Schema) (who : Caller) (rs : List Route) (n : ℕ) → n < length rs → no-line (numbered-line d who rs (pos (suc n))) ≡ false
 unfolding numbered-line no-line
@@ -72,7 +63,7 @@ module _ (x : Lending) (spare : ℕ) (bs : Bytes) (q : Form) where
       let (a, b) = both-pass front (answer-checks (record-of (x .memory)) c w cells q) (replied _ _ cells _ _ p e .0) in
       let many = not-first (ltb max-routes (length (routes-of x q))) ManyRoutes _ (not-first (empty? (routes-of x q)) NoRoute _ b .1) .0 in
       let last : List Check = line-checks (record-of (x .memory)) c w out (numbered n) in
-      let is : i .refusal ≡ first-number last = lined-refusal x spare (some (numbered n)) bs out l .0 ∙ ap refused-number (tail-first front last a) in
+      let is : i .refusal ≡ first-number last = lined-refusal x spare (some (numbered n)) bs out l .0 ∙ ap refused-number (first-goes-on front last a) in
       is ∙ only-room _ _ _ (line-there (schema-of (x .memory .names)) w (routes-of x q) n h) many (λ g. room (is ∙ g))
 
 -- of what was read of a text
