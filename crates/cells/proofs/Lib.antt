@@ -1,6 +1,3 @@
-pub mod Columns
-pub mod Fours
-pub mod Keyed
 pub mod Tests
 pub mod Stored
 pub mod Walks

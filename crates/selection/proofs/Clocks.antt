@@ -22,8 +22,8 @@ use Rattle.nodes.specs.Nodes.{numbered-op}
 use Rattle.rows.specs.declared.Rows.{Rows}
 use Rattle.rows.specs.Masks.{one, rows-of}
 use Rattle.rows.proofs.Masks.{rows-alike}
-use Rattle.cells.specs.Columns.{strip, compared-at}
-use Rattle.cells.proofs.Columns.{test-same, test-other, less-test}
+use Rattle.column_masks.specs.Columns.{strip, compared-at}
+use Rattle.column_masks.proofs.Columns.{test-same, test-other, less-test}
 use Rattle.selection.specs.declared.Scope.{Scope}
 use Rattle.selection.specs.Evaluating.{relate, left-time, time-at, clock-at, later-of, clocked}
 

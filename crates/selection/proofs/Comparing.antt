@@ -16,10 +16,10 @@ use Rattle.model.specs.Meaning.{compares}
 use Rattle.nodes.specs.Nodes.{numbered-op}
 use Rattle.rows.specs.declared.Rows.{Rows}
 use Rattle.rows.specs.Masks.{rows-of, no-rows, first-rows, flip-of}
-use Rattle.cells.specs.Columns.{compared-at}
+use Rattle.column_masks.specs.Columns.{compared-at}
 use Rattle.selection.specs.Evaluating.{relate}
 use Rattle.rows.proofs.Masks.{rows-alike, rows-flip, rows-none}
-use Rattle.cells.proofs.Columns.{same-test, less-test}
+use Rattle.column_masks.proofs.Columns.{same-test, less-test}
 
 leb-not : (a b : ℕ) → leb a b ≡ not (ltb b a)
 leb-not a b = go (decLt b a)

@@ -27,7 +27,7 @@ use Rattle.grant.specs.Grants.{no-time, limit-of}
 use Rattle.rows.specs.declared.Rows.{Rows}
 use Rattle.rows.specs.Masks.{one, rows-of, no-rows}
 use Rattle.rows.proofs.Masks.{rows-alike, rows-none, rows-shift}
-use Rattle.cells.specs.Columns.{compared-at}
+use Rattle.column_masks.specs.Columns.{compared-at}
 use Rattle.selection.specs.declared.Scope.{Scope}
 use Rattle.selection.specs.Scopes.{times-fit, scope-fits, scope-columns, scope-row, meets, time-limits, timely}
 use Rattle.selection.specs.Evaluating.{relate, left-time, time-at, Lent, in-span, timed, past, low-of, high-of, in-limits, clock-at}

@@ -23,8 +23,8 @@ use Rattle.nodes.specs.Nodes.{unbiased, coded-term, numbered-op, node-compare}
 use Rattle.rows.specs.declared.Rows.{Rows}
 use Rattle.rows.specs.Masks.{rows-of}
 use Rattle.rows.proofs.Masks.{rows-alike}
-use Rattle.cells.specs.Columns.{strip, strip-lent, compared-at}
-use Rattle.cells.proofs.Columns.{lent-true}
+use Rattle.column_masks.specs.Columns.{strip, strip-lent, compared-at}
+use Rattle.column_masks.proofs.Columns.{lent-true}
 use Rattle.selection.specs.declared.Side.{Side}
 use Rattle.selection.specs.declared.Scope.{Scope}
 use Rattle.selection.specs.Scopes.{scope-columns, scope-row, paired, entry-at, profile-in}

@@ -11,7 +11,7 @@ use mir.Val.{Fits}
 use Rattle.rows.specs.declared.Rows.{Rows}
 use Rattle.rows.specs.Masks.{one, bits, part, rows-of, first-rows, both-of}
 use Rattle.rows.proofs.Masks.{bits-lt}
-use Rattle.cells.proofs.Keyed.{shift-one, bits-last}
+use Rattle.column_masks.proofs.Keyed.{shift-one, bits-last}
 
 -- ---- a bit more
 

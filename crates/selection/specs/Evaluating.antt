@@ -21,7 +21,7 @@ use Rattle.nodes.specs.Nodes.{node-at, numbered-op, first-cond, list-in}
 use Rattle.grant.specs.Grants.{no-time}
 use Rattle.rows.specs.declared.Rows.{Rows}
 use Rattle.rows.specs.Masks.{rows-of, no-rows, first-rows, both-of, either-of}
-use Rattle.cells.specs.Columns.{compared-at}
+use Rattle.column_masks.specs.Columns.{compared-at}
 use Rattle.selection.specs.declared.Side.{Side}
 use Rattle.selection.specs.declared.Scope.{Scope}
 use Rattle.selection.specs.Scopes.{paired, scope-columns, scope-row, profile-in, cond-at}

@@ -15,7 +15,7 @@ ghost use Rattle.text.specs.Words.{name-of};
 ghost use Rattle.ledger.specs.Records.{places-size, values-size};
 ghost use Rattle.nodes.specs.Nodes.{unbiased, coded-term, numbered-op, node-of, node-at, node-compare, link, conditions-of};
 ghost use Rattle.rows.specs.Masks.{one, bits, part, rows-of};
-ghost use Rattle.cells.specs.Columns.{strip, strip-lent, compared-at};
+ghost use Rattle.column_masks.specs.Columns.{strip, strip-lent, compared-at};
 ghost use Rattle.selection.specs.Scopes.{times-fit, scope-fits, profile-in, cond-at, selected, selected-all, timely};
 ghost use Rattle.selection.specs.Evaluating.{relate, column-end, left-time, side-value, Stands, Lent, left-named, wide, narrow, Taken, Leads, passing, list-passing, list-at, start-of, joined-of, in-span, timed, past, low-of, high-of, in-limits, time-at, clock-at, later-of, clocked, bare, parted, lists, Carried};
 use cells::Cell;
@@ -84,21 +84,21 @@ fn related(head: u32, values: &[i32], p: u32, q: u32, n: u32) -> Rows
 {
     let s = Scope::COLUMNS;
     if head == 1 {
-        return cells::same_rows(values, p, s, values, q, s, n);
+        return column_masks::same_rows(values, p, s, values, q, s, n);
     }
     if head == 2 {
-        return Rows::first(n).flip(cells::same_rows(values, p, s, values, q, s, n));
+        return Rows::first(n).flip(column_masks::same_rows(values, p, s, values, q, s, n));
     }
     if head == 3 {
-        return cells::less_rows(values, p, s, values, q, s, n);
+        return column_masks::less_rows(values, p, s, values, q, s, n);
     }
     if head == 4 {
-        return Rows::first(n).flip(cells::less_rows(values, q, s, values, p, s, n));
+        return Rows::first(n).flip(column_masks::less_rows(values, q, s, values, p, s, n));
     }
     if head == 5 {
-        return cells::less_rows(values, q, s, values, p, s, n);
+        return column_masks::less_rows(values, q, s, values, p, s, n);
     }
-    Rows::first(n).flip(cells::less_rows(values, p, s, values, q, s, n))
+    Rows::first(n).flip(column_masks::less_rows(values, p, s, values, q, s, n))
 }
 
 // The rows where a column, which begins at a place of the values, compares so with a value.
@@ -107,21 +107,21 @@ fn by_value(head: u32, values: &[i32], p: u32, v: Cell, n: u32) -> Rows
     ensures { λ x. ⌜ x ≡ rows-of (relate head (strip (now (values .entry)) p max-columns) (λ i. v .v)) 0 n ⌝ }
 {
     if head == 1 {
-        return cells::matched(Cell::SAME, values, p, v, n);
+        return column_masks::matched(Cell::SAME, values, p, v, n);
     }
     if head == 2 {
-        return Rows::first(n).flip(cells::matched(Cell::SAME, values, p, v, n));
+        return Rows::first(n).flip(column_masks::matched(Cell::SAME, values, p, v, n));
     }
     if head == 3 {
-        return cells::matched(Cell::BELOW, values, p, v, n);
+        return column_masks::matched(Cell::BELOW, values, p, v, n);
     }
     if head == 4 {
-        return Rows::first(n).flip(cells::matched(Cell::ABOVE, values, p, v, n));
+        return Rows::first(n).flip(column_masks::matched(Cell::ABOVE, values, p, v, n));
     }
     if head == 5 {
-        return cells::matched(Cell::ABOVE, values, p, v, n);
+        return column_masks::matched(Cell::ABOVE, values, p, v, n);
     }
-    Rows::first(n).flip(cells::matched(Cell::BELOW, values, p, v, n))
+    Rows::first(n).flip(column_masks::matched(Cell::BELOW, values, p, v, n))
 }
 
 // The head of a comparison whose sides are turned.

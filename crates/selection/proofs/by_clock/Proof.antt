@@ -1,5 +1,5 @@
 use borrow.Author.Needs.{needs}
-use Rattle.cells.specs.Columns.{strip}
+use Rattle.column_masks.specs.Columns.{strip}
 use Rattle.selection.specs.Evaluating.{clocked}
 use Rattle.selection.proofs.Comparing.{compared-eq, compared-ne, compared-lt, compared-le, compared-gt, compared-ge}
 use Rattle.selection.proofs.Clocks.{rows-above}

@@ -2,7 +2,7 @@ use borrow.Author.Needs.{needs}
 use mathlib.Core.Path.{refl, ap, _∙_}
 use native.Mathlib.Omega.{arith}
 use lib.IntN.{pos}
-use Rattle.cells.specs.Columns.{strip}
+use Rattle.column_masks.specs.Columns.{strip}
 use Rattle.selection.specs.Evaluating.{later-of, bare, parted}
 use Rattle.selection.proofs.Clocks.{clocked-rows}
 use Rattle.selection.proofs.Relating.{valued-column, valued-fixed, times-valued, times-self}

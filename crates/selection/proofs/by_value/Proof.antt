@@ -1,5 +1,5 @@
 use borrow.Author.Needs.{needs}
-use Rattle.cells.proofs.Columns.{matched-same, matched-below, matched-above}
+use Rattle.column_masks.proofs.Columns.{matched-same, matched-below, matched-above}
 use Rattle.selection.proofs.Comparing.{compared-eq, compared-ne, compared-lt, compared-le, compared-gt, compared-ge}
 use Rattle.selection.proofs.by_value.Statement.{statement}
 use Rattle.selection.proofs.by_value.Tie as tie

@@ -1,5 +1,5 @@
 use borrow.Author.Needs.{needs}
-use Rattle.cells.proofs.Columns.{compared-lent}
+use Rattle.column_masks.proofs.Columns.{compared-lent}
 use Rattle.selection.proofs.Comparing.{compared-ends}
 use Rattle.selection.proofs.related.Statement.{statement}
 use Rattle.selection.proofs.related.Tie as tie
