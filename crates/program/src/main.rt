@@ -11,6 +11,7 @@ ghost use Rattle.script.specs.Steps.{outcome-of};
 ghost use Rattle.program.specs.Lines.{Ends, Keeps, Closes, Reads};
 ghost use Rattle.program.specs.Output.{Room, Tells, Adds};
 ghost use Rattle.program.specs.Runs.{point, Done, Part, Block, Turn, Lent, All};
+// Named since a State holds one: the checker knows the types of the crates that are named here alone.
 use caller::Caller;
 use grant::Grant;
 use ledger::Ledger;
