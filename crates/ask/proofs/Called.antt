@@ -4,6 +4,7 @@ use mathlib.Core.List.{List}
 use mathlib.Core.Bool.{Bool, true, false, _&&_, not}
 use Prim.Native.Nat.{ℕ}
 use lib.IntN.{ℤ}
+use lib.Dec.{T}
 use mir.Syntax.{w64}
 use mir.Val.{SFits, toZ, ofZ}
 use mir.ValLaws.{toZ-ofZ}
@@ -13,7 +14,9 @@ use Rattle.refusal.specs.Checks.{first, table}
 use Rattle.refusal.specs.declared.Refusal.{Refusal}
 use Rattle.refusal.specs.declared.Verdict.{Verdict}
 use Rattle.refusal.specs.declared.Verdict.the-variants.{Accepted, Refused}
+use Rattle.lists.specs.Lists.{every}
 use Rattle.syntax.specs.Grammar.{Bytes}
+use Rattle.syntax.specs.Limits.{is-value}
 use Rattle.ledger.specs.Records.{Memory, memory-sound}
 use Rattle.caller.specs.declared.Caller.{Caller}
 use Rattle.caller.specs.Callers.{caller-sound}
@@ -78,8 +81,8 @@ module _ (m : Memory) (ws : List ℕ) (who : Caller) (t : Told) (x : Opened) {b 
   -- ---- and the number of a route
 
   module _ (number : ℤ) (out : Bytes) where
-    pub lines-refused : {f : Refusal} → v ≡ Refused f → {r : Reply} → r ≡ refused-with f → Lines m ws who t x number out out r
-    lines-refused e g = record { shown = λ spare bs form gs text opened. line-refused m ws who t spare bs form gs text opened may told number out e g }
+    pub lines-refused : T (every is-value (m .values)) → {f : Refusal} → v ≡ Refused f → {r : Reply} → r ≡ refused-with f → Lines m ws who t x number out out r
+    lines-refused i e g = record { shown = λ spare bs form gs text opened. record { said = line-refused m ws who t spare bs form gs text opened may told number out e g; ranges = i } }
 
     pub lines-ready : Prepared (m .names) ws who t x → v ≡ Accepted → {ps : List ℕ} → ps ≡ profile-of who
         → Printable (record { names = m .names; own = t .words; granted = ws; profile = ps; forms = query-forms (t .query) }) (x .opens) (t .needs)
@@ -88,13 +91,16 @@ module _ (m : Memory) (ws : List ℕ) (who : Caller) (t : Told) (x : Opened) {b 
         (line-ready m ws who t (p .spare) (p .bytes) (p .form) (p .grants) (p .text) (p .opened) may told number out e)
 
     -- the number was handed on
-    pub lines-given : v ≡ Accepted → SFits w64 number → {ps : List ℕ} → ps ≡ profile-of who → {out′ : Bytes} {r : Reply}
+    pub lines-given : T (every is-value (m .values)) → v ≡ Accepted → SFits w64 number → {ps : List ℕ} → ps ≡ profile-of who → {out′ : Bytes} {r : Reply}
         → Replies (print-reply (record { names = m .names; own = t .words; granted = ws; profile = ps; forms = query-forms (t .query) }) (x .opens) (t .needs) (toZ w64 (ofZ w64 number)) out) out out′ r
         → Lines m ws who t x number out out′ r
-    lines-given e f g {out′} {r} h =
+    lines-given i e f g {out′} {r} h =
         record {
-          shown = λ spare bs form gs text opened. line-answered m ws who t spare bs form gs text opened may told number out e
-              (subst (λ l. Replies (print-reply (record { names = m .names; own = t .words; granted = ws; profile = l; forms = query-forms (t .query) }) (x .opens) (t .needs) number out) out out′ r) g (rw (toZ-ofZ w64 number f) at h));
+          shown = λ spare bs form gs text opened. record {
+            said = line-answered m ws who t spare bs form gs text opened may told number out e
+                (subst (λ l. Replies (print-reply (record { names = m .names; own = t .words; granted = ws; profile = l; forms = query-forms (t .query) }) (x .opens) (t .needs) number out) out out′ r) g (rw (toZ-ofZ w64 number f) at h));
+            ranges = i;
+          };
         }
 
 -- ---- and the number that the text has
@@ -104,5 +110,6 @@ pub lines-numbered : (m : Memory) (ws : List ℕ) (who : Caller) (t : Told) (x :
 lines-numbered m ws who t x out f {out′} {r} h =
     record {
       shown = λ spare bs o gs read opened.
-          subst (λ y. Replies y out out′ r) (line-numbered m ws who t spare bs gs opened out o read) (subst (λ (n : ℤ). Lines m ws who t x n out out′ r) (toZ-ofZ w64 (t .number) f) h .shown spare bs _ gs (read .text) opened);
+          let l = subst (λ (n : ℤ). Lines m ws who t x n out out′ r) (toZ-ofZ w64 (t .number) f) h .shown spare bs _ gs (read .text) opened in
+          record { said = subst (λ y. Replies y out out′ r) (line-numbered m ws who t spare bs gs opened out o read) (l .said); ranges = l .ranges };
     }

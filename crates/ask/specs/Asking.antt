@@ -5,9 +5,12 @@ use mathlib.Core.Bool.{Bool, _&&_, not}
 use mathlib.Core.Option.{Option}
 use Prim.Native.Nat.{ℕ}
 use lib.IntN.{ℤ}
+use lib.Dec.{T}
 use Rattle.refusal.specs.Checks.{Check, refuse, first}
 use Rattle.refusal.specs.declared.Refusal.the-variants.{Lent}
+use Rattle.lists.specs.Lists.{every}
 use Rattle.syntax.specs.Grammar.{Bytes, Form, RouteLine}
+use Rattle.syntax.specs.Limits.{is-value}
 use Rattle.calls.specs.Replies as C
 use Rattle.calls.specs.Replies.{written, reply}
 use Rattle.calls.specs.Tables.{query-checks}
@@ -76,11 +79,16 @@ pub record Answers (m : Memory) (granted : List ℕ) (who : Caller) (t : Told) (
   pub shown : (spare : ℕ) (bs : Bytes) (form : Option Form) (gs : List Grant) → TextRead spare form (m .names) bs t → x ≡ opened-in (t .needs) (m .names) gs granted (roles-of who) (profile-of who)
       → Replies (asked spare form (record { memory = m; grants = gs; granted = granted; caller = who }) bs cells) cells cells′ r
 
+-- the reply to a call for a line, and that the values lent to it are numbers of 32 bits
+pub record LineReplies (spare : ℕ) (o : Option RouteLine) (x : Lending) (bs out out′ : Bytes) (r : Reply) : Type 0 where
+  pub said : Replies (lined spare o x bs out) out out′ r
+  pub ranges : T (every is-value (x .memory .values))
+
 pub record Lines (m : Memory) (granted : List ℕ) (who : Caller) (t : Told) (x : Opened) (number : ℤ) (out out′ : Bytes) (r : Reply) : Type 0 where
   pub shown : (spare : ℕ) (bs : Bytes) (form : Option Form) (gs : List Grant) → TextRead spare form (m .names) bs t → x ≡ opened-in (t .needs) (m .names) gs granted (roles-of who) (profile-of who)
-      → Replies (lined spare (with-route number form) (record { memory = m; grants = gs; granted = granted; caller = who }) bs out) out out′ r
+      → LineReplies spare (with-route number form) (record { memory = m; grants = gs; granted = granted; caller = who }) bs out out′ r
 
 -- and with the number that the text has
 pub record RouteLines (m : Memory) (granted : List ℕ) (who : Caller) (t : Told) (x : Opened) (out out′ : Bytes) (r : Reply) : Type 0 where
   pub shown : (spare : ℕ) (bs : Bytes) (o : Option RouteLine) (gs : List Grant) → RouteRead spare o (m .names) bs t → x ≡ opened-in (t .needs) (m .names) gs granted (roles-of who) (profile-of who)
-      → Replies (lined spare o (record { memory = m; grants = gs; granted = granted; caller = who }) bs out) out out′ r
+      → LineReplies spare o (record { memory = m; grants = gs; granted = granted; caller = who }) bs out out′ r

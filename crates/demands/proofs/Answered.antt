@@ -15,14 +15,15 @@ use Rattle.refusal.specs.Checks.{Check, refuse, first, passes}
 use Rattle.refusal.specs.declared.Refusal.{Refusal}
 use Rattle.refusal.specs.declared.Refusal.the-variants.{Lent, Malformed, Bound, Undeclared, Repeated, Misplaced, WindowSize, ClockBack, StreamFull, NoRoute, ManyRoutes, NoRoom}
 use Rattle.refusal.proofs.Passing.{passes-first}
-use Rattle.lists.specs.Lists.{every, nth, empty?}
+use Rattle.lists.specs.Lists.{nth, empty?}
 use Rattle.lists.proofs.Laws.{not-not, all-nth}
 use Rattle.syntax.specs.Grammar.{Bytes, Form, RouteLine}
-use Rattle.syntax.specs.Limits.{is-value, max-line, max-routes, shallow}
+use Rattle.syntax.specs.Limits.{max-line, max-routes, shallow}
 use Rattle.model.specs.Queries as M
 use Rattle.model.specs.Routes.{Route}
 use Rattle.model.specs.Answers.{route-table, answer-cells}
 use Rattle.calls.specs.Replies.{written, reply, lent-after}
+use Rattle.calls.specs.Validity.{valid-record}
 use Rattle.calls.specs.Tables.{query-checks}
 use Rattle.calls.specs.Asking.{answer, answer-checks, route-line, numbered-line, some-bytes, no-line, line-given, printed-line, line-checks, run-line}
 use Rattle.claims.proofs.Claims.{printed}
@@ -35,7 +36,7 @@ use Rattle.ask.specs.Replies.{reply-of, Replies}
 use Rattle.ask.specs.Asking.{Lending, lent-sound, asked-table, asked, lined-table, lined}
 use Rattle.query_text.proofs.Firsts.{not-first}
 use Rattle.demands.specs.Holding.{routes-of, Answered, Lined}
-use Rattle.demands.proofs.Defined.{valid-kept, valid-cat}
+use Rattle.demands.proofs.Defined.{valid-cat}
 
 -- ---- a reply that is no refusal
 
@@ -54,7 +55,7 @@ numbered ManyRoutes e = omega arith
 numbered NoRoom e = omega arith
 
 -- no check of the table failed, and what was written stands first
-replied : {A : Type 0} (o : Option Refusal) (out lent lent′ : List A) (r : Reply) → Replies (reply o out lent) lent lent′ r → r .refusal ≡ 0 → (o ≡ none) × (r .count ≡ length out) × (lent′ ≡ out ++ drop (length out) lent)
+pub replied : {A : Type 0} (o : Option Refusal) (out lent lent′ : List A) (r : Reply) → Replies (reply o out lent) lent lent′ r → r .refusal ≡ 0 → (o ≡ none) × (r .count ≡ length out) × (lent′ ≡ out ++ drop (length out) lent)
 unfolding reply reply-of lent-after
 replied none out lent lent′ r p e = (refl, ap (λ (y : Reply). y .count) (p .said), p .left)
 replied (some f) out lent lent′ r p e = absurd (numbered f (sym (ap (λ (y : Reply). y .refusal) (p .said)) ∙ e))
@@ -62,7 +63,7 @@ replied (some f) out lent lent′ r p e = absurd (numbered f (sym (ap (λ (y : R
 -- ---- tables
 
 -- two tables, one after the other, without a failing check
-both-pass : (cs ds : List Check) → first (cs ++ ds) ≡ none → (first cs ≡ none) × (first ds ≡ none)
+pub both-pass : (cs ds : List Check) → first (cs ++ ds) ≡ none → (first cs ≡ none) × (first ds ≡ none)
 unfolding first
 both-pass [] ds h = (refl, h)
 both-pass (c ∷ cs) ds h = go (c .fails) h (both-pass cs ds)
@@ -170,7 +171,7 @@ module _ (x : Lending) where
   some-line none h = absurd (true≢false h)
   some-line (some t) h = (t, refl)
 
-  module _ (typed : T (every is-value (x .memory .values))) where
+  module _ (valid : T (lent-sound x) → T (valid-record kept)) where
     given-is : (l : RouteLine) → line-given kept cat who l ≡ numbered-line d who (routes-of x (l .query)) (l .route)
     unfolding line-given record-of
     given-is l = refl
@@ -178,7 +179,7 @@ module _ (x : Lending) where
     runs-at : (q : Form) → T (lent-sound x) → T (passes (query-checks d q)) → {z : ℤ} {t : Bytes} → (a : At (routes-of x q) z t) → run-line kept t ≡ some (route-table kept who (a .route))
     unfolding record-of
     runs-at q l ok a =
-        let each = printed kept (valid-kept x typed l) cat (valid-cat x typed l) who q ok in
+        let each = printed kept (valid l) cat (valid-cat x (valid l) l) who q ok in
         let h = all-nth (a .route) (a .place) each (a .there) in
         rw (a .text) (rw (a .at (a .route)) at h)
 

@@ -26,15 +26,15 @@ use Rattle.grant.specs.Catalogues.{catalogue-of, catalogue-sound}
 use Rattle.grant.proofs.Catalogues.{catalogue-valid}
 use Rattle.ask.specs.Asking.{Lending, lent-sound, asked-table, asked, lined-table, lined}
 
-module _ (x : Lending) (typed : T (every is-value (x .memory .values))) where
-  -- what may be lent stands for something valid
-  pub valid-kept : T (lent-sound x) → T (valid-record (record-of (x .memory)))
-  unfolding lent-sound
-  valid-kept t =
-      let m = memory-sound (x .memory) in
-      let c = catalogue-sound (x .memory .names) (x .grants) (x .granted) in
-      L.sound-valid (x .memory) typed (and-l m c (and-l (m && c) (caller-sound (x .caller)) t))
+-- what may be lent stands for something valid, its values being numbers of 32 bits
+pub valid-kept : (x : Lending) → T (every is-value (x .memory .values)) → T (lent-sound x) → T (valid-record (record-of (x .memory)))
+unfolding lent-sound
+valid-kept x typed t =
+    let m = memory-sound (x .memory) in
+    let c = catalogue-sound (x .memory .names) (x .grants) (x .granted) in
+    L.sound-valid (x .memory) typed (and-l m c (and-l (m && c) (caller-sound (x .caller)) t))
 
+module _ (x : Lending) (valid : T (valid-record (record-of (x .memory)))) where
   pub valid-cat : T (lent-sound x) → T (valid-catalogue (schema-of (x .memory .names)) (catalogue-of (x .memory .names) (x .grants) (x .granted)))
   unfolding lent-sound
   valid-cat t =
@@ -50,7 +50,7 @@ module _ (x : Lending) (typed : T (every is-value (x .memory .values))) where
       let v = valid-record (record-of (x .memory)) in
       let k = valid-catalogue (schema-of (x .memory .names)) (catalogue-of (x .memory .names) (x .grants) (x .granted)) in
       and-both (v && k) (valid-caller (caller-of (x .caller)))
-      (and-both v k (valid-kept t) (valid-cat t))
+      (and-both v k valid (valid-cat t))
       (W.sound-valid (x .caller) (T-true (caller-sound (x .caller)) (and-r (m && c) (caller-sound (x .caller)) t)))
 
   -- 12 aside, both tables are one

@@ -18,7 +18,6 @@ use Rattle.calls.specs.Validity.{valid-record}
 use Rattle.calls.proofs.Interference.{same-asked, same-lined}
 use Rattle.schema.specs.Schemas.{schema-of}
 use Rattle.ledger.specs.Records.{Memory, record-of, memory-sound}
-use Rattle.ledger.proofs.Valid.{sound-valid}
 use Rattle.caller.specs.declared.Caller.{Caller}
 use Rattle.caller.specs.Callers.{caller-of, caller-sound}
 use Rattle.grant.specs.declared.Grant.{Grant}
@@ -53,10 +52,10 @@ module _ {m n u v : Memory} {cs ds : List Call} (f : Fresh m) (r : Recorded m cs
   kept-v = left-after g k .0
 
   valid-u : T (valid-record (record-of u))
-  valid-u = sound-valid u (sound-u .typed .ranges) (sound-u .lent)
+  valid-u = sound-u .valid
 
   valid-v : T (valid-record (record-of v))
-  valid-v = sound-valid v (sound-v .typed .ranges) (sound-v .lent)
+  valid-v = sound-v .valid
 
   -- The same grants, words and caller lent after both lists, whatever they hold, are the same by the definitions where the streams are.
   module _ (same : after cs .schema ≡ after ds .schema) (grants : List Grant) (words : List ℕ) (caller : Caller) where
@@ -99,26 +98,26 @@ module _ {m n u v : Memory} {cs ds : List Call} (f : Fresh m) (r : Recorded m cs
       where
         go : (b : Bool) → lent-sound x ≡ b → asked spare o x bs cells ≡ asked spare o y bs cells
         go true e =
-            asked-is x (sound-u .typed .ranges) (true-T _ e) spare o bs cells
+            asked-is x valid-u (true-T _ e) spare o bs cells
             ∙ same-asked (record-of u) (record-of v) valid-u valid-v (caller-of w) cat alike spare bs o cells
             ∙ ap₂ (λ (c : List M.Grant) (who : M.Caller). A.asked (record-of v) c who spare bs o cells) (same .catalogue) (same .caller)
-            ∙ sym (asked-is y (sound-v .typed .ranges) (true-T _ (sym (same .lent) ∙ e)) spare o bs cells)
+            ∙ sym (asked-is y valid-v (true-T _ (sym (same .lent) ∙ e)) spare o bs cells)
         go false e =
-            asked-lent x (sound-u .typed .ranges) e spare o bs cells
-            ∙ sym (asked-lent y (sound-v .typed .ranges) (sym (same .lent) ∙ e) spare o bs cells)
+            asked-lent x valid-u e spare o bs cells
+            ∙ sym (asked-lent y valid-v (sym (same .lent) ∙ e) spare o bs cells)
 
     lined-same : (spare : ℕ) (o : Option RouteLine) (bs out : Bytes) → lined spare o x bs out ≡ lined spare o y bs out
     lined-same spare o bs out = go (lent-sound x) refl
       where
         go : (b : Bool) → lent-sound x ≡ b → lined spare o x bs out ≡ lined spare o y bs out
         go true e =
-            lined-is x (sound-u .typed .ranges) (true-T _ e) spare o bs out
+            lined-is x valid-u (true-T _ e) spare o bs out
             ∙ same-lined (record-of u) (record-of v) valid-u valid-v (caller-of w) cat (alike .clocks) (alike .schemas) spare bs o out
             ∙ ap₂ (λ (c : List M.Grant) (who : M.Caller). A.lined (record-of v) c who spare bs o out) (same .catalogue) (same .caller)
-            ∙ sym (lined-is y (sound-v .typed .ranges) (true-T _ (sym (same .lent) ∙ e)) spare o bs out)
+            ∙ sym (lined-is y valid-v (true-T _ (sym (same .lent) ∙ e)) spare o bs out)
         go false e =
-            lined-lent x (sound-u .typed .ranges) e spare o bs out
-            ∙ sym (lined-lent y (sound-v .typed .ranges) (sym (same .lent) ∙ e) spare o bs out)
+            lined-lent x valid-u e spare o bs out
+            ∙ sym (lined-lent y valid-v (sym (same .lent) ∙ e) spare o bs out)
 
     pub same-answers : (spare : ℕ) (o : Option Form) (bs : Bytes) (cells : List ℤ) {p q : List ℤ} {i j : Reply}
         → Replies (asked spare o x bs cells) cells p i → Replies (asked spare o y bs cells) cells q j → (i ≡ j) × (p ≡ q)

@@ -8,7 +8,9 @@ use lib.Dec.{T, ltb, eqb, eqb→eq}
 use lib.ListN.{length, getD}
 use Rattle.lists.specs.Lists.{every, count-from}
 use Rattle.lists.proofs.Laws.{and-l, and-r}
-use Rattle.calls.specs.Calls.{fresh}
+use Rattle.calls.specs.Calls.{fresh, replay, after}
+use Rattle.calls.specs.Validity.{valid-record}
+use Rattle.calls.proofs.Valid.{valid-after}
 use Rattle.schema.specs.Schemas.{schema-size, column-place, filled, streams-in, width-in, schema-of, named-from, schema-sound}
 use Rattle.schema.proofs.Soundness.{facts-sound}
 use Rattle.ledger.specs.Records.{with-ledger, record-of, memory-sound}
@@ -66,6 +68,7 @@ pub fresh-sound : {s : State} → Fresh s → Sound s
 fresh-sound {s} f =
     let e : with-ledger s begun ≡ s = ap (with-ledger s) (sym (f .begins)) in
     record {
-      typed = record { counts = rw (f .begins) (unfold begun in refl); ranges = f .ranges };
+      counts = rw (f .begins) (unfold begun in refl);
+      valid = subst (λ x. T (valid-record x)) (sym (fresh-record f)) (unfold after replay in valid-after []);
       lent = subst (λ m. T (memory-sound m)) e (unfold begun in empty-sound (with-ledger s begun) (names-fresh (s .names) (f .zero) (f .long)) tt (f .places) (f .room));
     }

@@ -30,9 +30,13 @@ use Rattle.schema.proofs.Adding.{schema-more, sound-more}
 use Rattle.stream_line.specs.Declaring as D
 use Rattle.ledger.specs.Records.{Memory, with-names, row-in, count-in, rows-in, record-of, memory-sound}
 use Rattle.ledger.proofs.Soundness.{sound-parts}
-use Rattle.ledger.proofs.Valid.{sound-valid}
 use Rattle.ledger.proofs.Kept.{undeclared-none, names-sound}
 use Rattle.history.specs.States.{State, Sound}
+
+-- what is left of being sound where the record is known to be valid
+pub record Held (s : State) : Type 0 where
+  pub counts : length (s .ledger .rows) ≡ max-streams
+  pub lent : T (memory-sound s)
 
 module _ (m : Memory) (ns : List ℕ) (s : Stream) (e : schema-of ns ≡ schema-of (m .names) ++ (s ∷ [])) (ok : T (memory-sound m)) where
   rows-before : (i : ℕ) → i < streams-in (m .names) → rows-in (with-names m ns) i ≡ rows-in m i
@@ -73,7 +77,7 @@ module _ (m : State) (ok : Sound m) (s : Stream) (b : T (body? G.stream s)) (p :
   valid : T (valid-stream s)
   unfolding valid-record valid-schema every
   valid =
-      let t = stream-valid (record-of m) (sound-valid m (ok .typed .ranges) (ok .lent)) s b (unfold record-of in p) in
+      let t = stream-valid (record-of m) (ok .valid) s b (unfold record-of in p) in
       and-l (valid-stream s) _ (every-append-r valid-stream (record-of m .schema) (s ∷ []) (search parts depth 8))
 
   more : schema-of (D.with-stream (m .names) (some s)) ≡ schema-of (m .names) ++ (s ∷ [])
@@ -83,10 +87,10 @@ module _ (m : State) (ok : Sound m) (s : Stream) (b : T (body? G.stream s)) (p :
   pub stream-effect : record-of (with-names m (D.with-stream (m .names) (some s))) ≡ C.with-stream (record-of m) (some s)
   stream-effect = record-more m (D.with-stream (m .names) (some s)) s more (ok .lent)
 
-  pub stream-sound : Sound (with-names m (D.with-stream (m .names) (some s)))
-  stream-sound =
+  pub stream-held : Held (with-names m (D.with-stream (m .names) (some s)))
+  stream-held =
       let k = one-later (m .names) (D.with-stream (m .names) (some s)) s more in
       record {
-        typed = record { counts = ok .typed .counts; ranges = ok .typed .ranges };
+        counts = ok .counts;
         lent = names-sound m (D.with-stream (m .names) (some s)) (unfold D.with-stream in sound-more (m .names) s (sound-parts m (ok .lent) .names) few valid apart) (omega arith) (ok .lent);
       }

@@ -11,7 +11,6 @@ use Rattle.calls.specs.Asking.{ask, line}
 use Rattle.calls.specs.Events.{Fixture, Event, happened}
 use Rattle.calls.specs.Validity.{valid-record}
 use Rattle.calls.proofs.Interference.{same-asked, same-lined}
-use Rattle.ledger.proofs.Valid.{sound-valid}
 use Rattle.history.specs.Fixtures.{Store, fixture-of, Trace, Sound, Fresh}
 use Rattle.history.proofs.Events.{left-after}
 
@@ -27,7 +26,7 @@ valid-left : {s t : Store} {es : List Event} → Fresh s → Trace s es t → T 
 unfolding fixture-of
 valid-left {t} f r =
     let (e, k) = left-after f r in
-    subst (λ x. T (valid-record (x .record-kept))) e (sound-valid (t .memory) (k .memory .typed .ranges) (k .memory .lent))
+    subst (λ x. T (valid-record (x .record-kept))) e (k .memory .valid)
 
 -- Two lists of calls and lines from fresh stores, refused ones included, after which by the definitions the catalogues are the same, and a caller has the same clock, streams, views and
 -- figures: of what the lists left, every query of that caller, whatever its text and the cells lent, gets the same reply.

@@ -15,7 +15,6 @@ use Rattle.refusal.specs.declared.Verdict.the-variants.{Accepted, Refused}
 use Rattle.lists.specs.Lists.{every}
 use Rattle.syntax.specs.Grammar as G
 use Rattle.syntax.specs.Grammar.{Bytes}
-use Rattle.syntax.specs.Limits.{is-value}
 use Rattle.syntax.specs.Readers.{parse-as}
 use Rattle.model.specs.Queries as M
 use Rattle.calls.specs.Replies.{written}
@@ -141,7 +140,7 @@ abbrev pub new-store : Store
 new-store = record { memory = new-state; grants = []; words = replicate catalogue-words 0; caller = no-caller }
 
 pub new-fresh : Fresh new-store
-unfolding every is-value
+unfolding every
 new-fresh =
     record {
       memory = record {
@@ -150,7 +149,6 @@ new-fresh =
         long = lit≤ tt;
         places = lit≤ tt;
         room = lit≤ tt;
-        ranges = tt;
       };
       grants = refl;
       words = lit≤ tt;

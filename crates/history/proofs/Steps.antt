@@ -3,9 +3,10 @@ use mathlib.Core.Path.{_≡_, refl, sym, ap, _∙_, subst}
 use mathlib.Core.List.{List, [], _∷_}
 use mathlib.Core.Bool.{Bool, not}
 use mathlib.Core.Option.{some}
-use Prim.Native.Nat.{ℕ}
+use Prim.Native.Nat.{ℕ, suc}
 use lib.IntN.{ℤ}
 use lib.Dec.{T, ltb, leb→le, nltb→le}
+use lib.ListN.{length-set}
 use Rattle.refusal.specs.Numbers.{verdict-of}
 use Rattle.refusal.specs.Checks.{refuse, first, passes}
 use Rattle.refusal.specs.declared.Verdict.{Verdict}
@@ -25,22 +26,21 @@ use Rattle.calls.specs.Tables.{clock-checks, row-checks, row-line-checks}
 use Rattle.calls.specs.Calls as C
 use Rattle.calls.specs.Calls.{Call, stream, clock, row, clear, clock-line, row-line, clear-line, call-checks, call-table, effect, next}
 use Rattle.calls.proofs.Written.{written-passes}
-use Rattle.calls.proofs.Valid.{time-top}
+use Rattle.calls.proofs.Valid.{time-top, valid-effect}
 use Rattle.schema.specs.Schemas.{schema-of, schema-sound}
 use Rattle.stream_line.specs.Declaring as D
 use Rattle.stream_line.specs.Declaring.{declare-table, names-after, Declares}
 use Rattle.ledger.specs.declared.Ledger.{Ledger}
 use Rattle.ledger.specs.declared.Entered.{Entered}
-use Rattle.ledger.specs.Records.{with-ledger, with-names, record-of, ledger-sound, memory-sound}
-use Rattle.ledger.specs.Calls.{entered, clock-table, clock-call, clear-table, clear-call, row-table, with-row, memory-after, RowCall}
+use Rattle.ledger.specs.Records.{with-ledger, with-names, count-in, record-of, ledger-sound, memory-sound}
+use Rattle.ledger.specs.Calls.{entered, clock-table, clock-call, clear-table, clear-call, row-table, with-rows, with-row, memory-after, RowCall}
 use Rattle.ledger.proofs.Soundness.{sound-parts}
-use Rattle.ledger.proofs.Valid.{sound-valid}
 use Rattle.ledger.proofs.Told.{row-accepted}
 use Rattle.ledger.proofs.Rows.{row-effect}
-use Rattle.ledger.proofs.Kept.{clock-at, clock-effect, clock-sound, emptied, clear-effect, clear-sound, row-typed, row-sound}
+use Rattle.ledger.proofs.Kept.{clock-at, clock-effect, clock-sound, emptied, clear-effect, clear-sound, row-sound}
 use Rattle.record_lines.specs.Calls.{clock-line-table, with-clock, clock-line-call, clear-line-table, clear-line-call, row-line-table, with-row-line, RowLineCall}
 use Rattle.history.specs.States.{State, Promise, declared, clocked, rowed, cleared, clock-lined, row-lined, clear-lined, verdict-in, Sound}
-use Rattle.history.proofs.Declared.{stream-effect, stream-sound}
+use Rattle.history.proofs.Declared.{Held, stream-effect, stream-held}
 
 pub record Step (c : Call) (s t : State) (v : Verdict) : Type 0 where
   -- what is said is what the definitions' table says
@@ -52,7 +52,7 @@ pub record Step (c : Call) (s t : State) (v : Verdict) : Type 0 where
 
 -- A call whose first check is that what it is lent is sound, and whose other checks are the definitions': refused, it leaves the state; accepted, it leaves the definitions' effect.
 made : (c : Call) (s t : State) (v : Verdict) (a : Bool) → Sound s → T a → v ≡ verdict-of (first (refuse Lent (not a) ∷ call-checks (record-of s) c))
-    → ((v ≡ Accepted → ⊥) → t ≡ s) → (v ≡ Accepted → T (passes (call-checks (record-of s) c)) → (record-of t ≡ effect (record-of s) c) × Sound t)
+    → ((v ≡ Accepted → ⊥) → t ≡ s) → (v ≡ Accepted → T (passes (call-checks (record-of s) c)) → (record-of t ≡ effect (record-of s) c) × Held t)
     → Step c s t v
 unfolding next call-table
 made c s t v a ok h e kept done = go (told v (call-checks (record-of s) c) said)
@@ -61,12 +61,17 @@ made c s t v a ok h e kept done = go (told v (call-checks (record-of s) c) said)
     said = e ∙ ap verdict-of (first-skip Lent a (call-checks (record-of s) c) h)
 
     valid : T (valid-record (record-of s))
-    valid = sound-valid s (ok .typed .ranges) (ok .lent)
+    valid = ok .valid
 
     go : Told v (call-checks (record-of s) c) → Step c s t v
     go (accepted y p) =
         let (f, k) = done y p in
-        record { said = said; steps = f ∙ sym (rw (T-true (passes (call-table (record-of s) c)) (pass-put Lent (valid-record (record-of s)) (call-checks (record-of s) c) valid p)) refl); sound = k }
+        let q = pass-put Lent (valid-record (record-of s)) (call-checks (record-of s) c) valid p in
+        record {
+          said = said;
+          steps = f ∙ sym (rw (T-true (passes (call-table (record-of s) c)) q) refl);
+          sound = record { counts = k .counts; valid = subst (λ x. T (valid-record x)) (sym f) (valid-effect (record-of s) c valid q); lent = k .lent };
+        }
     go (refused y p) =
         let k = kept y in
         record { said = said; steps = ap record-of k ∙ sym (unfold passes refuse in rw (T-true (valid-record (record-of s)) valid, p) refl); sound = subst Sound (sym k) ok }
@@ -89,7 +94,7 @@ entered-new v new old e = rw e
 
 ledger-made : (c : Call) (s : State) (new : Ledger) (r : Entered) → Sound s
     → r ≡ entered (verdict-of (first (refuse Lent (not (ledger-sound (s .ledger))) ∷ call-checks (record-of s) c))) new (s .ledger)
-    → (T (passes (call-checks (record-of s) c)) → (record-of (with-ledger s new) ≡ effect (record-of s) c) × Sound (with-ledger s new))
+    → (T (passes (call-checks (record-of s) c)) → (record-of (with-ledger s new) ≡ effect (record-of s) c) × Held (with-ledger s new))
     → Step c s (with-ledger s (r .ledger)) (r .verdict)
 ledger-made c s new r ok e done =
     let v : Verdict = verdict-of (first (refuse Lent (not (ledger-sound (s .ledger))) ∷ call-checks (record-of s) c)) in
@@ -98,18 +103,18 @@ ledger-made c s new r ok e done =
     made c s (with-ledger s (r .ledger)) (r .verdict) (ledger-sound (s .ledger)) ok (sound-parts s (ok .lent) .bounds) said
     (λ n. ap (with-ledger s) (left ∙ entered-old v new (s .ledger) (λ a. n (said ∙ a))))
     (λ a p. let q : with-ledger s new ≡ with-ledger s (r .ledger) = ap (with-ledger s) (sym (left ∙ entered-new v new (s .ledger) (sym said ∙ a))) in
-    subst (λ t. (record-of t ≡ effect (record-of s) c) × Sound t) q (done p))
+    subst (λ t. (record-of t ≡ effect (record-of s) c) × Held t) q (done p))
 
 -- a later clock
-clock-made : (s : State) (n : ℤ) → Sound s → T (passes (clock-checks (s .ledger .clock) n)) → Sound (clock-at s (natural n))
+clock-made : (s : State) (n : ℤ) → Sound s → T (passes (clock-checks (s .ledger .clock) n)) → Held (clock-at s (natural n))
 unfolding clock-checks
 clock-made s n ok p =
     let t = pass-test _ (is-time n) _ p in
     let l = nltb→le (natural n) (s .ledger .clock) (pass-first _ (ltb (natural n) (s .ledger .clock)) [] (pass-rest _ _ _ p)) in
-    record { typed = record { counts = ok .typed .counts; ranges = ok .typed .ranges }; lent = clock-sound s (natural n) (leb→le (natural n) 2147483647 (time-top n t)) l (ok .lent) }
+    record { counts = ok .counts; lent = clock-sound s (natural n) (leb→le (natural n) 2147483647 (time-top n t)) l (ok .lent) }
 
-clear-made : (s : State) → Sound s → Sound (emptied s)
-clear-made s ok = record { typed = record { counts = refl; ranges = ok .typed .ranges }; lent = clear-sound s (ok .lent) }
+clear-made : (s : State) → Sound s → Held (emptied s)
+clear-made s ok = record { counts = refl; lent = clear-sound s (ok .lent) }
 
 after-clock : (s : State) (n : ℤ) (r : Entered) → Sound s → r ≡ clock-call (s .ledger) n → Step (clock n) s (with-ledger s (r .ledger)) (r .verdict)
 unfolding clock-call clock-table call-checks record-of
@@ -131,9 +136,9 @@ after-clear-line s bs r ok e = ledger-made (clear-line bs) s _ r ok e (λ p. (un
 -- ---- rows
 
 memory-made : (c : Call) (s t new : State) (v : Verdict) → Sound s → v ≡ verdict-of (first (refuse Lent (not (memory-sound s)) ∷ call-checks (record-of s) c))
-    → t ≡ memory-after v s new → (T (passes (call-checks (record-of s) c)) → (record-of new ≡ effect (record-of s) c) × Sound new) → Step c s t v
+    → t ≡ memory-after v s new → (T (passes (call-checks (record-of s) c)) → (record-of new ≡ effect (record-of s) c) × Held new) → Step c s t v
 memory-made c s t new v ok said left done =
-    made c s t v (memory-sound s) ok (ok .lent) said (λ n. left ∙ kept v n) (λ a p. subst (λ t. (record-of t ≡ effect (record-of s) c) × Sound t) (sym (left ∙ gone v a)) (done p))
+    made c s t v (memory-sound s) ok (ok .lent) said (λ n. left ∙ kept v n) (λ a p. subst (λ t. (record-of t ≡ effect (record-of s) c) × Held t) (sym (left ∙ gone v a)) (done p))
   where
     kept : (v : Verdict) → (v ≡ Accepted → ⊥) → memory-after v s new ≡ s
     kept Accepted n = absurd (n refl)
@@ -142,10 +147,11 @@ memory-made c s t new v ok said left done =
     gone : (v : Verdict) → v ≡ Accepted → memory-after v s new ≡ new
     gone v e = unfold memory-after in rw e
 
-row-made : (s : State) (n : ℕ) (vs : List ℤ) → Sound s → T (passes (row-checks (record-of s) n vs)) → (record-of (with-row s n vs) ≡ C.with-row (record-of s) n vs) × Sound (with-row s n vs)
+row-made : (s : State) (n : ℕ) (vs : List ℤ) → Sound s → T (passes (row-checks (record-of s) n vs)) → (record-of (with-row s n vs) ≡ C.with-row (record-of s) n vs) × Held (with-row s n vs)
+unfolding with-row with-rows
 row-made s n vs ok p =
-    let (f, v) = row-accepted s n vs (unfold row-table in pass-put Lent (memory-sound s) (row-checks (record-of s) n vs) (ok .lent) p) in
-    (row-effect s n vs (ok .typed .counts) f, record { typed = row-typed s n vs (ok .typed) v; lent = row-sound s n vs (ok .typed .counts) f })
+    let (f, _) = row-accepted s n vs (unfold row-table in pass-put Lent (memory-sound s) (row-checks (record-of s) n vs) (ok .lent) p) in
+    (row-effect s n vs (ok .counts) f, record { counts = length-set (s .ledger .rows) n (suc (count-in (s .ledger) n)) ∙ ok .counts; lent = row-sound s n vs (ok .counts) f })
 
 after-row : (s t : State) (n : ℕ) (vs : List ℤ) (v : Verdict) → Sound s → RowCall s n vs t v → Step (row n vs) s t v
 unfolding row-table call-checks
@@ -167,7 +173,7 @@ after-stream s bs ns v ok d =
     (λ a p. written-passes 0 bs (parse-as G.stream bs) _ p (λ t e q.
     let g : with-names s (D.with-stream (s .names) (some t)) ≡ with-names s ns = ap (with-names s) (sym (d .left ∙ gone v a ∙ ap (D.with-stream (s .names)) e)) in
     let b = parsed-printed G.stream bs t e .0 in
-    subst (λ u. (record-of u ≡ effect (record-of s) (stream bs)) × Sound u) g (unfold effect in rw e (stream-effect s ok t b q), stream-sound s ok t b q)))
+    subst (λ u. (record-of u ≡ effect (record-of s) (stream bs)) × Held u) g (unfold effect in rw e (stream-effect s ok t b q), stream-held s ok t b q)))
   where
     kept : (v : Verdict) → (v ≡ Accepted → ⊥) → names-after v (s .names) (parse-as G.stream bs) ≡ s .names
     kept Accepted n = absurd (n refl)

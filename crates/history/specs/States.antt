@@ -8,12 +8,13 @@ use lib.ListN.{length}
 use Rattle.refusal.specs.declared.Verdict.{Verdict}
 use Rattle.lists.specs.Lists.{every}
 use Rattle.syntax.specs.Grammar.{Bytes}
-use Rattle.syntax.specs.Limits.{is-value}
+use Rattle.syntax.specs.Limits.{max-streams}
 use Rattle.calls.specs.Calls.{Call, stream, clock, row, clear, clock-line, row-line, clear-line}
+use Rattle.calls.specs.Validity.{valid-record}
 use Rattle.schema.specs.Schemas.{schema-size}
 use Rattle.stream_line.specs.Declaring.{Declares}
 use Rattle.ledger.specs.declared.Entered.{Entered}
-use Rattle.ledger.specs.Records.{Memory, with-ledger, with-names, Typed, places-size, values-size, memory-sound}
+use Rattle.ledger.specs.Records.{Memory, with-ledger, with-names, record-of, places-size, values-size, memory-sound}
 use Rattle.ledger.specs.Calls.{begun, clock-call, clear-call, RowCall}
 use Rattle.record_lines.specs.Calls.{clock-line-call, clear-line-call, RowLineCall}
 
@@ -41,9 +42,10 @@ verdict-in (clock-lined {r} e) = r .verdict
 verdict-in (row-lined {v} d) = v
 verdict-in (clear-lined {r} e) = r .verdict
 
--- it is of its types, and may be lent
+-- it has a count for each stream, stands for a valid record, and may be lent
 pub record Sound (s : State) : Type 0 where
-  pub typed : Typed s
+  pub counts : length (s .ledger .rows) ≡ max-streams
+  pub valid : T (valid-record (record-of s))
   pub lent : T (memory-sound s)
 
 -- a new ledger, names that are all 0, and memory enough, whatever times and values it holds
@@ -53,4 +55,3 @@ pub record Fresh (s : State) : Type 0 where
   pub long : schema-size ≤ length (s .names)
   pub places : places-size ≤ length (s .times)
   pub room : values-size ≤ length (s .values)
-  pub ranges : T (every is-value (s .values))

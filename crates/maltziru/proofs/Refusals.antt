@@ -5,11 +5,11 @@ use mathlib.Core.Option.{Option, none, some}
 use Prim.Native.Nat.{ℕ}
 use Rattle.refusal.specs.declared.Refusal.{Refusal}
 use Rattle.refusal.specs.Numbers.{verdict-of}
-use Rattle.refusal.specs.Checks.{Check, first}
+use Rattle.refusal.specs.Checks.{Check, first, Ordered, checks-compute}
 use Rattle.refusal.specs.declared.Verdict.{Verdict}
 use Rattle.refusal.specs.declared.Verdict.the-variants.{Accepted, Refused}
-use Rattle.calls.specs.Events.{Event, query}
-use Rattle.calls.specs.Calls.{Call}
+use Rattle.calls.specs.Events.{Event, call, grant, caller, query}
+use Rattle.calls.specs.Calls.{Call, stream, clock, row, clear, clock-line, row-line, clear-line}
 use Rattle.stream_line.specs.Declaring.{names-after}
 use Rattle.ledger.specs.declared.Ledger.{Ledger}
 use Rattle.ledger.specs.Records.{Memory, with-ledger, with-names}
@@ -19,10 +19,12 @@ use Rattle.caller.specs.declared.Caller.{Caller}
 use Rattle.caller.specs.Lines.{outcome, identified}
 use Rattle.caller.proofs.Identifying.{outcome-said}
 use Rattle.grant.specs.declared.Grant.{Grant}
+use Rattle.grant.specs.Catalogues.{catalogue-of}
 use Rattle.grant.proofs.Catalogues.{catalogue-length}
 use Rattle.grant_line.specs.Granting.{words-after, grants-after}
 use Rattle.history.specs.Fixtures.{Store, with-memory, with-grants, with-caller}
 use Rattle.history.proofs.Steps.{entered-verdict}
+use Rattle.history.proofs.Order as O
 use Rattle.demands.specs.Refusing.{refused-number, first-number}
 use Rattle.maltziru.specs.declared.GrantReply.{GrantReply}
 use Rattle.maltziru.specs.declared.CallerReply.{CallerReply}
@@ -131,3 +133,22 @@ refused-stays (C.caller-called {s} {bs} {r} h) ne =
     ap (λ w. with-caller s w) (ap (λ (x : CallerReply). x .caller) h ∙ same-outcome _ _ _ (other (ap (λ (x : CallerReply). x .refusal) h ∙ ap said (outcome-said _ _ _)) ne))
 refused-stays (C.ask-called gs ws w bs cells h) ne = refl
 refused-stays (C.line-called gs ws w n bs out h) ne = refl
+
+-- ---- the order of the tables
+
+record-ordered : (c : Call) (m : Memory) → Ordered (record-table c m)
+unfolding record-table
+record-ordered (stream bs) m = O.declare-ordered (m .names) bs
+record-ordered (clock t) m = O.clock-ordered (m .ledger) t
+record-ordered (row i vs) m = O.row-ordered m i vs
+record-ordered clear m = O.clear-ordered (m .ledger)
+record-ordered (clock-line bs) m = O.clock-line-ordered (m .ledger) bs
+record-ordered (row-line bs) m = O.row-line-ordered m bs
+record-ordered (clear-line bs) m = O.clear-line-ordered (m .ledger) bs
+
+pub table-ordered : (e : Event) (s : Store) → Ordered (table-of e s)
+unfolding table-of checks-compute
+table-ordered (call c) s = record-ordered c (s .memory)
+table-ordered (grant bs) s = O.grant-ordered (s .memory .names) (catalogue-of (s .memory .names) (s .grants) (s .words)) (s .words) bs
+table-ordered (caller bs) s = O.caller-ordered bs
+table-ordered query s = tt

@@ -24,7 +24,7 @@ use Rattle.grant_line.specs.Granting.{grant-table}
 use Rattle.history.specs.Fixtures.{Store, with-memory, with-grants, with-caller}
 use Rattle.ask.specs.declared.Reply.{Reply}
 use Rattle.ask.specs.Replies.{Replies}
-use Rattle.ask.specs.Asking.{asked, lined}
+use Rattle.ask.specs.Asking.{asked, LineReplies}
 use Rattle.demands.specs.Lending.{lending}
 use Rattle.maltziru.specs.declared.LedgerReply.{LedgerReply}
 use Rattle.maltziru.specs.declared.GrantReply.{GrantReply}
@@ -53,7 +53,7 @@ pub data Recorded : Memory → List Call → Memory → Type 0 where
   ask-between : {cs : List Call} {m u : Memory} (gs : List Grant) (ws : List ℕ) (w : Caller) (bs : Bytes) (cells : List ℤ) {cells′ : List ℤ} {r : Reply}
       → Replies (asked 0 (parse-query bs) (lending m gs ws w) bs cells) cells cells′ r → Recorded m cs u → Recorded m cs u
   line-between : {cs : List Call} {m u : Memory} (gs : List Grant) (ws : List ℕ) (w : Caller) (route : ℤ) (bs out : Bytes) {out′ : Bytes} {r : Reply}
-      → Replies (lined 0 (with-route route (parse-query bs)) (lending m gs ws w) bs out) out out′ r → Recorded m cs u → Recorded m cs u
+      → LineReplies 0 (with-route route (parse-query bs)) (lending m gs ws w) bs out out′ r → Recorded m cs u → Recorded m cs u
 
 -- ---- lists as a program makes them that keeps its grants in order and one caller
 
@@ -70,7 +70,7 @@ pub data Called : Event → Store → Store → ℕ → Type 0 where
   ask-called : {s : Store} (gs : List Grant) (ws : List ℕ) (w : Caller) (bs : Bytes) (cells : List ℤ) {cells′ : List ℤ} {r : Reply}
       → Replies (asked 0 (parse-query bs) (lending (s .memory) gs ws w) bs cells) cells cells′ r → Called query s s (r .refusal)
   line-called : {s : Store} (gs : List Grant) (ws : List ℕ) (w : Caller) (route : ℤ) (bs out : Bytes) {out′ : Bytes} {r : Reply}
-      → Replies (lined 0 (with-route route (parse-query bs)) (lending (s .memory) gs ws w) bs out) out out′ r → Called query s s (r .refusal)
+      → LineReplies 0 (with-route route (parse-query bs)) (lending (s .memory) gs ws w) bs out out′ r → Called query s s (r .refusal)
 
 pub data Calls : Store → List Event → Store → Type 0 where
   done : {s : Store} → Calls s [] s

@@ -9,7 +9,7 @@ ghost use Rattle.caller.specs.Lines.{identified};
 ghost use Rattle.syntax.specs.Readers.{parse-query};
 ghost use Rattle.calls.specs.Asking.{with-route};
 ghost use Rattle.ask.specs.Replies.{Replies};
-ghost use Rattle.ask.specs.Asking.{asked, lined};
+ghost use Rattle.ask.specs.Asking.{asked, LineReplies};
 ghost use Rattle.maltziru.specs.Calls.{said, ledger-said, caller-said, StreamCall, RowCalled, RowLineCalled, GrantCall};
 use ask::Reply;
 use caller::Caller;
@@ -235,7 +235,7 @@ pub extern "C" fn maltziru_line(
     query: &[u8],
     bytes: &mut [u8],
 ) -> Reply
-    ensures { λ r. ⌜ Replies (lined 0 (with-route route (parse-query (now (query .entry)))) (record { memory = record { ledger = ledger; names = now (names .entry); times = now (times .entry); values = now (values .entry) }; grants = now (grants .entry); granted = now (words .entry); caller = caller }) (now (query .entry)) (now (bytes .entry))) (now (bytes .entry)) (now (bytes .exit)) r ⌝ }
+    ensures { λ r. ⌜ LineReplies 0 (with-route route (parse-query (now (query .entry)))) (record { memory = record { ledger = ledger; names = now (names .entry); times = now (times .entry); values = now (values .entry) }; grants = now (grants .entry); granted = now (words .entry); caller = caller }) (now (query .entry)) (now (bytes .entry)) (now (bytes .exit)) r ⌝ }
 {
     let t = query_text::read_query(query, names);
     let x = catalogue::open_all(grants, query_text::asks(t), names, words, caller);

@@ -6,16 +6,15 @@ use mathlib.Core.Option.{Option, none, some}
 use Prim.Native.Nat.{ℕ}
 use native.Mathlib.Omega.{arith}
 use lib.IntN.{ℤ}
-use lib.Dec.{T, eqb}
+use lib.Dec.{eqb}
 use borrow.Author.Tests.{eqb-true, eqb-false}
 use Rattle.refusal.specs.declared.Verdict.{Verdict}
 use Rattle.refusal.specs.declared.Verdict.the-variants.{Accepted, Refused}
 use Rattle.refusal.specs.declared.Refusal.{Refusal}
 use Rattle.refusal.specs.Checks.{Ordered}
-use Rattle.lists.specs.Lists.{every, gather}
+use Rattle.lists.specs.Lists.{gather}
 use Rattle.syntax.specs.Grammar as G
 use Rattle.syntax.specs.Grammar.{Bytes, Verb}
-use Rattle.syntax.specs.Limits.{is-value}
 use Rattle.syntax.specs.Readers.{parse-as, verb-of}
 use Rattle.model.specs.Alike.{Alike}
 use Rattle.calls.specs.Calls.{Call, after}
@@ -34,13 +33,13 @@ use Rattle.history.specs.States as M
 use Rattle.history.specs.States.{declared, clock-lined, row-lined, clear-lined}
 use Rattle.history.specs.Fixtures.{Store, with-memory, with-grants, with-caller}
 use Rattle.ask.specs.declared.Reply.{Reply}
-use Rattle.ask.specs.Replies.{Replies}
-use Rattle.ask.specs.Asking.{asked-table, asked, lined-table, lined}
+use Rattle.ask.specs.Asking.{asked-table, lined-table}
 use Rattle.demands.specs.Recording as D
 use Rattle.demands.specs.Lending.{SameLent}
 use Rattle.demands.specs.Holding.{Answered, Lined}
 use Rattle.demands.specs.Refusing.{first-number}
 use Rattle.demands.proofs.Refused as R
+use Rattle.demands.proofs.Defined.{valid-kept}
 use Rattle.demands.proofs.Answered as A
 use Rattle.demands.proofs.Interference as I
 use Rattle.script.specs.States.{Saying}
@@ -123,7 +122,7 @@ refused-stays (caller-does {s = s} {r} e) k =
 refused-stays {bs} {zs} (ask-does {s = s} {r = r} h l) k =
     (refl, R.asked-refusal (lending s) 1 (parse-as G.ask bs) bs zs h .1 (said-refused 2 r (λ e. omega arith) k .0), refl)
 refused-stays {bs} {ys = ys} (line-does {s = s} {r = r} h l) k =
-    (refl, refl, R.lined-refusal (lending s) 1 (parse-as G.line bs) bs ys h .1 (said-refused 3 r (λ e. omega arith) k .0))
+    (refl, refl, R.lined-refusal (lending s) 1 (parse-as G.line bs) bs ys (h .said) .1 (said-refused 3 r (λ e. omega arith) k .0))
 
 -- over any memory, an `ask` line says the refusal of the first check that fails, in the paper's order
 pub ask-refusal : {bs : Bytes} {zs zs′ : List ℤ} {ys ys′ : Bytes} {s t : Store} {y : Saying} → Does bs zs ys (some G.ask) s t zs′ ys′ y → y .kind ≡ 1
@@ -135,7 +134,7 @@ ask-refusal {bs} {zs} (ask-does {s = s} {r = r} h l) k =
 pub line-refusal : {bs : Bytes} {zs zs′ : List ℤ} {ys ys′ : Bytes} {s t : Store} {y : Saying} → Does bs zs ys (some G.line) s t zs′ ys′ y → y .kind ≡ 1
     → (y .number ≡ first-number (lined-table 1 (parse-as G.line bs) (lending s) bs ys)) × Ordered (lined-table 1 (parse-as G.line bs) (lending s) bs ys)
 line-refusal {bs} {ys = ys} (line-does {s = s} {r = r} h l) k =
-    (said-refused 3 r (λ e. omega arith) k .1 ∙ R.lined-refusal (lending s) 1 (parse-as G.line bs) bs ys h .0, R.lined-ordered (lending s) 1 (parse-as G.line bs) bs ys)
+    (said-refused 3 r (λ e. omega arith) k .1 ∙ R.lined-refusal (lending s) 1 (parse-as G.line bs) bs ys (h .said) .0, R.lined-ordered (lending s) 1 (parse-as G.line bs) bs ys)
 
 -- ---- demand 2: an answer holds exactly the rows of the granted views, and a line gives them again
 
@@ -152,11 +151,11 @@ answered {bs} {zs} {zs′} (ask-does {s = s} {r = r} h l) k =
     let (e, n) = said-told 2 r (λ e. omega arith) k in
     subst (Answered (lending s) (parse-as G.ask bs) zs zs′) (told-reply r e n) (A.answered (lending s) 1 (parse-as G.ask bs) bs zs h e)
 
-pub printed : {bs : Bytes} {zs zs′ : List ℤ} {ys ys′ : Bytes} {s t : Store} {y : Saying} → T (every is-value (s .memory .values)) → Does bs zs ys (some G.line) s t zs′ ys′ y → y .kind ≡ 3
+pub printed : {bs : Bytes} {zs zs′ : List ℤ} {ys ys′ : Bytes} {s t : Store} {y : Saying} → Does bs zs ys (some G.line) s t zs′ ys′ y → y .kind ≡ 3
     → Lined (lending s) (parse-as G.line bs) ys ys′ (counted (y .number))
-printed {bs} {ys = ys} {ys′} typed (line-does {s = s} {r = r} h l) k =
+printed {bs} {ys = ys} {ys′} (line-does {s = s} {r = r} h l) k =
     let (e, n) = said-told 3 r (λ e. omega arith) k in
-    subst (Lined (lending s) (parse-as G.line bs) ys ys′) (told-reply r e n) (A.lined-holds (lending s) typed 1 (parse-as G.line bs) bs ys h e)
+    subst (Lined (lending s) (parse-as G.line bs) ys ys′) (told-reply r e n) (A.lined-holds (lending s) (valid-kept (lending s) (h .ranges)) 1 (parse-as G.line bs) bs ys (h .said) e)
 
 -- ---- demand 3: an answer hangs on nothing but what is shown
 
@@ -190,5 +189,5 @@ module _ {s t u v : Store} {ls ms : List Bytes} (f : M.Fresh (s .memory)) (r : D
 
   pub same-lines : {bs : Bytes} {zs zs′ zs″ : List ℤ} {ys p q : Bytes} {u′ v′ : Store} {y z : Saying} → Does bs zs ys (some G.line) u u′ zs′ p y → Does bs zs ys (some G.line) v v′ zs″ q z → (y ≡ z) × (p ≡ q)
   same-lines {bs} {ys = ys} (line-does h l) (line-does h′ l′) =
-      let (e, d) = I.same-lines f (recorded r) g (recorded k) (u .grants) (v .grants) (u .words) (v .words) (u .caller) (v .caller) same a 1 (parse-as G.line bs) bs ys h h′ in
+      let (e, d) = I.same-lines f (recorded r) g (recorded k) (u .grants) (v .grants) (u .words) (v .words) (u .caller) (v .caller) same a 1 (parse-as G.line bs) bs ys (h .said) (h′ .said) in
       (ap (reply-said 3) e, d)

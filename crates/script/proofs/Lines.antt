@@ -19,7 +19,7 @@ use Rattle.grant.specs.declared.Grant as T
 use Rattle.history.specs.Fixtures.{Store, with-memory, with-grants, with-caller}
 use Rattle.ask.specs.declared.Reply.{Reply}
 use Rattle.ask.specs.Replies.{Replies}
-use Rattle.ask.specs.Asking.{asked, lined}
+use Rattle.ask.specs.Asking.{asked, LineReplies}
 use Rattle.script.specs.declared.State.{State}
 use Rattle.script.specs.declared.Stepped.{Stepped}
 use Rattle.script.specs.declared.Verb.{Verb}
@@ -90,9 +90,9 @@ module _ (bs : Bytes) (zs : List ℤ) (ys : Bytes) (s : State) (ns ts : List ℕ
         (ask-does (subst (λ (gs : List T.Grant). Replies (asked 1 (parse-as G.ask bs) (record { memory = here .memory; grants = gs; granted = ws; caller = s .caller }) bs zs) zs zs′ y) held-all d) l)
 
     pub line-ends : v ≡ Line → {ys′ : Bytes} {y : Reply}
-        → Replies (lined 1 (parse-as G.line bs) (record { memory = record { ledger = s .ledger; names = ns; times = ts; values = vs }; grants = take n (s .grants); granted = ws; caller = s .caller }) bs ys) ys ys′ y
+        → LineReplies 1 (parse-as G.line bs) (record { memory = record { ledger = s .ledger; names = ns; times = ts; values = vs }; grants = take n (s .grants); granted = ws; caller = s .caller }) bs ys ys′ y
         → length ys′ ≡ length ys → {r : Stepped} → r ≡ stepped-with s (reply-said 3 y) → Does bs zs ys (verb-of bs) here (store-of (r .state) ns ts vs ws) zs ys′ (record { kind = r .kind; number = r .number })
     unfolding verb-in
     line-ends k {ys′} {y} d l e =
         ends k e
-        (line-does (subst (λ (gs : List T.Grant). Replies (lined 1 (parse-as G.line bs) (record { memory = here .memory; grants = gs; granted = ws; caller = s .caller }) bs ys) ys ys′ y) held-all d) l)
+        (line-does (subst (λ (gs : List T.Grant). LineReplies 1 (parse-as G.line bs) (record { memory = here .memory; grants = gs; granted = ws; caller = s .caller }) bs ys ys′ y) held-all d) l)

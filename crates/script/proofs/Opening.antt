@@ -20,7 +20,7 @@ use Rattle.query_text.specs.declared.Told.{Told}
 use Rattle.query_text.specs.Texts.{TextRead, RouteRead}
 use Rattle.ask.specs.declared.Reply.{Reply}
 use Rattle.ask.specs.Replies.{Replies}
-use Rattle.ask.specs.Asking.{asked, lined, Prepared, Answers, RouteLines}
+use Rattle.ask.specs.Asking.{asked, LineReplies, Prepared, Answers, RouteLines}
 use Rattle.script.proofs.Taken.{take-few}
 
 -- an element of the first ones, whatever stands past the last
@@ -65,5 +65,5 @@ answers-said m ws who t x spare bs gs n o cells cells′ r f e k a = a .shown sp
 
 pub routes-said : (m : Memory) (ws : List ℕ) (who : Caller) (t : Told) (x : Opened) (spare : ℕ) (bs : Bytes) (gs : List Grant) (n : Needs) (o : Option RouteLine) (out out′ : Bytes) (r : Reply)
     → n ≡ t .needs → x ≡ opened-in n (m .names) gs ws (roles-of who) (profile-of who) → RouteRead spare o (m .names) bs t → RouteLines m ws who t x out out′ r
-    → Replies (lined spare o (record { memory = m; grants = gs; granted = ws; caller = who }) bs out) out out′ r
+    → LineReplies spare o (record { memory = m; grants = gs; granted = ws; caller = who }) bs out out′ r
 routes-said m ws who t x spare bs gs n o out out′ r f e k a = a .shown spare bs o gs k (for-it (m .names) ws who t gs n f e)

@@ -36,7 +36,6 @@ use Rattle.schema.specs.Schemas.{schema-of}
 use Rattle.schema.proofs.Valid as N
 use Rattle.ledger.specs.Records.{record-of, memory-sound}
 use Rattle.ledger.proofs.Soundness.{sound-parts}
-use Rattle.ledger.proofs.Valid as L
 use Rattle.caller.specs.declared.Caller.{Caller}
 use Rattle.caller.specs.declared.Identified.{Identified}
 use Rattle.caller.specs.Callers.{caller-sound}
@@ -144,7 +143,7 @@ module _ (s : Store) (ok : Sound s) (zs : List ℤ) (ys : Bytes) where
   f = fixture-of s
 
   valid-kept : T (valid-record (record-of (s .memory)))
-  valid-kept = L.sound-valid (s .memory) (ok .memory .typed .ranges) (ok .memory .lent)
+  valid-kept = ok .memory .valid
 
   may-lend : T (lent-sound (lending s))
   unfolding lent-sound
@@ -184,9 +183,9 @@ does-said {bs} {zs} {ys = ys} (row-does {s = s} d) ok = call-said s ok zs ys (ro
 does-said {bs} {zs} {ys = ys} (clear-does {s = s} e) ok = call-said s ok zs ys (clear-line bs) (clear-lined e)
 does-said {bs} {zs} {ys = ys} (caller-does {s = s} e) ok = caller-said s ok zs ys bs e
 does-said {bs} {zs} {zs′} {ys} (ask-does {s = s} {r = r} h l) ok =
-    asked-said (fixture-of s) _ zs zs′ ys r (subst (λ (y : C.Reply ℤ). Replies y zs zs′ r) (asked-is (lending s) (ok .memory .typed .ranges) (may-lend s ok zs ys) 1 (parse-as G.ask bs) bs zs) h)
+    asked-said (fixture-of s) _ zs zs′ ys r (subst (λ (y : C.Reply ℤ). Replies y zs zs′ r) (asked-is (lending s) (ok .memory .valid) (may-lend s ok zs ys) 1 (parse-as G.ask bs) bs zs) h)
 does-said {bs} {zs} {ys = ys} {ys′} (line-does {s = s} {r = r} h l) ok =
-    lined-said (fixture-of s) _ zs ys ys′ r (subst (λ (y : C.Reply ℕ). Replies y ys ys′ r) (lined-is (lending s) (ok .memory .typed .ranges) (may-lend s ok zs ys) 1 (parse-as G.line bs) bs ys) h)
+    lined-said (fixture-of s) _ zs ys ys′ r (subst (λ (y : C.Reply ℕ). Replies y ys ys′ r) (lined-is (lending s) (ok .memory .valid) (may-lend s ok zs ys) 1 (parse-as G.line bs) bs ys) (h .said))
 
 -- ---- what is printed hangs on how many cells and bytes are lent, and not on what they hold
 

@@ -27,7 +27,7 @@ use Rattle.grant_line.specs.Granting.{grants-after, Grants}
 use Rattle.history.specs.Fixtures.{Store, with-memory, with-grants, with-caller}
 use Rattle.ask.specs.declared.Reply.{Reply}
 use Rattle.ask.specs.Replies.{Replies}
-use Rattle.ask.specs.Asking.{Lending, asked, lined}
+use Rattle.ask.specs.Asking.{Lending, asked, LineReplies}
 use Rattle.script.specs.declared.State.{State}
 use Rattle.script.specs.declared.Stepped.{Stepped}
 use Rattle.script.specs.declared.Verb.{Verb}
@@ -93,4 +93,4 @@ pub data Does (bs : Bytes) (zs : List ℤ) (ys : Bytes) : Option G.Verb → Stor
   clear-does : {s : Store} {r : Entered} → r ≡ clear-line-call (s .memory .ledger) bs → Does bs zs ys (some G.clear) s (with-memory s (with-ledger (s .memory) (r .ledger))) zs ys (verdict-said (r .verdict))
   caller-does : {s : Store} {r : Identified} → r ≡ identified (s .caller) bs → Does bs zs ys (some G.caller) s (with-caller s (r .caller)) zs ys (verdict-said (r .verdict))
   ask-does : {s : Store} {zs′ : List ℤ} {r : Reply} → Replies (asked 1 (parse-as G.ask bs) (lending s) bs zs) zs zs′ r → length zs′ ≡ length zs → Does bs zs ys (some G.ask) s s zs′ ys (reply-said 2 r)
-  line-does : {s : Store} {ys′ : Bytes} {r : Reply} → Replies (lined 1 (parse-as G.line bs) (lending s) bs ys) ys ys′ r → length ys′ ≡ length ys → Does bs zs ys (some G.line) s s zs ys′ (reply-said 3 r)
+  line-does : {s : Store} {ys′ : Bytes} {r : Reply} → LineReplies 1 (parse-as G.line bs) (lending s) bs ys ys′ r → length ys′ ≡ length ys → Does bs zs ys (some G.line) s s zs ys′ (reply-said 3 r)

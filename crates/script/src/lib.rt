@@ -9,7 +9,7 @@ ghost use Rattle.grant_line.specs.Lines.{no-grant};
 ghost use Rattle.catalogue.specs.Callers.{roles-of, profile-of};
 ghost use Rattle.catalogue.specs.Opened.{opened-in};
 ghost use Rattle.ask.specs.Replies.{Replies};
-ghost use Rattle.ask.specs.Asking.{asked, lined};
+ghost use Rattle.ask.specs.Asking.{asked, LineReplies};
 ghost use Rattle.script.specs.States.{new-state, with-ledger-in, with-grant-in, with-caller-in, store-of, stepped-with};
 ghost use Rattle.script.specs.Steps.{verb-in, verdict-said, reply-said, unread-said, Granting, Does};
 use ask::Reply;
@@ -318,7 +318,7 @@ fn lined(
     bytes: &mut [u8],
 ) -> Reply
     requires { ⌜ n ≤ max-grants ⌝ }
-    ensures { λ r. ⌜ Replies (lined 1 (parse-as G.line (now (line .entry))) (record { memory = record { ledger = l; names = now (names .entry); times = now (times .entry); values = now (values .entry) }; grants = take n grants; granted = now (words .entry); caller = who }) (now (line .entry)) (now (bytes .entry))) (now (bytes .entry)) (now (bytes .exit)) r ⌝ }
+    ensures { λ r. ⌜ LineReplies 1 (parse-as G.line (now (line .entry))) (record { memory = record { ledger = l; names = now (names .entry); times = now (times .entry); values = now (values .entry) }; grants = take n grants; granted = now (words .entry); caller = who }) (now (line .entry)) (now (bytes .entry)) (now (bytes .exit)) r ⌝ }
 {
     let t = query_text::read_line(line, names);
     let x = opened(grants, n, query_text::asks(t), names, words, who);

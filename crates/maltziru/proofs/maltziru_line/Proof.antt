@@ -62,9 +62,8 @@ use Rattle.catalogue.proofs.open_all.Symbol.{name as #catalogue·open-all}
 use Rattle.catalogue.proofs.open_all.Met as opens-thm
 use Rattle.ask.specs.declared.Reply.{Reply}
 use Rattle.query_text.specs.declared.Told.{Told}
-use Rattle.ask.specs.Replies.{Replies}
 use Rattle.query_text.specs.Texts.{QueryRead}
-use Rattle.ask.specs.Asking.{lined, Prepared, Lines}
+use Rattle.ask.specs.Asking.{LineReplies, Prepared, Lines}
 use Rattle.ask.proofs.Reply as Y
 use Rattle.ask.proofs.Reply.Laws as Y′
 use Rattle.query_text.proofs.Told as D
@@ -176,7 +175,7 @@ module _ {M : Type 1} (𝓤 : URA M) (H : Heap 𝓤) (A : Atoms 𝓤) (W : Given
       → ent 𝓤 (⋆ 𝓤 H A (‵ (flft κ₂ q₂) ∷ ‵ (flft κ₃ q₃) ∷ ‵ (flft κ₄ q₄) ∷ ‵ (flft κ₁ q₁) ∷ ‵ (flft κ₆ q₆) ∷ ‵ O-ns ∷ ‵ O-ts ∷ ‵ O-vs ∷ ‵ O-ws ∷ ‵ O-cs ∷ [])) (⋆ 𝓤 H A (raw (Inner 𝓤 H A mem run .pre (to-inner t x u o)) ∷ ‵ O-ns ∷ ‵ O-ts ∷ ‵ O-vs ∷ ‵ O-ws ∷ []))
   goes-inner t x u o ist isx p = qed W (‵ (flft κ₂ q₂) ∷ ‵ (flft κ₃ q₃) ∷ ‵ (flft κ₄ q₄) ∷ ‵ (flft κ₁ q₁) ∷ ‵ (flft κ₆ q₆) ∷ ‵ O-ns ∷ ‵ O-ts ∷ ‵ O-vs ∷ ‵ O-ws ∷ ‵ O-cs ∷ []) ∵ move ! (5 ∷ []) $ use1 W (‵ O-ns ⊛ ‵ O-ns) (shr-slice-copy 𝓤 H A W (named 2) κ₂ u64 .twice ns (nsv ∷ [])) $ split ! $ move ! (7 ∷ []) $ use1 W (‵ O-ts ⊛ ‵ O-ts) (shr-slice-copy 𝓤 H A W (named 3) κ₃ u32 .twice ts (tsv ∷ [])) $ split ! $ move ! (9 ∷ []) $ use1 W (‵ O-vs ⊛ ‵ O-vs) (shr-slice-copy 𝓤 H A W (named 4) κ₄ i32 .twice vs (vsv ∷ [])) $ split ! $ move ! (11 ∷ []) $ use1 W (‵ O-ws ⊛ ‵ O-ws) (shr-slice-copy 𝓤 H A W (named 1) κ₁ u32 .twice ws (wsv ∷ [])) $ split ! $ nothing ! $ move ! (14 ∷ 0 ∷ []) $ fjoin ! $ owned ! i64 (Is i64) (sint-makes 𝓤 H A W w64) number _ isz $ fjoin ! $ owned ! P.the-row (Is P.the-row) (LL.makes P.the-type P′.the-plain 𝓤 H A) who _ isw $ fjoin ! $ move ! (1 ∷ 0 ∷ []) $ fjoin ! $ move ! (2 ∷ 0 ∷ []) $ fjoin ! $ move ! (3 ∷ 0 ∷ []) $ fjoin ! $ move ! (4 ∷ 0 ∷ []) $ fjoin ! $ owned ! L.the-row (Is L.the-row) (LL.makes L.the-type L′.the-plain 𝓤 H A) l _ isl $ fjoin ! $ owned ! K.the-row (Is K.the-row) (LL.makes K.the-type K′.the-plain 𝓤 H A) x _ isx $ fjoin ! $ owned ! D.the-row (Is D.the-row) (LL.makes D.the-type D′.the-plain 𝓤 H A) t _ ist $ fjoin ! $ nothing ! $ move ! (10 ∷ 0 ∷ []) $ join ! $ move ! (9 ∷ 0 ∷ []) $ join ! $ move ! (8 ∷ 0 ∷ []) $ join ! $ move ! (7 ∷ 0 ∷ []) $ join ! $ move ! (6 ∷ 0 ∷ []) $ join ! $ use2 W (raw (Inner 𝓤 H A mem run .pre (to-inner t x u o))) (asks-inner t x u o p) $ move ! (0 ∷ 4 ∷ 3 ∷ 2 ∷ 1 ∷ []) $ frame ! $ frame ! $ frame ! $ frame ! $ done !
 
-  exits : (r : Reply) (u : Val) (zs : List ℕ) → Replies (lined 0 (with-route number (parse-query (bs .now))) (record { memory = memory; grants = gs .now; granted = ws .now; caller = who }) (bs .now) (cs .now)) (cs .now) zs r → length zs ≡ length (cs .now) → ent 𝓤 (⋆ 𝓤 H A (‵ (Y.the-row .own r (u ∷ [])) ∷ ‵ (finally u8 (cs .name) zs) ∷ ‵ (flft κ₀ q₀) ∷ ‵ (flft κ₁ q₁) ∷ ‵ (flft κ₂ q₂) ∷ ‵ (flft κ₃ q₃) ∷ ‵ (flft κ₄ q₄) ∷ ‵ (flft κ₅ q₅) ∷ ‵ (flft κ₆ q₆) ∷ ‵ O-gs ∷ ‵ O-ws ∷ ‵ O-ns ∷ ‵ O-ts ∷ ‵ O-vs ∷ ‵ O-bs ∷ [])) (Post u)
+  exits : (r : Reply) (u : Val) (zs : List ℕ) → LineReplies 0 (with-route number (parse-query (bs .now))) (record { memory = memory; grants = gs .now; granted = ws .now; caller = who }) (bs .now) (cs .now) zs r → length zs ≡ length (cs .now) → ent 𝓤 (⋆ 𝓤 H A (‵ (Y.the-row .own r (u ∷ [])) ∷ ‵ (finally u8 (cs .name) zs) ∷ ‵ (flft κ₀ q₀) ∷ ‵ (flft κ₁ q₁) ∷ ‵ (flft κ₂ q₂) ∷ ‵ (flft κ₃ q₃) ∷ ‵ (flft κ₄ q₄) ∷ ‵ (flft κ₅ q₅) ∷ ‵ (flft κ₆ q₆) ∷ ‵ O-gs ∷ ‵ O-ws ∷ ‵ O-ns ∷ ‵ O-ts ∷ ‵ O-vs ∷ ‵ O-bs ∷ [])) (Post u)
   exits r u zs e k = qed W (‵ (Y.the-row .own r (u ∷ [])) ∷ ‵ (finally u8 (cs .name) zs) ∷ ‵ (flft κ₀ q₀) ∷ ‵ (flft κ₁ q₁) ∷ ‵ (flft κ₂ q₂) ∷ ‵ (flft κ₃ q₃) ∷ ‵ (flft κ₄ q₄) ∷ ‵ (flft κ₅ q₅) ∷ ‵ (flft κ₆ q₆) ∷ ‵ O-gs ∷ ‵ O-ws ∷ ‵ O-ns ∷ ‵ O-ts ∷ ‵ O-vs ∷ ‵ O-bs ∷ []) ∵ suffices ! _ (ends-at 𝓤 H A outer.ended stayed (outer.clauses 𝓤 H A mem run) W bound u r (tt, (tt, (tt, (tt, (tt, (tt, (tt, (tt, (tt, (zs, tt)))))))))) (tt, (tt, (tt, (tt, (tt, (tt, (tt, (tt, (tt, (k, tt))))))))))) $ says ! e $ nothing ! $ move ! (9 ∷ 0 ∷ []) $ join ! $ move ! (8 ∷ 0 ∷ []) $ join ! $ move ! (7 ∷ 0 ∷ []) $ join ! $ move ! (6 ∷ 0 ∷ []) $ join ! $ move ! (5 ∷ 0 ∷ []) $ join ! $ move ! (4 ∷ 0 ∷ []) $ join ! $ move ! (3 ∷ 0 ∷ []) $ join ! $ frame ! $ nothing ! $ move ! (2 ∷ 0 ∷ []) $ fjoin ! $ move ! (7 ∷ 0 ∷ []) $ fjoin ! $ owned ! i64 (Is i64) (sint-makes 𝓤 H A W w64) number _ isz $ fjoin ! $ owned ! P.the-row (Is P.the-row) (LL.makes P.the-type P′.the-plain 𝓤 H A) who _ isw $ fjoin ! $ move ! (6 ∷ 0 ∷ []) $ fjoin ! $ move ! (5 ∷ 0 ∷ []) $ fjoin ! $ move ! (4 ∷ 0 ∷ []) $ fjoin ! $ owned ! L.the-row (Is L.the-row) (LL.makes L.the-type L′.the-plain 𝓤 H A) l _ isl $ fjoin ! $ move ! (3 ∷ 0 ∷ []) $ fjoin ! $ move ! (2 ∷ 0 ∷ []) $ fjoin ! $ frame ! $ done !
 
   module _ (C : Calls 𝓤 H) (Λ : Loops 𝓤 H) (fm : FmC 𝓤 H (W .laws) C) (room-gs : Room T.the-row (length (gs .now))) (room-ws : Room u32 (length (ws .now))) (room-ns : Room u64 (length (ns .now))) (room-ts : Room u32 (length (ts .now))) (room-vs : Room i32 (length (vs .now))) (room-bs : Room u8 (length (bs .now))) (room-cs : Room u8 (length (cs .now)))
