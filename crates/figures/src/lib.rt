@@ -18,42 +18,42 @@ pub struct Answer {
 }
 
 // The value of a term.
-pub struct Cell {
+pub struct Scalar {
     pub value: i64,
 }
 
 impl Answer {
     // The value of a term by its code, and the number of its comparison.
-    fn term(self, code: u32, v: u32) -> Cell
+    fn term(self, code: u32, v: u32) -> Scalar
         ensures { λ r. ⌜ r .value ≡ coded-value self code v ⌝ }
     {
         if code == Term::TIME {
-            return Cell {
+            return Scalar {
                 value: self.end as i64,
             };
         }
         if code == Term::FIGURE {
-            return Cell { value: self.figure };
+            return Scalar { value: self.figure };
         }
         if code == Term::NUMBER {
-            return Cell {
+            return Scalar {
                 value: v as i64 - 2147483648,
             };
         }
-        Cell { value: 0 }
+        Scalar { value: 0 }
     }
 }
 
-impl Cell {
+impl Scalar {
     // Whether it is below another.
-    fn below(self, m: Cell) -> bool
+    fn below(self, m: Scalar) -> bool
         ensures { λ r. ⌜ r ≡ ltZ (self .value) (m .value) ⌝ }
     {
         self.value < m.value
     }
 
     // Whether it is not above another.
-    fn within(self, m: Cell) -> bool
+    fn within(self, m: Scalar) -> bool
         ensures { λ r. ⌜ r ≡ leZ (self .value) (m .value) ⌝ }
     {
         self.value <= m.value
@@ -61,7 +61,7 @@ impl Cell {
 }
 
 // Whether two values compare as the head of a node says.
-fn compared(head: u32, l: Cell, m: Cell) -> bool
+fn compared(head: u32, l: Scalar, m: Scalar) -> bool
     ensures { λ r. ⌜ r ≡ compares (numbered-op head) (l .value) (m .value) ⌝ }
 {
     if head == 3 {

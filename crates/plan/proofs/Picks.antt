@@ -10,7 +10,7 @@ use Rattle.lists.proofs.Laws.{true-T}
 use Rattle.orders.specs.Orders.{order-within}
 use Rattle.query.specs.Forms.{rows-form, keep-of, form-order, join-form}
 use Rattle.query.specs.declared.Form.{Form}
-use Rattle.rewrite.specs.declared.Granted.{Granted}
+use Rattle.rewrite.specs.declared.Restriction.{Restriction}
 use Rattle.rewrite.specs.Rewrites.{cut-form, seen-forms, cut-forms, side-picks, side-stream, side-rest, view-forms, joined-forms, pair-forms, sum-forms}
 use Rattle.plan.specs.Plans.{pick-count}
 use Rattle.plan.proofs.Rewriter.{stream-kind}
@@ -48,7 +48,7 @@ picks-on f fs gs h = go (eqb (f .kind) 1)
 -- ---- a grant for each stream
 
 module _ (ns : List ℕ) where
-  seen-picks : (g : Granted) (f : Form) (fs : List Form) → f .kind ≡ rows-form → pick-count (seen-forms ns g f ++ fs) ≡ pick-count fs
+  seen-picks : (g : Restriction) (f : Form) (fs : List Form) → f .kind ≡ rows-form → pick-count (seen-forms ns g f ++ fs) ≡ pick-count fs
   unfolding seen-forms pick-count
   seen-picks g f fs e = rw e
 
@@ -60,7 +60,7 @@ module _ (ns : List ℕ) where
       go true e = rw (eqb→eq (f .kind) 2 (true-T (eqb (f .kind) 2) e)) h
       go false e = rw h
 
-  pub cut-picks : (mask : ℕ) (g h : Granted) (fs : List Form) → pick-count (cut-forms ns mask g h fs) ≡ pick-count fs
+  pub cut-picks : (mask : ℕ) (g h : Restriction) (fs : List Form) → pick-count (cut-forms ns mask g h fs) ≡ pick-count fs
   unfolding cut-forms
   cut-picks mask g h [] = refl
   cut-picks mask g h (f ∷ fs) = go (eqb (f .kind) 0) refl (cut-picks mask h h fs) (cut-picks mask g h fs)
@@ -87,11 +87,11 @@ module _ (ns : List ℕ) where
       go false true e i = rw e (omega arith)
       go false false e i = i
 
-  view-picks : (g : Granted) (j a b : Form) → j .kind ≡ join-form → a .kind ≡ rows-form → b .kind ≡ rows-form → pick-count (view-forms ns g j a b) ≡ 0
+  view-picks : (g : Restriction) (j a b : Form) → j .kind ≡ join-form → a .kind ≡ rows-form → b .kind ≡ rows-form → pick-count (view-forms ns g j a b) ≡ 0
   unfolding view-forms pick-count
   view-picks g j a b e k l = rw (e, k, l) refl
 
-  joined-picks : (g : Granted) (f : Form) (fs : List Form) → f .kind ≡ join-form → pick-count (joined-forms ns g f fs) ≤ pick-count fs
+  joined-picks : (g : Restriction) (f : Form) (fs : List Form) → f .kind ≡ join-form → pick-count (joined-forms ns g f fs) ≤ pick-count fs
   unfolding joined-forms pick-count
   joined-picks g f fs e =
       let view = view-forms ns g f (side-stream fs) (side-stream (side-rest fs)) in
@@ -102,7 +102,7 @@ module _ (ns : List ℕ) where
       let j = side-both (side-rest fs) in
       omega arith
 
-  pub pair-picks : (g : Granted) (fs : List Form) → pick-count (pair-forms ns g fs) ≤ pick-count fs
+  pub pair-picks : (g : Restriction) (fs : List Form) → pick-count (pair-forms ns g fs) ≤ pick-count fs
   unfolding pair-forms
   pair-picks g [] = omega arith
   pair-picks g (f ∷ fs) = go (eqb (f .kind) 3) refl (pair-picks g fs)
@@ -120,7 +120,7 @@ module _ (ns : List ℕ) where
 
   -- ---- an aggregate grant on one stream
 
-  pub sum-picks : (g : Granted) (fs : List Form) → pick-count (sum-forms ns g fs) ≤ pick-count fs
+  pub sum-picks : (g : Restriction) (fs : List Form) → pick-count (sum-forms ns g fs) ≤ pick-count fs
   unfolding sum-forms
   sum-picks g [] = omega arith
   sum-picks g (f ∷ fs) = picks-on f _ fs (go (eqb (f .kind) 4) (sum-picks g fs))

@@ -19,7 +19,7 @@ use Rattle.query.specs.Forms.{Words, rows-form, pick-form, form-order, join-for
 use Rattle.query.specs.Shapes.{depth, taken, formed}
 use Rattle.query.specs.declared.Form.{Form}
 use Rattle.query.proofs.Shapes.{Laid, laid-rows, laid-pick, laid-keep, laid-join, laid-aggregate, depth-laid}
-use Rattle.rewrite.specs.declared.Granted.{Granted}
+use Rattle.rewrite.specs.declared.Restriction.{Restriction}
 use Rattle.rewrite.specs.Rewrites.{under-of, shown-order, seen-forms, cut-forms, side-picks, side-stream, side-rest, side-order, pair-order, view-forms, joined-forms, pair-forms, sum-forms}
 use Rattle.rewrite.proofs.SideBySide.{cut-rows, cut-same, cut-kept}
 use Rattle.rewrite.proofs.OnPair.{side-free, pair-same, pair-kept, pair-joined}
@@ -32,7 +32,7 @@ use Rattle.plan.proofs.Regular.{told, told-stream, told-number, taken-o
 
 module _ (w : Words) (ns : List ℕ) where
   -- a stream as a grant shows it
-  seen-regular : (g : Granted) (f : Form) (fs : List Form) → f .kind ≡ rows-form → T (ltb (f .first) (streams-in ns)) → T (regular w ns fs) → T (regular w ns (seen-forms ns g f ++ fs))
+  seen-regular : (g : Restriction) (f : Form) (fs : List Form) → f .kind ≡ rows-form → T (ltb (f .first) (streams-in ns)) → T (regular w ns fs) → T (regular w ns (seen-forms ns g f ++ fs))
   unfolding seen-forms shown-order depth viewless
   seen-regular g f fs e t r =
       let x = add-rows w ns f fs r e t in
@@ -40,7 +40,7 @@ module _ (w : Words) (ns : List ℕ) where
       add-kept w ns (shown-order ns (f .first ∷ []) g) (under-of g ∷ f ∷ fs) y (rw e (omega arith)) (within-below (g .shown) (order-of (column-codes ns (f .first ∷ []))))
 
   module _ (mask : ℕ) where
-    pub cut-depth : (g h : Granted) (fs : List Form) → depth (cut-forms ns mask g h fs) ≡ depth fs
+    pub cut-depth : (g h : Restriction) (fs : List Form) → depth (cut-forms ns mask g h fs) ≡ depth fs
     cut-depth g h [] = unfold cut-forms in refl
     cut-depth g h (f ∷ fs) = go (kind-of f) (cut-depth h h fs) (cut-depth g h fs)
       where
@@ -55,7 +55,7 @@ module _ (w : Words) (ns : List ℕ) where
             (unfold depth in rw (ne-eqb (f .kind) 0 (λ u. omega arith), ne-eqb (f .kind) 3 (λ u. omega arith)) j)
 
     -- what a form of a query's table leaves to show
-    module _ (g h : Granted) (f : Form) (fs : List Form) (b : T (ltb (f .kind) under-form)) (l : T (leb (taken f) (depth fs))) (t : T (told ns f)) where
+    module _ (g h : Restriction) (f : Form) (fs : List Form) (b : T (ltb (f .kind) under-form)) (l : T (leb (taken f) (depth fs))) (t : T (told ns f)) where
       cut-form-regular : Kind f → T (regular w ns (cut-forms ns mask h h fs)) → T (regular w ns (cut-forms ns mask g h fs)) → T (regular w ns (cut-forms ns mask g h (f ∷ fs)))
       cut-form-regular (k-rows e) i j = rw (cut-rows ns mask g h f fs e) (seen-regular g f (cut-forms ns mask h h fs) e (told-stream ns f e t) i)
       cut-form-regular (k-pick e) i j = rw (cut-same ns mask g h f fs e refl refl) (add-pick w ns f (cut-forms ns mask g h fs) j e (rw (cut-depth g h fs) (taken-one f fs l e refl refl)))
@@ -67,7 +67,7 @@ module _ (w : Words) (ns : List ℕ) where
           rw (cut-same ns mask g h f fs e refl refl) (add-aggregate w ns f (cut-forms ns mask g h fs) j e (rw (cut-depth g h fs) (taken-one f fs l e refl refl)) (told-number ns f e t))
       cut-form-regular (k-under e) i j = let k = ltb→lt (f .kind) under-form b in absurd (omega arith)
 
-    pub cut-regular : (g h : Granted) (fs : List Form) → T (formed fs) → T (every (told ns) fs) → T (regular w ns (cut-forms ns mask g h fs))
+    pub cut-regular : (g h : Restriction) (fs : List Form) → T (formed fs) → T (every (told ns) fs) → T (regular w ns (cut-forms ns mask g h fs))
     unfolding formed every
     cut-regular g h [] t u = unfold cut-forms regular in tt
     cut-regular g h (f ∷ fs) t u =
@@ -152,7 +152,7 @@ module _ (w : Words) (ns : List ℕ) where
 
   -- ---- a grant on the pair
 
-  module _ (g : Granted) where
+  module _ (g : Restriction) where
     view-regular : (j a b : Form) → j .kind ≡ join-form → a .kind ≡ rows-form → T (ltb (a .first) (streams-in ns)) → b .kind ≡ rows-form → T (ltb (b .first) (streams-in ns)) → T (regular w ns (view-forms ns g j a b))
     unfolding view-forms shown-order depth viewless
     view-regular j a b e k s l t =

@@ -26,7 +26,7 @@ use Rattle.query.specs.Tables.{table-words, rewritten-forms, rewritten-table}
 use Rattle.query.specs.declared.Form.{Form}
 use Rattle.query.proofs.Shapes.{one-laid}
 use Rattle.query.proofs.Rewritten.{table-forms}
-use Rattle.rewrite.specs.declared.Granted.{Granted}
+use Rattle.rewrite.specs.declared.Restriction.{Restriction}
 use Rattle.rewrite.specs.Rewrites.{cut-forms, side-forms, pair-forms, sum-forms}
 use Rattle.rewrite.specs.Routed.{over-sides, over-sum, Stands}
 use Rattle.rewrite.proofs.Shown.{declared-all}
@@ -98,7 +98,7 @@ module _ (w : Words) (ns : List ℕ) (fs : List Form) (one : T (one-query fs)) (
   unfolding placed
   fits = search parts
 
-  pub sides-plannable : (g h : Granted) → length (sources (query-in w fs)) ≤ 2 → Plannable w ns (side-forms ns g h fs)
+  pub sides-plannable : (g h : Restriction) → length (sources (query-in w fs)) ≤ 2 → Plannable w ns (side-forms ns g h fs)
   unfolding side-forms
   sides-plannable g h k =
       let mask = bitOr (g .shown) (h .shown) in
@@ -116,7 +116,7 @@ module _ (w : Words) (ns : List ℕ) (fs : List Form) (one : T (one-query fs)) (
         few = omega arith;
       }
 
-  pub pair-plannable : (g : Granted) → Plannable w ns (pair-forms ns g fs)
+  pub pair-plannable : (g : Restriction) → Plannable w ns (pair-forms ns g fs)
   pair-plannable g =
       let d = deep in
       let c = picks-most fs in
@@ -129,7 +129,7 @@ module _ (w : Words) (ns : List ℕ) (fs : List Form) (one : T (one-query fs)) (
         few = omega arith;
       }
 
-  pub sum-plannable : (g : Granted) → T (not (no-aggregate (query-in w fs))) → Plannable w ns (sum-forms ns g fs)
+  pub sum-plannable : (g : Restriction) → T (not (no-aggregate (query-in w fs))) → Plannable w ns (sum-forms ns g fs)
   sum-plannable g u =
       let c = picks-most fs in
       let l = one-laid w fs one in
@@ -171,7 +171,7 @@ module _ (ns : List ℕ) (w : Words) (who : Caller) (same : who .profile ≡ w .
   both-declared s t a b = and-both (ltb s (streams-in ns)) _ (first-declared s a) b
 
   -- a reading grant on the one stream
-  pub one-side-made : (g : Granted) (n : Numbered) (s : ℕ) → Stands ns w g (n .grant) → n .grant .of ≡ s ∷ [] → sources q ≡ s ∷ [] → Made (side-forms ns g g fs) (over-sides (schema-of ns) n n q)
+  pub one-side-made : (g : Restriction) (n : Numbered) (s : ℕ) → Stands ns w g (n .grant) → n .grant .of ≡ s ∷ [] → sources q ≡ s ∷ [] → Made (side-forms ns g g fs) (over-sides (schema-of ns) n n q)
   one-side-made g n s a o e =
       record {
         plannable = sides-plannable w ns fs one few placing numbers (rw (e, sym o) (a .declared)) g g (rw e (omega arith));
@@ -179,7 +179,7 @@ module _ (ns : List ℕ) (w : Words) (who : Caller) (same : who .profile ≡ w .
       }
 
   -- a reading grant on each of two streams
-  pub two-sides-made : (g : Granted) (n : Numbered) (h : Granted) (m : Numbered) (s t : ℕ) → Stands ns w g (n .grant) → n .grant .of ≡ s ∷ [] → Stands ns w h (m .grant) → m .grant .of ≡ t ∷ [] → sources q ≡ s ∷ (t ∷ [])
+  pub two-sides-made : (g : Restriction) (n : Numbered) (h : Restriction) (m : Numbered) (s t : ℕ) → Stands ns w g (n .grant) → n .grant .of ≡ s ∷ [] → Stands ns w h (m .grant) → m .grant .of ≡ t ∷ [] → sources q ≡ s ∷ (t ∷ [])
       → Made (side-forms ns g h fs) (over-sides (schema-of ns) n m q)
   two-sides-made g n h m s t a o b p e =
       record {
@@ -187,7 +187,7 @@ module _ (ns : List ℕ) (w : Words) (who : Caller) (same : who .profile ≡ w .
         is = two-sides ns w who same fs one few placing lent room g n h m s t a o b p e;
       }
 
-  module _ (g : Granted) (n : Numbered) (a : Stands ns w g (n .grant)) (of : n .grant .of ≡ sources q) where
+  module _ (g : Restriction) (n : Numbered) (a : Stands ns w g (n .grant)) (of : n .grant .of ≡ sources q) where
     theirs : T (declared-all ns (sources q))
     theirs = rw (sym of) (a .declared)
 

@@ -32,7 +32,7 @@ const OPEN_SUM: u64 = 0x2873756d20;
 const NONE_OPEN: u32 = 1;
 
 // The place after what was written, and what stands open there.
-pub struct Turn {
+pub struct Cursor {
     pub place: u32,
     pub marks: u32,
 }
@@ -201,7 +201,7 @@ fn bracketed(f: Form) -> bool
 }
 
 // The brackets that close after a query, up to a join's left side, and the space after that; what stands open then.
-fn put_ends(out: &mut [u8], p: u32, marks: u32) -> Turn
+fn put_ends(out: &mut [u8], p: u32, marks: u32) -> Cursor
     ensures { λ r. ⌜ Ended marks (now (out .entry)) p (now (out .exit)) (r .place) (r .marks) ⌝ }
 {
     let mut q = p;
@@ -209,7 +209,7 @@ fn put_ends(out: &mut [u8], p: u32, marks: u32) -> Turn
     while NONE_OPEN < left {
         if left % 2 == 1 {
             let s = print::put(out, q, b' ');
-            return Turn {
+            return Cursor {
                 place: s,
                 marks: left - 1,
             };
@@ -217,11 +217,11 @@ fn put_ends(out: &mut [u8], p: u32, marks: u32) -> Turn
         q = print::put(out, q, b')');
         left = left / 2;
     }
-    Turn { place: q, marks: 0 }
+    Cursor { place: q, marks: 0 }
 }
 
 // What follows a form's opening, and what stands open then.
-fn put_turn(out: &mut [u8], p: u32, f: Form, marks: u32) -> Turn
+fn put_turn(out: &mut [u8], p: u32, f: Form, marks: u32) -> Cursor
     requires { ⌜ marks < marks-end ⌝ }
     ensures { λ r. ⌜ Turned f marks (now (out .entry)) p (now (out .exit)) (r .place) (r .marks) ⌝ }
 {
@@ -229,18 +229,18 @@ fn put_turn(out: &mut [u8], p: u32, f: Form, marks: u32) -> Turn
         return put_ends(out, p, marks);
     }
     if f.kind == Form::JOIN {
-        return Turn {
+        return Cursor {
             place: p,
             marks: marks * 2 + 1,
         };
     }
     if bracketed(f) {
-        return Turn {
+        return Cursor {
             place: p,
             marks: marks * 2,
         };
     }
-    Turn {
+    Cursor {
         place: p,
         marks: marks,
     }

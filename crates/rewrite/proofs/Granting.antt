@@ -10,11 +10,11 @@ use Rattle.grant.specs.Catalogues.{words-in}
 use Rattle.grant.specs.declared.Grant.{Grant}
 use Rattle.grant.proofs.Valid.{streams-below, told-streams}
 use Rattle.query.specs.Forms.{Words}
-use Rattle.rewrite.specs.declared.Granted.{Granted}
+use Rattle.rewrite.specs.declared.Restriction.{Restriction}
 use Rattle.rewrite.specs.Routed.{Stands}
 
 -- the numbers of a grant in a place
-abbrev pub granted-of : ℕ → Grant → Granted
+abbrev pub granted-of : ℕ → Grant → Restriction
 granted-of i g = record { place = i; shown = g .shown; words = g .words; from = g .from; to = g .to }
 
 sound-inside : (ns : List ℕ) (g : Grant) (ws : List ℕ) → T (grant-sound ns g ws) → T (inside (g .shown) (streams-mask ns (streams-of g)))

@@ -34,7 +34,7 @@ use Rattle.query.specs.Shapes.{one-query}
 use Rattle.query.specs.declared.Form.{Form}
 use Rattle.query.proofs.Shapes.{Laid, laid-rows, laid-pick, laid-keep, laid-join, laid-aggregate, form-rows, form-pick, form-join, form-aggregate, one-laid}
 use Rattle.query.proofs.Rewritten.{table-forms}
-use Rattle.rewrite.specs.declared.Granted.{Granted}
+use Rattle.rewrite.specs.declared.Restriction.{Restriction}
 use Rattle.rewrite.specs.Rewrites.{under-of, cut-form, shown-order, side-picks, side-stream, side-rest, side-order, pair-order, view-forms, joined-forms, pair-forms}
 use Rattle.rewrite.specs.Routed.{over-sum, Stands}
 use Rattle.rewrite.proofs.Shown.{present-select, cols-within, declared-all, map-append, order-columns}
@@ -121,7 +121,7 @@ module _ {w : Words} where
 
 -- ---- forms above a join, by their kind
 
-module _ (ns : List ℕ) (g : Granted) (f : Form) (fs : List Form) where
+module _ (ns : List ℕ) (g : Restriction) (f : Form) (fs : List Form) where
   pub pair-same : {k : ℕ} → f .kind ≡ k → eqb k join-form ≡ false → eqb k keep-form ≡ false → pair-forms ns g (f ∷ fs) ≡ f ∷ pair-forms ns g fs
   unfolding pair-forms cut-form
   pair-same e i j = rw (ap (λ (k : ℕ). eqb k 3) e ∙ i, ap (λ (k : ℕ). eqb k 2) e ∙ j)
@@ -154,7 +154,7 @@ unfolding expand picked-by
 expand-picked f [] q = refl
 expand-picked f (c ∷ cs) q = ap (pick c) (expand-picked f cs q)
 
-module _ (ns : List ℕ) (w : Words) (who : Caller) (same : who .profile ≡ w .profile) (g : Granted) (n : Numbered) (a : Stands ns w g (n .grant)) where
+module _ (ns : List ℕ) (w : Words) (who : Caller) (same : who .profile ≡ w .profile) (g : Restriction) (n : Numbered) (a : Stands ns w g (n .grant)) where
   abbrev d : Schema
   d = schema-of ns
 
@@ -274,7 +274,7 @@ module _ (ns : List ℕ) (w : Words) (who : Caller) (same : who .profile ≡ w .
 
 -- ---- how many forms they are
 
-joined-long : {w : Words} (ns : List ℕ) (g : Granted) (f : Form) {q r : M.Query ℕ} {fs hs : List Form} → Laid w q fs → Laid w r hs → T (side q) → T (side r) → length (joined-forms ns g f (fs ++ hs)) ≤ suc (length (fs ++ hs)) + 3
+joined-long : {w : Words} (ns : List ℕ) (g : Restriction) (f : Form) {q r : M.Query ℕ} {fs hs : List Form} → Laid w q fs → Laid w r hs → T (side q) → T (side r) → length (joined-forms ns g f (fs ++ hs)) ≤ suc (length (fs ++ hs)) + 3
 unfolding joined-forms view-forms
 joined-long ns g f {q} {r} {fs} {hs} l m h k =
     let view = view-forms ns g f (side-stream (fs ++ hs)) (side-stream hs) in
@@ -285,7 +285,7 @@ joined-long ns g f {q} {r} {fs} {hs} l m h k =
     let z = length-append fs hs in
     rw (rest-after l h hs) (omega arith)
 
-pub pair-long : {w : Words} (ns : List ℕ) (g : Granted) {q : M.Query ℕ} {fs : List Form} → Laid w q fs → (hs : ℕ → List Col) → T (allowed hs q) → length (pair-forms ns g fs) ≤ length fs + 3
+pub pair-long : {w : Words} (ns : List ℕ) (g : Restriction) {q : M.Query ℕ} {fs : List Form} → Laid w q fs → (hs : ℕ → List Col) → T (allowed hs q) → length (pair-forms ns g fs) ≤ length fs + 3
 unfolding allowed
 pair-long ns g (laid-rows f e) hs t = rw (pair-same ns g f [] e refl refl) (unfold pair-forms in omega arith)
 pair-long ns g (laid-pick f {fs} e l) hs t = let i = pair-long ns g l hs (search parts) in rw (pair-same ns g f fs e refl refl) (omega arith)
@@ -316,7 +316,7 @@ sum-view d n (aggregate f c size offset q) e = ap (aggregate f c size offset) (s
 -- ---- the rewritten query
 
 module _ (ns : List ℕ) (w : Words) (who : Caller) (same : who .profile ≡ w .profile) (fs : List Form) (one : T (one-query fs)) (few : length fs ≤ max-forms) (placing : T (placed (schema-of ns) (query-in w fs)))
-    (once : T (keeps (distinct same-col) (query-in w fs))) (g : Granted) (n : Numbered) (a : Stands ns w g (n .grant)) (of : n .grant .of ≡ sources (query-in w fs)) (two : length (sources (query-in w fs)) ≡ 2)
+    (once : T (keeps (distinct same-col) (query-in w fs))) (g : Restriction) (n : Numbered) (a : Stands ns w g (n .grant)) (of : n .grant .of ≡ sources (query-in w fs)) (two : length (sources (query-in w fs)) ≡ 2)
     (lent : List ℕ) (room : table-words ≤ length lent) where
   pub on-pair : query-in w (rewritten-forms (rewritten-table lent (pair-forms ns g fs))) ≡ expand (defined (schema-of ns) who) (over-view (schema-of ns) (query-in w fs) n)
   unfolding placed query-in outer

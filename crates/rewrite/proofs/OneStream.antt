@@ -21,7 +21,7 @@ use Rattle.query.specs.Shapes.{one-query}
 use Rattle.query.specs.declared.Form.{Form}
 use Rattle.query.proofs.Shapes.{Laid, laid-rows, laid-pick, laid-keep, laid-join, laid-aggregate, form-pick, form-aggregate, one-laid}
 use Rattle.query.proofs.Rewritten.{table-forms}
-use Rattle.rewrite.specs.declared.Granted.{Granted}
+use Rattle.rewrite.specs.declared.Restriction.{Restriction}
 use Rattle.rewrite.specs.Rewrites.{seen-forms, side-stream, sum-forms}
 use Rattle.rewrite.specs.Routed.{over-sum, Stands}
 use Rattle.rewrite.proofs.SideBySide.{seen-stands}
@@ -52,7 +52,7 @@ not-free false t u = t
 
 -- ---- forms above, by their kind
 
-module _ (ns : List ℕ) (g : Granted) (f : Form) (fs : List Form) where
+module _ (ns : List ℕ) (g : Restriction) (f : Form) (fs : List Form) where
   pub sum-same : {k : ℕ} → f .kind ≡ k → eqb k aggregate-form ≡ false → sum-forms ns g (f ∷ fs) ≡ f ∷ sum-forms ns g fs
   unfolding sum-forms
   sum-same e i = rw (ap (λ (k : ℕ). eqb k 4) e ∙ i)
@@ -61,7 +61,7 @@ module _ (ns : List ℕ) (g : Granted) (f : Form) (fs : List Form) where
   unfolding sum-forms
   sum-seen e = rw (ap (λ (k : ℕ). eqb k 4) e)
 
-module _ (ns : List ℕ) (w : Words) (who : Caller) (same : who .profile ≡ w .profile) (g : Granted) (n : Numbered) (a : Stands ns w g (n .grant)) where
+module _ (ns : List ℕ) (w : Words) (who : Caller) (same : who .profile ≡ w .profile) (g : Restriction) (n : Numbered) (a : Stands ns w g (n .grant)) where
   abbrev d : Schema
   d = schema-of ns
 
@@ -93,7 +93,7 @@ some-forms (laid-keep f e l) = omega arith
 some-forms (laid-join f e l m) = omega arith
 some-forms (laid-aggregate f e l) = omega arith
 
-pub sum-long : {w : Words} (ns : List ℕ) (g : Granted) {q : M.Query ℕ} {fs : List Form} → Laid w q fs → (hs : ℕ → List Col) → T (allowed hs q) → T (not (no-aggregate q)) → length (sum-forms ns g fs) ≤ length fs + 2
+pub sum-long : {w : Words} (ns : List ℕ) (g : Restriction) {q : M.Query ℕ} {fs : List Form} → Laid w q fs → (hs : ℕ → List Col) → T (allowed hs q) → T (not (no-aggregate q)) → length (sum-forms ns g fs) ≤ length fs + 2
 unfolding allowed no-aggregate seen-forms
 sum-long ns g (laid-rows f e) hs t u = absurd u
 sum-long ns g (laid-pick f {fs} e l) hs t u = let i = sum-long ns g l hs (search parts) u in rw (sum-same ns g f fs e refl) (omega arith)
@@ -105,7 +105,7 @@ sum-long ns g (laid-aggregate f {fs} e l) hs t u = let i = some-forms l in rw (s
 -- ---- the rewritten query
 
 module _ (ns : List ℕ) (w : Words) (who : Caller) (same : who .profile ≡ w .profile) (fs : List Form) (one : T (one-query fs)) (few : length fs ≤ max-forms) (placing : T (placed (schema-of ns) (query-in w fs)))
-    (summing : T (not (no-aggregate (query-in w fs)))) (g : Granted) (n : Numbered) (a : Stands ns w g (n .grant)) (of : n .grant .of ≡ sources (query-in w fs)) (single-stream : length (sources (query-in w fs)) ≡ 1)
+    (summing : T (not (no-aggregate (query-in w fs)))) (g : Restriction) (n : Numbered) (a : Stands ns w g (n .grant)) (of : n .grant .of ≡ sources (query-in w fs)) (single-stream : length (sources (query-in w fs)) ≡ 1)
     (lent : List ℕ) (room : table-words ≤ length lent) where
   pub on-stream : query-in w (rewritten-forms (rewritten-table lent (sum-forms ns g fs))) ≡ expand (defined (schema-of ns) who) (over-sum (schema-of ns) (query-in w fs) n)
   unfolding placed query-in outer

@@ -29,7 +29,7 @@ use Rattle.query.specs.Shapes.{one-query}
 use Rattle.query.specs.declared.Form.{Form}
 use Rattle.query.proofs.Shapes.{Laid, laid-rows, laid-pick, laid-keep, laid-join, laid-aggregate, form-pick, form-join, form-aggregate, one-laid}
 use Rattle.query.proofs.Rewritten.{keep-order, table-forms}
-use Rattle.rewrite.specs.declared.Granted.{Granted}
+use Rattle.rewrite.specs.declared.Restriction.{Restriction}
 use Rattle.rewrite.specs.Rewrites.{under-of, cut-form, shown-order, seen-forms, cut-forms, side-forms}
 use Rattle.rewrite.specs.Routed.{over-sides, Stands}
 use Rattle.rewrite.proofs.Shown.{Low, present-select, cols-within, mask-low, order-columns, or-low, shown-first, shown-second}
@@ -40,7 +40,7 @@ module _ (ns : List ℕ) (w : Words) where
   abbrev d : Schema
   d = schema-of ns
 
-  module _ {g : Granted} {m : M.Grant} (a : Stands ns w g m) where
+  module _ {g : Restriction} {m : M.Grant} (a : Stands ns w g m) where
     -- the columns that it shows are those of its mask
     pub shown-is : shown-of d m ≡ select (column-in (g .shown)) (gather (columns-of d) (m .of))
     unfolding shown-of has
@@ -60,7 +60,7 @@ module _ (ns : List ℕ) (w : Words) where
 
 -- a stream as the grant shows it
 module _ (ns : List ℕ) (w : Words) (who : Caller) (same : who .profile ≡ w .profile) where
-  pub seen-stands : (f : Form) → f .kind ≡ rows-form → (g : Granted) (n : Numbered) → Stands ns w g (n .grant) → n .grant .of ≡ f .first ∷ [] → (gs : List Form)
+  pub seen-stands : (f : Form) → f .kind ≡ rows-form → (g : Restriction) (n : Numbered) → Stands ns w g (n .grant) → n .grant .of ≡ f .first ∷ [] → (gs : List Form)
       → queries-in w (seen-forms ns g f ++ gs) ≡ expand (defined (schema-of ns) who) (seen (source (f .first)) n) ∷ queries-in w gs
   unfolding seen-forms queries-in with-form outer inner expand seen defined bare
   seen-stands f e g n a o gs = rw e (rw (keep-order (shown-order ns (f .first ∷ []) g), order-shown ns w a (f .first ∷ []) o (omega arith), limits-shown ns w a who same))
@@ -71,13 +71,13 @@ module _ (w : Words) (qs : List (M.Query ℕ)) where
   unfolding with-form
   kept o = rw (keep-order o)
 
-  pub limited : (g : Granted) → with-form w (under-of g) qs ≡ under (limits-at w (under-of g)) (outer qs) ∷ inner qs
+  pub limited : (g : Restriction) → with-form w (under-of g) qs ≡ under (limits-at w (under-of g)) (outer qs) ∷ inner qs
   unfolding with-form
   limited g = refl
 
 -- ---- a form, by its kind
 
-module _ (ns : List ℕ) (mask : ℕ) (g h : Granted) (f : Form) (fs : List Form) where
+module _ (ns : List ℕ) (mask : ℕ) (g h : Restriction) (f : Form) (fs : List Form) where
   pub cut-rows : f .kind ≡ rows-form → cut-forms ns mask g h (f ∷ fs) ≡ seen-forms ns g f ++ cut-forms ns mask h h fs
   unfolding cut-forms
   cut-rows e = rw (ap (λ (k : ℕ). eqb k 0) e)
@@ -93,13 +93,13 @@ module _ (ns : List ℕ) (mask : ℕ) (g h : Granted) (f : Form) (fs : List Form
 -- ---- a grant of a stream
 
 -- it stands for the grant on the stream alone, and the mask shows just its columns of it
-pub record Sees (ns : List ℕ) (w : Words) (mask : ℕ) (g : Granted) (n : Numbered) (s : ℕ) : Type 0 where
+pub record Sees (ns : List ℕ) (w : Words) (mask : ℕ) (g : Restriction) (n : Numbered) (s : ℕ) : Type 0 where
   pub stands : Stands ns w g (n .grant)
   pub of : n .grant .of ≡ s ∷ []
   pub shown : shown-of (schema-of ns) (n .grant) ≡ select (column-in mask) (columns-of (schema-of ns) s)
 
 -- of each stream of a query
-unfoldable pub SeesAll : List ℕ → Words → ℕ → Granted → Numbered → Granted → Numbered → M.Query ℕ → Type 0
+unfoldable pub SeesAll : List ℕ → Words → ℕ → Restriction → Numbered → Restriction → Numbered → M.Query ℕ → Type 0
 SeesAll ns w mask g n h m (source s) = Sees ns w mask g n s
 SeesAll ns w mask g n h m (pick c q) = SeesAll ns w mask g n h m q
 SeesAll ns w mask g n h m (keep cs q) = SeesAll ns w mask g n h m q
@@ -111,7 +111,7 @@ module _ (ns : List ℕ) (w : Words) (who : Caller) (same : who .profile ≡ w .
   dd = schema-of ns
 
   -- the columns of the query over the views are those of the query that the mask shows
-  columns-over : (g : Granted) (n : Numbered) (h : Granted) (m : Numbered) (q : M.Query ℕ) → SeesAll ns w mask g n h m q → T (no-aggregate q) → T (allowed (columns-of dd) q)
+  columns-over : (g : Restriction) (n : Numbered) (h : Restriction) (m : Numbered) (q : M.Query ℕ) → SeesAll ns w mask g n h m q → T (no-aggregate q) → T (allowed (columns-of dd) q)
       → columns dd (over-sides dd n m q) ≡ select (column-in mask) (header (columns-of dd) q)
   unfolding SeesAll columns header over-sides seen keeping present no-aggregate allowed
   columns-over g n h m (source s) a u t = a .shown
@@ -124,13 +124,13 @@ module _ (ns : List ℕ) (w : Words) (who : Caller) (same : who .profile ≡ w .
   columns-over g n h m (aggregate f c size offset q) a u t = absurd u
 
   -- a keep's columns cut by the mask are those that are there
-  cut-present : (g : Granted) (n : Numbered) (h : Granted) (m : Numbered) (q : M.Query ℕ) (o : ℕ) → SeesAll ns w mask g n h m q → T (no-aggregate q) → T (allowed (columns-of dd) q) → T (within (cols-in o) (header (columns-of dd) q))
+  cut-present : (g : Restriction) (n : Numbered) (h : Restriction) (m : Numbered) (q : M.Query ℕ) (o : ℕ) → SeesAll ns w mask g n h m q → T (no-aggregate q) → T (allowed (columns-of dd) q) → T (within (cols-in o) (header (columns-of dd) q))
       → cols-in (order-within mask o) ≡ present (columns dd (over-sides dd n m q)) (cols-in o)
   unfolding present
   cut-present g n h m q o a u t v =
       cols-within mask low o ∙ sym (rw (columns-over g n h m q a u t) (present-select (column-in mask) (header (columns-of dd) q) (cols-in o) v))
 
-  pub sides-queries : {q : M.Query ℕ} {fs : List Form} → Laid w q fs → (g : Granted) (n : Numbered) (h : Granted) (m : Numbered) → SeesAll ns w mask g n h m q → T (allowed (columns-of dd) q) → (gs : List Form)
+  pub sides-queries : {q : M.Query ℕ} {fs : List Form} → Laid w q fs → (g : Restriction) (n : Numbered) (h : Restriction) (m : Numbered) → SeesAll ns w mask g n h m q → T (allowed (columns-of dd) q) → (gs : List Form)
       → queries-in w (cut-forms ns mask g h (fs ++ gs)) ≡ expand (defined dd who) (over-sides dd n m q) ∷ queries-in w (cut-forms ns mask h h gs)
   unfolding SeesAll over-sides keeping expand allowed queries-in outer inner
   sides-queries (laid-rows f e) g n h m a t gs = ap (queries-in w) (cut-rows ns mask g h f gs e) ∙ seen-stands ns w who same f e g n (a .stands) (a .of) (cut-forms ns mask h h gs)
@@ -147,7 +147,7 @@ module _ (ns : List ℕ) (w : Words) (who : Caller) (same : who .profile ≡ w .
 
 -- ---- the streams of a placed query
 
-pub same-sees : (ns : List ℕ) (w : Words) (mask : ℕ) (g : Granted) (n : Numbered) (q : M.Query ℕ) → All (Sees ns w mask g n) (sources q) → SeesAll ns w mask g n g n q
+pub same-sees : (ns : List ℕ) (w : Words) (mask : ℕ) (g : Restriction) (n : Numbered) (q : M.Query ℕ) → All (Sees ns w mask g n) (sources q) → SeesAll ns w mask g n g n q
 unfolding sources SeesAll
 same-sees ns w mask g n (source s) a = all-head a
 same-sees ns w mask g n (pick c q) a = same-sees ns w mask g n q a
@@ -155,7 +155,7 @@ same-sees ns w mask g n (keep cs q) a = same-sees ns w mask g n q a
 same-sees ns w mask g n (join x y q r) a = (same-sees ns w mask g n q (all-left (sources q) (sources r) a), same-sees ns w mask g n r (all-right (sources q) (sources r) a))
 same-sees ns w mask g n (aggregate f c size offset q) a = same-sees ns w mask g n q a
 
-module _ (ns : List ℕ) (w : Words) (mask : ℕ) (g : Granted) (n : Numbered) (h : Granted) (m : Numbered) where
+module _ (ns : List ℕ) (w : Words) (mask : ℕ) (g : Restriction) (n : Numbered) (h : Restriction) (m : Numbered) where
   -- one stream, whatever is for those after it
   side-sees : (q : M.Query ℕ) (s : ℕ) → T (side q) → sources q ≡ s ∷ [] → Sees ns w mask g n s → SeesAll ns w mask g n h m q
   unfolding side sources SeesAll
@@ -184,7 +184,7 @@ module _ (ns : List ℕ) (w : Words) (mask : ℕ) (g : Granted) (n : Numbered) (
 
 -- ---- how many forms they are
 
-pub cut-long : {w : Words} {q : M.Query ℕ} {fs : List Form} → Laid w q fs → (ns : List ℕ) (mask : ℕ) (g h : Granted) (gs : List Form) → length (cut-forms ns mask g h (fs ++ gs)) ≡ length fs + 2 * length (sources q) + length (cut-forms ns mask h h gs)
+pub cut-long : {w : Words} {q : M.Query ℕ} {fs : List Form} → Laid w q fs → (ns : List ℕ) (mask : ℕ) (g h : Restriction) (gs : List Form) → length (cut-forms ns mask g h (fs ++ gs)) ≡ length fs + 2 * length (sources q) + length (cut-forms ns mask h h gs)
 unfolding sources seen-forms
 cut-long (laid-rows f e) ns mask g h gs = rw (cut-rows ns mask g h f gs e) (omega arith)
 cut-long (laid-pick f {fs} e l) ns mask g h gs = let i = cut-long l ns mask g h gs in rw (cut-same ns mask g h f (fs ++ gs) e refl refl) (omega arith)
@@ -201,7 +201,7 @@ cut-long (laid-aggregate f {fs} e l) ns mask g h gs = let i = cut-long l ns mask
 
 module _ (ns : List ℕ) (w : Words) (who : Caller) (same : who .profile ≡ w .profile) (fs : List Form) (one : T (one-query fs)) (few : length fs ≤ max-forms) (placing : T (placed (schema-of ns) (query-in w fs)))
     (lent : List ℕ) (room : table-words ≤ length lent) where
-  sides-stand : (g : Granted) (n : Numbered) (h : Granted) (m : Numbered) → Low (bitOr (g .shown) (h .shown)) → SeesAll ns w (bitOr (g .shown) (h .shown)) g n h m (query-in w fs) → length (sources (query-in w fs)) ≤ 2
+  sides-stand : (g : Restriction) (n : Numbered) (h : Restriction) (m : Numbered) → Low (bitOr (g .shown) (h .shown)) → SeesAll ns w (bitOr (g .shown) (h .shown)) g n h m (query-in w fs) → length (sources (query-in w fs)) ≤ 2
       → query-in w (rewritten-forms (rewritten-table lent (side-forms ns g h fs))) ≡ expand (defined (schema-of ns) who) (over-sides (schema-of ns) n m (query-in w fs))
   unfolding side-forms cut-forms placed query-in outer
   sides-stand g n h m low a k =
@@ -213,7 +213,7 @@ module _ (ns : List ℕ) (w : Words) (who : Caller) (same : who .profile ≡ w .
       ap (query-in w) (table-forms lent (cut-forms ns mask g h fs) room (omega arith)) ∙ ap outer q
 
   -- of one stream
-  pub one-side : (g : Granted) (n : Numbered) (s : ℕ) → Stands ns w g (n .grant) → n .grant .of ≡ s ∷ [] → sources (query-in w fs) ≡ s ∷ []
+  pub one-side : (g : Restriction) (n : Numbered) (s : ℕ) → Stands ns w g (n .grant) → n .grant .of ≡ s ∷ [] → sources (query-in w fs) ≡ s ∷ []
       → query-in w (rewritten-forms (rewritten-table lent (side-forms ns g g fs))) ≡ expand (defined (schema-of ns) who) (over-sides (schema-of ns) n n (query-in w fs))
   unfolding gather
   one-side g n s a o e =
@@ -223,7 +223,7 @@ module _ (ns : List ℕ) (w : Words) (who : Caller) (same : who .profile ≡ w .
       sides-stand g n g n (rw z (grant-low ns w a)) (same-sees ns w (bitOr (g .shown) (g .shown)) g n (query-in w fs) (rw e (all-cons see all-nil))) (rw e (omega arith))
 
   -- of two
-  pub two-sides : (g : Granted) (n : Numbered) (h : Granted) (m : Numbered) (s t : ℕ) → Stands ns w g (n .grant) → n .grant .of ≡ s ∷ [] → Stands ns w h (m .grant) → m .grant .of ≡ t ∷ [] → sources (query-in w fs) ≡ s ∷ (t ∷ [])
+  pub two-sides : (g : Restriction) (n : Numbered) (h : Restriction) (m : Numbered) (s t : ℕ) → Stands ns w g (n .grant) → n .grant .of ≡ s ∷ [] → Stands ns w h (m .grant) → m .grant .of ≡ t ∷ [] → sources (query-in w fs) ≡ s ∷ (t ∷ [])
       → query-in w (rewritten-forms (rewritten-table lent (side-forms ns g h fs))) ≡ expand (defined (schema-of ns) who) (over-sides (schema-of ns) n m (query-in w fs))
   unfolding gather placed
   two-sides g n h m s t a o b p e =

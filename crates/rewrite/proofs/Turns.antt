@@ -28,7 +28,7 @@ use Rattle.query.proofs.Tables.{query-most, length-told}
 use Rattle.query.proofs.Rewritten.{from-append}
 use Rattle.query.specs.declared.Form.{Form}
 use Rattle.query.specs.declared.Query.{Query}
-use Rattle.rewrite.specs.declared.Granted.{Granted}
+use Rattle.rewrite.specs.declared.Restriction.{Restriction}
 use Rattle.rewrite.specs.Rewrites.{under-of, cut-form, shown-order, seen-forms, cut-forms, side-forms, side-picks, side-stream, side-rest, side-order, pair-order, view-forms, joined-forms, pair-forms, sum-forms}
 use Rattle.rewrite.specs.Parts.{StreamAt}
 use Rattle.rewrite.proofs.Shown.{codes-few, codes-small}
@@ -45,10 +45,10 @@ module _ (f : Form) where
   cut-other mask k = rw (ne-eqb (f .kind) 2 k)
 
   module _ {b : Bool} (e : b ≡ eqb (f .kind) rows-form) where
-    pub after-rows : (g h : Granted) → b ≡ true → h ≡ cond (eqb (f .kind) rows-form) h g
+    pub after-rows : (g h : Restriction) → b ≡ true → h ≡ cond (eqb (f .kind) rows-form) h g
     after-rows g h t = rw (sym e ∙ t)
 
-    pub after-other : (g h : Granted) → b ≡ false → g ≡ cond (eqb (f .kind) rows-form) h g
+    pub after-other : (g h : Restriction) → b ≡ false → g ≡ cond (eqb (f .kind) rows-form) h g
     after-other g h t = rw (sym e ∙ t)
 
     pub side-rows : (r : Rewritten) (xs ys : List Form) {x : Rewritten} → b ≡ true → x ≡ rewritten-from r xs → x ≡ rewritten-from r (cond (eqb (f .kind) rows-form) xs ys)
@@ -192,14 +192,14 @@ module _ (fs : List Form) (i n : ℕ) (e : n ≡ length fs) where
     picks-end h = sym (inv ∙ rw (over fs i n e h))
 
   -- ---- a grant for each stream
-  module _ (ns : List ℕ) (mask : ℕ) (g second : Granted) (r t : Rewritten) (inv : t ≡ rewritten-from r (cut-forms ns mask g second (drop i fs))) where
-    pub sides-on : {f : Form} {x : Rewritten} {h : Granted} → i < n → f ≡ getD fs i blank
+  module _ (ns : List ℕ) (mask : ℕ) (g second : Restriction) (r t : Rewritten) (inv : t ≡ rewritten-from r (cut-forms ns mask g second (drop i fs))) where
+    pub sides-on : {f : Form} {x : Rewritten} {h : Restriction} → i < n → f ≡ getD fs i blank
         → x ≡ rewritten-from r (cond (eqb (f .kind) rows-form) (seen-forms ns g f) (cut-form mask f ∷ [])) → h ≡ cond (eqb (f .kind) rows-form) second g
         → t ≡ rewritten-from x (cut-forms ns mask h second (drop (i + 1) fs))
     unfolding cut-forms
     sides-on {f} {x} {h} l k u v = inv ∙ rw (next fs i n e l k) (go (eqb (f .kind) rows-form) u v)
       where
-        rest : Granted → List Form
+        rest : Restriction → List Form
         rest y = cut-forms ns mask y second (drop (i + 1) fs)
 
         go : (b : Bool) → x ≡ rewritten-from r (cond b (seen-forms ns g f) (cut-form mask f ∷ [])) → h ≡ cond b second g
@@ -212,7 +212,7 @@ module _ (fs : List Form) (i n : ℕ) (e : n ≡ length fs) where
     sides-end h = sym (inv ∙ rw (over fs i n e h))
 
   -- ---- a grant on the pair
-  module _ (ns : List ℕ) (g : Granted) (r t : Rewritten) (inv : t ≡ rewritten-from r (pair-forms ns g (drop i fs))) where
+  module _ (ns : List ℕ) (g : Restriction) (r t : Rewritten) (inv : t ≡ rewritten-from r (pair-forms ns g (drop i fs))) where
     module _ {f : Form} (h : i < n) (k : f ≡ getD fs i blank) where
       pub pair-joined : {x : Rewritten} → f .kind ≡ 3 → x ≡ rewritten-from r (joined-forms ns g (getD fs i blank) (drop (i + 1) fs)) → x ≡ t
       unfolding pair-forms
@@ -227,7 +227,7 @@ module _ (fs : List Form) (i n : ℕ) (e : n ≡ length fs) where
     pair-end h = sym (inv ∙ rw (over fs i n e h))
 
   -- ---- an aggregate grant
-  module _ (ns : List ℕ) (g : Granted) (r t : Rewritten) (inv : t ≡ rewritten-from r (sum-forms ns g (drop i fs))) where
+  module _ (ns : List ℕ) (g : Restriction) (r t : Rewritten) (inv : t ≡ rewritten-from r (sum-forms ns g (drop i fs))) where
     module _ {f : Form} (h : i < n) (k : f ≡ getD fs i blank) {x : Rewritten} (w : x ≡ rewritten-with r f) where
       pub sum-seen : {y : Rewritten} {p : ℕ} {z : Form} → f .kind ≡ 4 → StreamAt fs (i + 1) p → z ≡ getD fs p blank → y ≡ rewritten-from x (seen-forms ns g z) → y ≡ t
       unfolding sum-forms rewritten-from
@@ -247,15 +247,15 @@ pub ruleset order-ends = (order-stream, order-keep, order-on, order-none)
 
 pub ruleset picks-ends = (picks-stop, picks-on, picks-end)
 
-pub sides-start : (ws ns : List ℕ) (g h : Granted) (fs : List Form) {mask : ℕ} → mask ≡ bitOr (g .shown) (h .shown) → rewritten-table ws (side-forms ns g h fs) ≡ rewritten-from (held ws 0) (cut-forms ns mask g h (drop 0 fs))
+pub sides-start : (ws ns : List ℕ) (g h : Restriction) (fs : List Form) {mask : ℕ} → mask ≡ bitOr (g .shown) (h .shown) → rewritten-table ws (side-forms ns g h fs) ≡ rewritten-from (held ws 0) (cut-forms ns mask g h (drop 0 fs))
 unfolding rewritten-table side-forms
 sides-start ws ns g h fs e = rw e
 
-pub pair-start : (ws ns : List ℕ) (g : Granted) (fs : List Form) → rewritten-table ws (pair-forms ns g fs) ≡ rewritten-from (held ws 0) (pair-forms ns g (drop 0 fs))
+pub pair-start : (ws ns : List ℕ) (g : Restriction) (fs : List Form) → rewritten-table ws (pair-forms ns g fs) ≡ rewritten-from (held ws 0) (pair-forms ns g (drop 0 fs))
 unfolding rewritten-table
 pair-start ws ns g fs = refl
 
-pub sum-start : (ws ns : List ℕ) (g : Granted) (fs : List Form) → rewritten-table ws (sum-forms ns g fs) ≡ rewritten-from (held ws 0) (sum-forms ns g (drop 0 fs))
+pub sum-start : (ws ns : List ℕ) (g : Restriction) (fs : List Form) → rewritten-table ws (sum-forms ns g fs) ≡ rewritten-from (held ws 0) (sum-forms ns g (drop 0 fs))
 unfolding rewritten-table
 sum-start ws ns g fs = refl
 
@@ -267,7 +267,7 @@ pub ruleset sum-ends = (sum-start, sum-seen, sum-on, sum-end)
 
 -- ---- views
 
-pub seen-made : (r : Rewritten) (ns : List ℕ) (f : Form) (g : Granted) {a : ℕ} {k u : Form} {x y z : Rewritten} → a ≡ order-from 0 (select (bit? (g .shown)) (column-codes ns (f .first ∷ [])))
+pub seen-made : (r : Rewritten) (ns : List ℕ) (f : Form) (g : Restriction) {a : ℕ} {k u : Form} {x y z : Rewritten} → a ≡ order-from 0 (select (bit? (g .shown)) (column-codes ns (f .first ∷ [])))
     → k ≡ keep-of a → x ≡ rewritten-with r k → u ≡ under-of g → y ≡ rewritten-with x u → z ≡ rewritten-with y f → z ≡ rewritten-from r (seen-forms ns g f)
 unfolding rewritten-from seen-forms shown-order order-of
 seen-made r ns f g {a} d h i j k l =
@@ -291,7 +291,7 @@ both-shown ns mask s t =
     ∙ ap (λ l. order-from 0 l) (ap (select (bit? mask)) (codes-both ns s t) ∙ select-append (bit? mask) (column-codes ns (s ∷ [])) (column-codes ns (t ∷ [])))
     ∙ from-both 0 (select (bit? mask) (column-codes ns (s ∷ []))) (select (bit? mask) (column-codes ns (t ∷ [])))
 
-pub view-made : (r : Rewritten) (ns : List ℕ) (g : Granted) (j a b : Form) {l o : ℕ} {k u : Form} {v w x y z : Rewritten} → l ≡ order-from 0 (select (bit? (g .shown)) (column-codes ns (a .first ∷ [])))
+pub view-made : (r : Rewritten) (ns : List ℕ) (g : Restriction) (j a b : Form) {l o : ℕ} {k u : Form} {v w x y z : Rewritten} → l ≡ order-from 0 (select (bit? (g .shown)) (column-codes ns (a .first ∷ [])))
     → o ≡ order-from l (select (bit? (g .shown)) (column-codes ns (b .first ∷ []))) → k ≡ keep-of o → v ≡ rewritten-with r k → u ≡ under-of g → w ≡ rewritten-with v u → x ≡ rewritten-with w j → y ≡ rewritten-with x a → z ≡ rewritten-with y b
     → z ≡ rewritten-from r (view-forms ns g j a b)
 unfolding rewritten-from view-forms shown-order
@@ -299,7 +299,7 @@ view-made r ns g j a b {l} {o} d e i p q s t u v =
     let m : o ≡ order-within (g .shown) (order-of (column-codes ns (a .first ∷ b .first ∷ []))) = e ∙ ap (λ x. order-from x (select (bit? (g .shown)) (column-codes ns (b .first ∷ [])))) d ∙ sym (both-shown ns (g .shown) (a .first) (b .first)) in
     v ∙ rw (u, t, s, p, q, i, m)
 
-pub joined-made : (r : Rewritten) (fs : List Form) (ns : List ℕ) (g : Granted) (at : ℕ) {a b l m o : ℕ} {k f c d : Form} {x y z t : Rewritten} → StreamAt fs (at + 1) a → StreamAt fs (a + 1) b
+pub joined-made : (r : Rewritten) (fs : List Form) (ns : List ℕ) (g : Restriction) (at : ℕ) {a b l m o : ℕ} {k f c d : Form} {x y z t : Rewritten} → StreamAt fs (at + 1) a → StreamAt fs (a + 1) b
     → l ≡ order-within (g .shown) (side-order ns (drop (at + 1) fs)) → m ≡ order-within (g .shown) (side-order ns (drop (a + 1) fs)) → o ≡ order-from l (codes-in m) → k ≡ keep-of o → x ≡ rewritten-with r k
     → y ≡ rewritten-from x (side-picks (drop (a + 1) fs)) → z ≡ rewritten-from y (side-picks (drop (at + 1) fs)) → f ≡ getD fs at blank → c ≡ getD fs a blank → d ≡ getD fs b blank
     → t ≡ rewritten-from z (view-forms ns g f c d) → t ≡ rewritten-from r (joined-forms ns g (getD fs at blank) (drop (at + 1) fs))

@@ -13,7 +13,7 @@ use Rattle.nodes.specs.Nodes.{conditions-of, column-in}
 use Rattle.grant.specs.Grants.{limit-of, streams-mask}
 use Rattle.grant.specs.Catalogues.{words-in}
 use Rattle.query.specs.Forms.{Words}
-use Rattle.rewrite.specs.declared.Granted.{Granted}
+use Rattle.rewrite.specs.declared.Restriction.{Restriction}
 
 -- ---- routes
 
@@ -37,7 +37,7 @@ module _ (d : Schema) where
 -- ---- grants
 
 -- the grant that the numbers and the words of the catalogue stand for; its streams are declared, and it shows columns of these alone
-pub record Stands (ns : List ℕ) (w : Words) (g : Granted) (m : M.Grant) : Type 0 where
+pub record Stands (ns : List ℕ) (w : Words) (g : Restriction) (m : M.Grant) : Type 0 where
   pub shown : m .shown ≡ select (column-in (g .shown)) (gather (columns-of (schema-of ns)) (m .of))
   pub when : m .when ≡ conditions-of (words-in (w .granted) (g .place)) (g .words)
   pub from : m .from ≡ limit-of (g .from)

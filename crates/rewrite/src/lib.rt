@@ -19,7 +19,7 @@ use query::Query;
 use schema::Stream;
 
 // What a rewritten query needs of a grant: its place in the catalogue, the shown columns as bits, how many words its conditions take, its first and last time.
-pub struct Granted {
+pub struct Restriction {
     pub place: u32,
     pub shown: u32,
     pub words: u32,
@@ -27,7 +27,7 @@ pub struct Granted {
     pub to: u32,
 }
 
-impl Granted {
+impl Restriction {
     // Returns the form of its conditions and times.
     pub fn under(self) -> Form
         ensures { λ r. ⌜ r ≡ under-of self ⌝ }
@@ -64,7 +64,7 @@ fn with_columns(order: u64, names: &[u64], s: u32, mask: u32) -> u64
 }
 
 // A table with a stream more, as a grant shows it.
-fn put_seen(table: &mut [u32], n: u32, names: &[u64], f: Form, g: Granted) -> u32
+fn put_seen(table: &mut [u32], n: u32, names: &[u64], f: Form, g: Restriction) -> u32
     ensures { λ r. ⌜ held (now (table .exit)) r ≡ rewritten-from (held (now (table .entry)) n) (seen-forms (now (names .entry)) g f) ⌝ }
 {
     let shown = with_columns(0, names, f.first, g.shown);
@@ -74,7 +74,7 @@ fn put_seen(table: &mut [u32], n: u32, names: &[u64], f: Form, g: Granted) -> u3
 }
 
 // A table with a form more of a query with a grant for each stream.
-fn put_side(table: &mut [u32], n: u32, names: &[u64], f: Form, g: Granted, mask: u32) -> u32
+fn put_side(table: &mut [u32], n: u32, names: &[u64], f: Form, g: Restriction, mask: u32) -> u32
     ensures { λ r. ⌜ held (now (table .exit)) r ≡ rewritten-from (held (now (table .entry)) n) (cond (eqb (f .kind) rows-form) (seen-forms (now (names .entry)) g f) (cut-form mask f ∷ [])) ⌝ }
 {
     if f.is_rows() {
@@ -84,7 +84,7 @@ fn put_side(table: &mut [u32], n: u32, names: &[u64], f: Form, g: Granted, mask:
 }
 
 // The grant of the next stream after a form.
-fn after(f: Form, g: Granted, next: Granted) -> Granted
+fn after(f: Form, g: Restriction, next: Restriction) -> Restriction
     ensures { λ r. ⌜ r ≡ cond (eqb (f .kind) rows-form) next g ⌝ }
 {
     if f.is_rows() {
@@ -95,7 +95,7 @@ fn after(f: Form, g: Granted, next: Granted) -> Granted
 
 // Returns how many forms the rewritten query of a route has with a grant for each stream, the first stream's and that of the stream after it.
 // Leaves the forms in the words from the first on, and all else as it was.
-pub fn sides(q: Query, names: &[u64], first: Granted, second: Granted, table: &mut [u32]) -> u32
+pub fn sides(q: Query, names: &[u64], first: Restriction, second: Restriction, table: &mut [u32]) -> u32
     ensures { λ r. ⌜ held (now (table .exit)) r ≡ rewritten-table (now (table .entry)) (side-forms (now (names .entry)) first second (query-forms q)) ⌝ }
 {
     let n = q.count();
@@ -180,7 +180,7 @@ fn put_view(
     table: &mut [u32],
     n: u32,
     names: &[u64],
-    g: Granted,
+    g: Restriction,
     join: Form,
     a: Form,
     b: Form,
@@ -197,7 +197,7 @@ fn put_view(
 }
 
 // A table with the join at a place more, as a grant shows it.
-fn put_joined(table: &mut [u32], n: u32, q: Query, names: &[u64], g: Granted, at: u32) -> u32
+fn put_joined(table: &mut [u32], n: u32, q: Query, names: &[u64], g: Restriction, at: u32) -> u32
     requires { ⌜ at < max-forms ⌝ }
     ensures { λ r. ⌜ held (now (table .exit)) r ≡ rewritten-from (held (now (table .entry)) n) (joined-forms (now (names .entry)) g (getD (query-forms q) at blank) (drop (at + 1) (query-forms q))) ⌝ }
 {
@@ -215,7 +215,7 @@ fn put_joined(table: &mut [u32], n: u32, q: Query, names: &[u64], g: Granted, at
 
 // Returns how many forms the rewritten query of a route has with one grant on the pair.
 // Leaves the forms in the words from the first on, and all else as it was.
-pub fn pair(q: Query, names: &[u64], g: Granted, table: &mut [u32]) -> u32
+pub fn pair(q: Query, names: &[u64], g: Restriction, table: &mut [u32]) -> u32
     ensures { λ r. ⌜ held (now (table .exit)) r ≡ rewritten-table (now (table .entry)) (pair-forms (now (names .entry)) g (query-forms q)) ⌝ }
 {
     let n = q.count();
@@ -234,7 +234,7 @@ pub fn pair(q: Query, names: &[u64], g: Granted, table: &mut [u32]) -> u32
 
 // Returns how many forms the rewritten query of a route has with an aggregate grant on one stream.
 // Leaves the forms in the words from the first on, and all else as it was.
-pub fn sum(q: Query, names: &[u64], g: Granted, table: &mut [u32]) -> u32
+pub fn sum(q: Query, names: &[u64], g: Restriction, table: &mut [u32]) -> u32
     ensures { λ r. ⌜ held (now (table .exit)) r ≡ rewritten-table (now (table .entry)) (sum-forms (now (names .entry)) g (query-forms q)) ⌝ }
 {
     let n = q.count();

@@ -14,7 +14,7 @@ ghost use Rattle.route_cells.specs.Routes.{second-number, way-header, le
 use ledger::Ledger;
 use plan::Plan;
 use query::Query;
-use rewrite::Granted;
+use rewrite::Restriction;
 use route_plan::Way;
 use route_rows::Aim;
 use routes::Route;
@@ -41,7 +41,7 @@ fn second(y: Way) -> u64
     if y.lone {
         return 0;
     }
-    let h: Granted = y.right;
+    let h: Restriction = y.right;
     h.place as u64 + 1
 }
 
@@ -50,7 +50,7 @@ fn put_header(y: Way, width: u32, rows: u32, cells: &mut [i64], at: u32)
     requires { ⌜ (at + 4 ≤ length (now cells)) × (at ≤ room-end) ⌝ }
     ensures { λ _. ⌜ now (cells .exit) ≡ sets (now (cells .entry)) at (way-header y width rows) ⌝ }
 {
-    let g: Granted = y.left;
+    let g: Restriction = y.left;
     put_number(cells, at, g.place as u64 + 1);
     put_number(cells, at + 1, second(y));
     put_number(cells, at + 2, width as u64);

@@ -12,7 +12,7 @@ use Rattle.routes.specs.declared.Open.{Open}
 use Rattle.routes.specs.declared.Route.{Route}
 use Rattle.query.specs.declared.Form.{Form}
 use Rattle.query.specs.Tables.{Rewritten, table-words, held, forms-in, rewritten-forms, rewritten-table}
-use Rattle.rewrite.specs.declared.Granted.{Granted}
+use Rattle.rewrite.specs.declared.Restriction.{Restriction}
 use Rattle.rewrite.specs.Rewrites.{side-forms, pair-forms, sum-forms}
 use Rattle.plan.specs.declared.Plan.{Plan}
 use Rattle.plan.specs.Plans.{plan-in}
@@ -28,7 +28,7 @@ granted-made o i e f g h = rw (e, f, g, h)
 
 -- ---- a route
 
-pub way-made : (o : Open) (n : Needs) (x : Route) {a b : Granted} → a ≡ granted-in o (x .left) → b ≡ granted-in o (x .right)
+pub way-made : (o : Open) (n : Needs) (x : Route) {a b : Restriction} → a ≡ granted-in o (x .left) → b ≡ granted-in o (x .right)
     → record { lone = eqb (n .right) no-stream; kind = x .kind; left = a; right = b } ≡ way-of o n x
 unfolding way-of
 way-made o n x e f = rw (e, f)

@@ -36,7 +36,7 @@ use Rattle.routes.specs.Opening.{caller-in}
 use Rattle.routes.specs.Listing.{open-all, numbers-of, routes-in}
 use Rattle.routes.proofs.Places.{Held}
 use Rattle.routes.proofs.Agreed.{Standing, Granting, on-one, on-two, on-both, on-told, routes-placed, routes-known, all-unmap}
-use Rattle.rewrite.specs.declared.Granted.{Granted}
+use Rattle.rewrite.specs.declared.Restriction.{Restriction}
 use Rattle.rewrite.specs.Rewrites.{side-forms, pair-forms, sum-forms}
 use Rattle.rewrite.specs.Routed.{Stands, over-sides, over-sum}
 use Rattle.rewrite.proofs.Granting.{granted-of, grant-stands}
@@ -139,10 +139,10 @@ module _ (x : Record) (ns ws own roles profile : List ℕ) (fs : List Form) (c :
     MadeBy forms v = Made ns w who same fs (c .one) (c .few) placing (c .numbers) x (c .schema) lent room forms v
 
     module _ (y : R.Route) where
-      abbrev g : Granted
+      abbrev g : Restriction
       g = granted-in o (y .left)
 
-      abbrev h : Granted
+      abbrev h : Restriction
       h = granted-in o (y .right)
 
       abbrev query-of : M.Query Source

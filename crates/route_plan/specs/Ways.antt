@@ -11,14 +11,14 @@ use Rattle.routes.specs.declared.Open.{Open}
 use Rattle.routes.specs.declared.Route.{Route}
 use Rattle.query.specs.declared.Form.{Form}
 use Rattle.query.specs.Tables.{table-words, rewritten-forms, rewritten-table}
-use Rattle.rewrite.specs.declared.Granted.{Granted}
+use Rattle.rewrite.specs.declared.Restriction.{Restriction}
 use Rattle.rewrite.specs.Rewrites.{side-forms, pair-forms, sum-forms}
 use Rattle.plan.specs.declared.Plan.{Plan}
 use Rattle.plan.specs.Plans.{plan-in}
 use Rattle.route_plan.specs.declared.Way.{Way}
 
 -- the opened grant in a place
-unfoldable pub granted-in : Open → ℕ → Granted
+unfoldable pub granted-in : Open → ℕ → Restriction
 granted-in o i = record { place = i; shown = getD (o .shown) i 0; words = getD (o .words) i 0; from = getD (o .from) i 0; to = getD (o .to) i 0 }
 
 unfoldable pub way-of : Open → Needs → Route → Way

@@ -5,7 +5,7 @@ ghost use Rattle.route_plan.specs.Ways.{granted-in, way-of, way-forms, w
 use needs::Needs;
 use plan::Plan;
 use query::Query;
-use rewrite::Granted;
+use rewrite::Restriction;
 use routes::Open;
 use routes::Route;
 
@@ -13,15 +13,15 @@ use routes::Route;
 pub struct Way {
     pub lone: bool,
     pub kind: u32,
-    pub left: Granted,
-    pub right: Granted,
+    pub left: Restriction,
+    pub right: Restriction,
 }
 
 // The opened grant in a place.
-fn granted_in(o: Open, i: u32) -> Granted
+fn granted_in(o: Open, i: u32) -> Restriction
     ensures { λ r. ⌜ r ≡ granted-in o i ⌝ }
 {
-    Granted {
+    Restriction {
         place: i,
         shown: places::word_at(&o.shown, i),
         words: places::word_at(&o.words, i),

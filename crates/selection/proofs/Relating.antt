@@ -25,7 +25,7 @@ use Rattle.rows.specs.Masks.{rows-of}
 use Rattle.rows.proofs.Masks.{rows-alike}
 use Rattle.column_masks.specs.Columns.{strip, strip-lent, compared-at}
 use Rattle.column_masks.proofs.Columns.{lent-true}
-use Rattle.selection.specs.declared.Side.{Side}
+use Rattle.selection.specs.declared.Origin.{Origin}
 use Rattle.selection.specs.declared.Scope.{Scope}
 use Rattle.selection.specs.Scopes.{scope-columns, scope-row, paired, entry-at, profile-in}
 use Rattle.selection.specs.Evaluating.{relate, column-end, left-time, time-at, clock-at, side-value, parted, bare, Stands, wide, narrow, test-at, passing}
@@ -37,32 +37,32 @@ pub plain-lent : (vs : List ℤ) (p n : ℕ) → n ≤ max-rows → p < column-e
 plain-lent vs p n h k l = lent-true vs p 6 n h (omega arith) (omega arith) (λ m. omega arith)
 
 -- numbers that are a side's in each row
-pub record Valued (f : ℕ → ℤ) (x : Side) (sc : Scope) (ts : List ℕ) (vs : List ℤ) : Type 0 where
+pub record Valued (f : ℕ → ℤ) (x : Origin) (sc : Scope) (ts : List ℕ) (vs : List ℤ) : Type 0 where
   pub each : (i : ℕ) → f i ≡ side-value x sc ts vs i
 
 module _ (sc : Scope) (ts : List ℕ) (vs : List ℤ) where
-  pub valued-column : (x : Side) → x .kind ≡ 1 → Valued (strip vs (x .at) 6) x sc ts vs
+  pub valued-column : (x : Origin) → x .kind ≡ 1 → Valued (strip vs (x .at) 6) x sc ts vs
   unfolding strip side-value
   valued-column x e = record { each = λ i. rw e }
 
-  pub valued-fixed : (x : Side) {v : ℤ} → v ≡ x .value → (x .kind ≡ 1 → ⊥) → (x .kind ≡ 2 → ⊥) → Valued (λ i. v) x sc ts vs
+  pub valued-fixed : (x : Origin) {v : ℤ} → v ≡ x .value → (x .kind ≡ 1 → ⊥) → (x .kind ≡ 2 → ⊥) → Valued (λ i. v) x sc ts vs
   unfolding side-value
   valued-fixed x e n m = record { each = λ i. rw (ne-eqb (x .kind) 1 n, ne-eqb (x .kind) 2 m) e }
 
-  pub valued-time : (x : Side) → x .kind ≡ 2 → Valued (clock-at sc ts) x sc ts vs
+  pub valued-time : (x : Origin) → x .kind ≡ 2 → Valued (clock-at sc ts) x sc ts vs
   unfolding side-value clock-at
   valued-time x e = record { each = λ i. rw e }
 
   -- by their parts
-  pub valued-bare : (x : Side) → x .kind ≡ 2 → Valued (clock-at (bare (sc .stream) (sc .rows) (sc .fixed)) ts) x sc ts vs
+  pub valued-bare : (x : Origin) → x .kind ≡ 2 → Valued (clock-at (bare (sc .stream) (sc .rows) (sc .fixed)) ts) x sc ts vs
   unfolding side-value clock-at time-at left-time paired
   valued-bare x e = record { each = λ i. rw e }
 
-  pub valued-parted : (x : Side) {v : ℤ} → v ≡ x .value → Valued (side-value (parted (x .kind) (x .at) v) (bare (sc .stream) (sc .rows) (sc .fixed)) ts vs) x sc ts vs
+  pub valued-parted : (x : Origin) {v : ℤ} → v ≡ x .value → Valued (side-value (parted (x .kind) (x .at) v) (bare (sc .stream) (sc .rows) (sc .fixed)) ts vs) x sc ts vs
   unfolding side-value time-at left-time paired
   valued-parted x e = record { each = λ i. rw e }
 
-  module _ (l r : Side) where
+  module _ (l r : Origin) where
     -- the rows that are asked for
     abbrev answer : ℕ → Rows
     answer head = rows-of (relate head (side-value l sc ts vs) (side-value r sc ts vs)) 0 (sc .rows)
@@ -78,7 +78,7 @@ module _ (sc : Scope) (ts : List ℕ) (vs : List ℤ) where
         e ∙ rows-alike (relate k f g) (relate head (side-value l sc ts vs) (side-value r sc ts vs)) 0 (sc .rows) (λ i m n. t (f i) (g i) ∙ ap₂ (compares (numbered-op head)) (b .each i) (a .each i))
 
 -- the time and a side
-module _ (sc : Scope) (ts : List ℕ) (vs : List ℤ) (head : ℕ) (r : Side) {x : Rows} where
+module _ (sc : Scope) (ts : List ℕ) (vs : List ℤ) (head : ℕ) (r : Origin) {x : Rows} where
   pub times-valued : {g : ℕ → ℤ} → Valued g r sc ts vs → x ≡ rows-of (relate head (clock-at sc ts) g) 0 (sc .rows) → x ≡ rows-of (relate head (clock-at sc ts) (side-value r sc ts vs)) 0 (sc .rows)
   unfolding compared-at
   times-valued {g} a e =
@@ -94,7 +94,7 @@ self le t = le-leb t t (omega arith)
 self gt t = le-ltb t t (omega arith)
 self ge t = le-leb t t (omega arith)
 
-pub times-self : (sc : Scope) (ts : List ℕ) (vs : List ℤ) (head : ℕ) (r : Side) {x : Rows} → r .kind ≡ 2 → x ≡ rows-of (relate head (λ i. pos 0) (λ i. pos 0)) 0 (sc .rows)
+pub times-self : (sc : Scope) (ts : List ℕ) (vs : List ℤ) (head : ℕ) (r : Origin) {x : Rows} → r .kind ≡ 2 → x ≡ rows-of (relate head (λ i. pos 0) (λ i. pos 0)) 0 (sc .rows)
     → x ≡ rows-of (relate head (clock-at sc ts) (side-value r sc ts vs)) 0 (sc .rows)
 unfolding compared-at clock-at
 times-self sc ts vs head r k e =
@@ -178,7 +178,7 @@ module _ (sc : Scope) (ts : List ℕ) (vs : List ℤ) (ps : List ℕ) (n : Node)
       let g = wide-entry t h in
       f ∙ rows-alike (relate (n .head) (λ i. pos 1) (λ i. pos 0)) (λ i. true-of (test-at sc ts vs ps i) (test (node-compare n))) 0 (sc .rows) (λ i a b. sym (ap₂ (compares (numbered-op (n .head))) (wide-left i e h) (wide-right i g) ∙ above (numbered-op (n .head)) (n .value - 2147483648) (entry-value (profile-in ps) (name-of (n .value))) (wide-less h)))
 
-  pub node-sides : {l r : Side} {x : Rows} → Stands sc vs (fill-term (profile-in ps) (coded-term (n .left) (n .value))) l → Stands sc vs (fill-term (profile-in ps) (coded-term (n .right) (n .value))) r
+  pub node-sides : {l r : Origin} {x : Rows} → Stands sc vs (fill-term (profile-in ps) (coded-term (n .left) (n .value))) l → Stands sc vs (fill-term (profile-in ps) (coded-term (n .right) (n .value))) r
       → x ≡ rows-of (relate (n .head) (side-value l sc ts vs) (side-value r sc ts vs)) 0 (sc .rows) → x ≡ passing sc ts vs ps (test (node-compare n))
   unfolding passing true-of test-at compare-holds fill-compare node-compare compared-at
   node-sides {l} {r} s t e =

@@ -24,7 +24,7 @@ use Rattle.schema.proofs.FreeNames.{name-one}
 use Rattle.ledger.specs.Records.{row-in, places-size, values-size}
 use Rattle.nodes.specs.Nodes.{unbiased, coded-term}
 use Rattle.cells.proofs.Shown.{value-left, value-own}
-use Rattle.selection.specs.declared.Side.{Side}
+use Rattle.selection.specs.declared.Origin.{Origin}
 use Rattle.selection.specs.declared.Scope.{Scope}
 use Rattle.selection.specs.Scopes.{columns-in, row-at, paired, scope-columns, scope-row, entry-at, profile-in}
 use Rattle.selection.specs.Evaluating.{left-time, time-at, side-value, Stands, left-named}
@@ -235,7 +235,7 @@ module _ (sc : Scope) (vs : List ℤ) (p : List Entry) (code v : ℕ) where
   abbrev filled-term : Term
   filled-term = fill-term p (coded-term code v)
 
-  pub side-column-term : {r : Side} → code < 24 → Stands sc vs (column (col (code / max-columns) (code % max-columns))) r → Stands sc vs filled-term r
+  pub side-column-term : {r : Origin} → code < 24 → Stands sc vs (column (col (code / max-columns) (code % max-columns))) r → Stands sc vs filled-term r
   unfolding coded-term fill-term
   side-column-term h s = rw (lt-ltb code 24 h) s
 
@@ -247,15 +247,15 @@ module _ (sc : Scope) (vs : List ℤ) (p : List Entry) (code v : ℕ) where
   unfolding coded-term fill-term term-value side-value
   side-figure-term e = rw e (record { near = omega arith; value = λ ts i. sym (row-figure sc vs ts i) })
 
-  fixed : {r : Side} (z : ℤ) → ((ds : List Col) (x : Row) → term-value ds x filled-term ≡ z) → r .kind ≡ 0 → r .at ≡ 0 → r .value ≡ z → Stands sc vs filled-term r
+  fixed : {r : Origin} (z : ℤ) → ((ds : List Col) (x : Row) → term-value ds x filled-term ≡ z) → r .kind ≡ 0 → r .at ≡ 0 → r .value ≡ z → Stands sc vs filled-term r
   unfolding side-value
   fixed {r} z f k c e = record { near = omega arith; value = λ ts i. rw k (e ∙ sym (f (scope-columns sc) (scope-row sc ts vs i))) }
 
-  pub side-number-term : {r : Side} → code ≡ 26 → r .kind ≡ 0 → r .at ≡ 0 → r .value ≡ unbiased v → Stands sc vs filled-term r
+  pub side-number-term : {r : Origin} → code ≡ 26 → r .kind ≡ 0 → r .at ≡ 0 → r .value ≡ unbiased v → Stands sc vs filled-term r
   unfolding coded-term fill-term term-value
   side-number-term e = fixed (unbiased v) (λ ds x. rw e)
 
-  pub side-entry-term : {r : Side} → 24 ≤ code → (code ≡ 24 → ⊥) → (code ≡ 25 → ⊥) → (code ≡ 26 → ⊥) → r .kind ≡ 0 → r .at ≡ 0 → r .value ≡ entry-value p (name-of v) → Stands sc vs filled-term r
+  pub side-entry-term : {r : Origin} → 24 ≤ code → (code ≡ 24 → ⊥) → (code ≡ 25 → ⊥) → (code ≡ 26 → ⊥) → r .kind ≡ 0 → r .at ≡ 0 → r .value ≡ entry-value p (name-of v) → Stands sc vs filled-term r
   unfolding coded-term fill-term term-value
   side-entry-term a b c d = fixed (entry-value p (name-of v)) (λ ds x. rw (le-ltb code 24 a, ne-eqb code 24 b, ne-eqb code 25 c, ne-eqb code 26 d))
 

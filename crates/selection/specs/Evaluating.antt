@@ -22,7 +22,7 @@ use Rattle.grant.specs.Grants.{no-time}
 use Rattle.rows.specs.declared.Rows.{Rows}
 use Rattle.rows.specs.Masks.{rows-of, no-rows, first-rows, both-of, either-of}
 use Rattle.column_masks.specs.Columns.{compared-at}
-use Rattle.selection.specs.declared.Side.{Side}
+use Rattle.selection.specs.declared.Origin.{Origin}
 use Rattle.selection.specs.declared.Scope.{Scope}
 use Rattle.selection.specs.Scopes.{paired, scope-columns, scope-row, profile-in, cond-at}
 
@@ -59,18 +59,18 @@ unfoldable pub clocked : ℤ → List ℕ → ℕ → ℕ → ℤ
 clocked low ts from i = later-of low (getD ts (from + i) 0)
 
 -- 1 is a column that begins at a place of the values, 2 the time, any other the side's value
-unfoldable pub side-value : Side → Scope → List ℕ → List ℤ → ℕ → ℤ
+unfoldable pub side-value : Origin → Scope → List ℕ → List ℤ → ℕ → ℤ
 side-value x sc ts vs i = cond (eqb (x .kind) 1) (getD vs (x .at + i * max-columns) (pos 0)) (cond (eqb (x .kind) 2) (pos (time-at sc ts i)) (x .value))
 
 -- a side of its parts, and the rows of a stream beside a place, whatever their columns
-abbrev pub parted : ℕ → ℕ → ℤ → Side
+abbrev pub parted : ℕ → ℕ → ℤ → Origin
 parted kind at v = record { kind = kind; at = at; value = v }
 
 abbrev pub bare : ℕ → ℕ → ℕ → Scope
 bare stream n fixed = record { stream = stream; width = 0; rows = n; fixed = fixed; other = 0; breadth = 0 }
 
 -- a side stands for a term: it has its value in each row
-pub record Stands (sc : Scope) (vs : List ℤ) (t : Term) (x : Side) : Type 0 where
+pub record Stands (sc : Scope) (vs : List ℤ) (t : Term) (x : Origin) : Type 0 where
   pub near : x .at < column-end
   pub value : (ts : List ℕ) (i : ℕ) → side-value x sc ts vs i ≡ term-value (scope-columns sc) (scope-row sc ts vs i) t
 

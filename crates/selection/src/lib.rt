@@ -18,7 +18,7 @@ ghost use Rattle.rows.specs.Masks.{one, bits, part, rows-of};
 ghost use Rattle.column_masks.specs.Columns.{strip, strip-lent, compared-at};
 ghost use Rattle.selection.specs.Scopes.{times-fit, scope-fits, profile-in, cond-at, selected, selected-all, timely};
 ghost use Rattle.selection.specs.Evaluating.{relate, column-end, left-time, side-value, Stands, Lent, left-named, wide, narrow, Taken, Leads, passing, list-passing, list-at, start-of, joined-of, in-span, timed, past, low-of, high-of, in-limits, time-at, clock-at, later-of, clocked, bare, parted, lists, Carried};
-use cells::Cell;
+use cells::Value;
 use grant::Grant;
 use ledger::Ledger;
 use nodes::Node;
@@ -51,8 +51,8 @@ impl Scope {
     const PLACES: u32 = 512;
 }
 
-// A side of a comparison: a column that begins at a place of the values, the time, or a value.
-struct Side {
+// Where a side of a comparison takes its values from: a column that begins at a place of the values, the time, or a value.
+struct Origin {
     kind: u32,
     at: u32,
     value: i32,
@@ -64,7 +64,7 @@ struct Reached {
     at: u32,
 }
 
-impl Side {
+impl Origin {
     const VALUE: u32 = 0;
 
     const COLUMN: u32 = 1;
@@ -102,26 +102,26 @@ fn related(head: u32, values: &[i32], p: u32, q: u32, n: u32) -> Rows
 }
 
 // The rows where a column, which begins at a place of the values, compares so with a value.
-fn by_value(head: u32, values: &[i32], p: u32, v: Cell, n: u32) -> Rows
+fn by_value(head: u32, values: &[i32], p: u32, v: Value, n: u32) -> Rows
     requires { ⌜ strip-lent (length (now values)) p max-columns n ≡ true ⌝ }
     ensures { λ x. ⌜ x ≡ rows-of (relate head (strip (now (values .entry)) p max-columns) (λ i. v .v)) 0 n ⌝ }
 {
     if head == 1 {
-        return column_masks::matched(Cell::SAME, values, p, v, n);
+        return column_masks::matched(Value::SAME, values, p, v, n);
     }
     if head == 2 {
-        return Rows::first(n).flip(column_masks::matched(Cell::SAME, values, p, v, n));
+        return Rows::first(n).flip(column_masks::matched(Value::SAME, values, p, v, n));
     }
     if head == 3 {
-        return column_masks::matched(Cell::BELOW, values, p, v, n);
+        return column_masks::matched(Value::BELOW, values, p, v, n);
     }
     if head == 4 {
-        return Rows::first(n).flip(column_masks::matched(Cell::ABOVE, values, p, v, n));
+        return Rows::first(n).flip(column_masks::matched(Value::ABOVE, values, p, v, n));
     }
     if head == 5 {
-        return column_masks::matched(Cell::ABOVE, values, p, v, n);
+        return column_masks::matched(Value::ABOVE, values, p, v, n);
     }
-    Rows::first(n).flip(column_masks::matched(Cell::BELOW, values, p, v, n))
+    Rows::first(n).flip(column_masks::matched(Value::BELOW, values, p, v, n))
 }
 
 // The head of a comparison whose sides are turned.
@@ -147,7 +147,7 @@ fn turned(head: u32) -> u32
 }
 
 // Whether two values compare so.
-fn holds(head: u32, x: Cell, y: Cell) -> bool
+fn holds(head: u32, x: Value, y: Value) -> bool
     ensures { λ r. ⌜ r ≡ compares (numbered-op head) (x .v) (y .v) ⌝ }
 {
     if head == 1 {
@@ -169,7 +169,7 @@ fn holds(head: u32, x: Cell, y: Cell) -> bool
 }
 
 // All of n rows where two values compare so, or none.
-fn settled(head: u32, x: Cell, y: Cell, n: u32) -> Rows
+fn settled(head: u32, x: Value, y: Value, n: u32) -> Rows
     ensures { λ r. ⌜ r ≡ rows-of (relate head (λ i. x .v) (λ i. y .v)) 0 n ⌝ }
 {
     if holds(head, x, y) {
@@ -189,11 +189,11 @@ fn capped(t: u32) -> u32
 }
 
 // The later of a row's time and another.
-fn clock(low: Cell, t: u32) -> Cell
+fn clock(low: Value, t: u32) -> Value
     ensures { λ r. ⌜ r .v ≡ later-of (low .v) t ⌝ }
 {
     let s = capped(t);
-    let x = Cell { v: s as i32 };
+    let x = Value { v: s as i32 };
     if x.v < low.v {
         return low;
     }
@@ -201,7 +201,7 @@ fn clock(low: Cell, t: u32) -> Cell
 }
 
 // A weight where two values are the same, or 0.
-fn same_weight(x: Cell, y: Cell, w: u32) -> u32
+fn same_weight(x: Value, y: Value, w: u32) -> u32
     ensures { λ r. ⌜ r ≡ one (compares eq (x .v) (y .v)) * w ⌝ }
 {
     if x.v == y.v {
@@ -211,7 +211,7 @@ fn same_weight(x: Cell, y: Cell, w: u32) -> u32
 }
 
 // A weight where one value is below another, or 0.
-fn less_weight(x: Cell, y: Cell, w: u32) -> u32
+fn less_weight(x: Value, y: Value, w: u32) -> u32
     ensures { λ r. ⌜ r ≡ one (compares lt (x .v) (y .v)) * w ⌝ }
 {
     if x.v < y.v {
@@ -221,7 +221,7 @@ fn less_weight(x: Cell, y: Cell, w: u32) -> u32
 }
 
 // A weight where the later of the time at a place and another is a cell's value, or 0.
-fn same_at(low: Cell, times: &[u32], at: u32, column: &[i32], q: u32, w: u32) -> u32
+fn same_at(low: Value, times: &[u32], at: u32, column: &[i32], q: u32, w: u32) -> u32
     requires { ⌜ at < length (now times) ⌝ }
     ensures { λ r. ⌜ r ≡ one (compares eq (later-of (low .v) (getD (now (times .entry)) at 0)) (getD (now (column .entry)) q (pos 0))) * w ⌝ }
 {
@@ -230,7 +230,7 @@ fn same_at(low: Cell, times: &[u32], at: u32, column: &[i32], q: u32, w: u32) ->
 
 // Of at most 128 rows those with such a time, by a column that begins at a place of the values.
 // Rows 32 apart are taken together, each with its own word.
-fn same_times(low: Cell, times: &[u32], from: u32, values: &[i32], p: u32, n: u32) -> Rows
+fn same_times(low: Value, times: &[u32], from: u32, values: &[i32], p: u32, n: u32) -> Rows
     requires { ⌜ (from ≤ 384) × (places-size ≤ length (now times)) × (p < column-end) × (values-size ≤ length (now values)) ⌝ }
     ensures { λ r. ⌜ r ≡ rows-of (compared-at eq (clocked (low .v) (now (times .entry)) from) (strip (now (values .entry)) p max-columns)) 0 n ⌝ }
 {
@@ -259,7 +259,7 @@ fn same_times(low: Cell, times: &[u32], from: u32, values: &[i32], p: u32, n: u3
 }
 
 // A weight where it is below the value, or 0.
-fn below_at(low: Cell, times: &[u32], at: u32, column: &[i32], q: u32, w: u32) -> u32
+fn below_at(low: Value, times: &[u32], at: u32, column: &[i32], q: u32, w: u32) -> u32
     requires { ⌜ at < length (now times) ⌝ }
     ensures { λ r. ⌜ r ≡ one (compares lt (later-of (low .v) (getD (now (times .entry)) at 0)) (getD (now (column .entry)) q (pos 0))) * w ⌝ }
 {
@@ -268,7 +268,7 @@ fn below_at(low: Cell, times: &[u32], at: u32, column: &[i32], q: u32, w: u32) -
 
 // Of at most 128 rows those with such a time, by a column that begins at a place of the values.
 // Rows 32 apart are taken together, each with its own word.
-fn below_times(low: Cell, times: &[u32], from: u32, values: &[i32], p: u32, n: u32) -> Rows
+fn below_times(low: Value, times: &[u32], from: u32, values: &[i32], p: u32, n: u32) -> Rows
     requires { ⌜ (from ≤ 384) × (places-size ≤ length (now times)) × (p < column-end) × (values-size ≤ length (now values)) ⌝ }
     ensures { λ r. ⌜ r ≡ rows-of (compared-at lt (clocked (low .v) (now (times .entry)) from) (strip (now (values .entry)) p max-columns)) 0 n ⌝ }
 {
@@ -297,7 +297,7 @@ fn below_times(low: Cell, times: &[u32], from: u32, values: &[i32], p: u32, n: u
 }
 
 // A weight where it is above the value, or 0.
-fn above_at(low: Cell, times: &[u32], at: u32, column: &[i32], q: u32, w: u32) -> u32
+fn above_at(low: Value, times: &[u32], at: u32, column: &[i32], q: u32, w: u32) -> u32
     requires { ⌜ at < length (now times) ⌝ }
     ensures { λ r. ⌜ r ≡ one (compares gt (later-of (low .v) (getD (now (times .entry)) at 0)) (getD (now (column .entry)) q (pos 0))) * w ⌝ }
 {
@@ -306,7 +306,7 @@ fn above_at(low: Cell, times: &[u32], at: u32, column: &[i32], q: u32, w: u32) -
 
 // Of at most 128 rows those with such a time, by a column that begins at a place of the values.
 // Rows 32 apart are taken together, each with its own word.
-fn above_times(low: Cell, times: &[u32], from: u32, values: &[i32], p: u32, n: u32) -> Rows
+fn above_times(low: Value, times: &[u32], from: u32, values: &[i32], p: u32, n: u32) -> Rows
     requires { ⌜ (from ≤ 384) × (places-size ≤ length (now times)) × (p < column-end) × (values-size ≤ length (now values)) ⌝ }
     ensures { λ r. ⌜ r ≡ rows-of (compared-at gt (clocked (low .v) (now (times .entry)) from) (strip (now (values .entry)) p max-columns)) 0 n ⌝ }
 {
@@ -347,7 +347,7 @@ fn left_time(sc: Scope, times: &[u32]) -> u32
 }
 
 // The rows whose time compares so with a column, which begins at a place of the values.
-fn by_clock(head: u32, low: Cell, times: &[u32], from: u32, values: &[i32], p: u32, n: u32) -> Rows
+fn by_clock(head: u32, low: Value, times: &[u32], from: u32, values: &[i32], p: u32, n: u32) -> Rows
     requires { ⌜ (from ≤ 384) × (places-size ≤ length (now times)) × (p < column-end) × (values-size ≤ length (now values)) ⌝ }
     ensures { λ r. ⌜ r ≡ rows-of (relate head (clocked (low .v) (now (times .entry)) from) (strip (now (values .entry)) p max-columns)) 0 n ⌝ }
 {
@@ -370,12 +370,12 @@ fn by_clock(head: u32, low: Cell, times: &[u32], from: u32, values: &[i32], p: u
 }
 
 // The rows whose time compares so with a value.
-fn by_time(head: u32, v: Cell, sc: Scope, times: &[u32]) -> Rows
+fn by_time(head: u32, v: Value, sc: Scope, times: &[u32]) -> Rows
     requires { ⌜ (sc .stream < max-streams) × (sc .rows ≤ max-rows) × (places-size ≤ length (now times)) ⌝ }
     ensures { λ x. ⌜ x ≡ rows-of (relate head (clock-at sc (now (times .entry))) (λ i. v .v)) 0 (sc .rows) ⌝ }
 {
     if v.v < 0 {
-        return settled(head, Cell { v: 1 }, Cell { v: 0 }, sc.rows);
+        return settled(head, Value { v: 1 }, Value { v: 0 }, sc.rows);
     }
     let t = v.v as u32;
     if head == 1 {
@@ -402,7 +402,7 @@ fn by_times(
     head: u32,
     kind: u32,
     at: u32,
-    v: Cell,
+    v: Value,
     stream: u32,
     n: u32,
     fixed: u32,
@@ -420,23 +420,23 @@ fn by_times(
         other: 0,
         breadth: 0,
     };
-    if kind == Side::COLUMN {
-        let low = clock(Cell { v: 0 }, left_time(sc, times));
+    if kind == Origin::COLUMN {
+        let low = clock(Value { v: 0 }, left_time(sc, times));
         return by_clock(head, low, times, stream * Scope::ROWS, values, at, n);
     }
-    if kind == Side::TIME {
-        return settled(head, Cell { v: 0 }, Cell { v: 0 }, n);
+    if kind == Origin::TIME {
+        return settled(head, Value { v: 0 }, Value { v: 0 }, n);
     }
     by_time(head, v, sc, times)
 }
 
 // The rows where two sides compare so.
-fn compared(head: u32, l: Side, r: Side, sc: Scope, times: &[u32], values: &[i32]) -> Rows
+fn compared(head: u32, l: Origin, r: Origin, sc: Scope, times: &[u32], values: &[i32]) -> Rows
     requires { ⌜ Lent sc (now times) (now values) × (l .at < column-end) × (r .at < column-end) ⌝ }
     ensures { λ x. ⌜ x ≡ rows-of (relate head (side-value l sc (now (times .entry)) (now (values .entry))) (side-value r sc (now (times .entry)) (now (values .entry)))) 0 (sc .rows) ⌝ }
 {
-    if l.kind == Side::TIME {
-        let v = Cell { v: r.value };
+    if l.kind == Origin::TIME {
+        let v = Value { v: r.value };
         return by_times(
             head,
             r.kind,
@@ -449,8 +449,8 @@ fn compared(head: u32, l: Side, r: Side, sc: Scope, times: &[u32], values: &[i32
             values,
         );
     }
-    if r.kind == Side::TIME {
-        let v = Cell { v: l.value };
+    if r.kind == Origin::TIME {
+        let v = Value { v: l.value };
         return by_times(
             turned(head),
             l.kind,
@@ -463,16 +463,16 @@ fn compared(head: u32, l: Side, r: Side, sc: Scope, times: &[u32], values: &[i32
             values,
         );
     }
-    if l.kind == Side::COLUMN {
-        if r.kind == Side::COLUMN {
+    if l.kind == Origin::COLUMN {
+        if r.kind == Origin::COLUMN {
             return related(head, values, l.at, r.at, sc.rows);
         }
-        return by_value(head, values, l.at, Cell { v: r.value }, sc.rows);
+        return by_value(head, values, l.at, Value { v: r.value }, sc.rows);
     }
-    if r.kind == Side::COLUMN {
-        return by_value(turned(head), values, r.at, Cell { v: l.value }, sc.rows);
+    if r.kind == Origin::COLUMN {
+        return by_value(turned(head), values, r.at, Value { v: l.value }, sc.rows);
     }
-    settled(head, Cell { v: l.value }, Cell { v: r.value }, sc.rows)
+    settled(head, Value { v: l.value }, Value { v: r.value }, sc.rows)
 }
 
 // ---- the sides of a comparison
@@ -491,7 +491,7 @@ fn left_names(sc: Scope, s: u32, c: u32) -> bool
 }
 
 // A column by its code: of the left row its value, one of the stream's, or nothing there.
-fn column_side(code: u32, sc: Scope, values: &[i32]) -> Side
+fn column_side(code: u32, sc: Scope, values: &[i32]) -> Origin
     requires { ⌜ (code < 24) × (sc .stream < max-streams) × (values-size ≤ length (now values)) ⌝ }
     ensures { λ r. ⌜ Stands sc (now (values .entry)) (column (col (code / max-columns) (code % max-columns))) r ⌝ }
 {
@@ -499,54 +499,54 @@ fn column_side(code: u32, sc: Scope, values: &[i32]) -> Side
     let c = code % Scope::COLUMNS;
     if left_names(sc, s, c) {
         let x = cells::value(values, sc.fixed * Scope::COLUMNS + c);
-        return Side {
-            kind: Side::VALUE,
+        return Origin {
+            kind: Origin::VALUE,
             at: 0,
             value: x.v,
         };
     }
     if s != sc.stream {
-        return Side {
-            kind: Side::VALUE,
+        return Origin {
+            kind: Origin::VALUE,
             at: 0,
             value: 0,
         };
     }
     if sc.width <= c {
-        return Side {
-            kind: Side::VALUE,
+        return Origin {
+            kind: Origin::VALUE,
             at: 0,
             value: 0,
         };
     }
-    Side {
-        kind: Side::COLUMN,
+    Origin {
+        kind: Origin::COLUMN,
         at: sc.stream * Scope::ROWS * Scope::COLUMNS + c,
         value: 0,
     }
 }
 
 // A number, of which the lowest is stored as 0.
-fn number_side(value: u64) -> Side
+fn number_side(value: u64) -> Origin
     requires { ⌜ value < 4294967296 ⌝ }
     ensures { λ r. ⌜ (r .kind ≡ 0) × (r .at ≡ 0) × (r .value ≡ unbiased value) ⌝ }
 {
     if value < 2147483648 {
-        return Side {
-            kind: Side::VALUE,
+        return Origin {
+            kind: Origin::VALUE,
             at: 0,
             value: -1 - ((2147483647 - value) as i32),
         };
     }
-    Side {
-        kind: Side::VALUE,
+    Origin {
+        kind: Origin::VALUE,
         at: 0,
         value: (value - 2147483648) as i32,
     }
 }
 
 // The value of a profile entry, or 0 where there is none of that name.
-fn entry_side(value: u64, profile: &[u64]) -> Side
+fn entry_side(value: u64, profile: &[u64]) -> Origin
     ensures { λ r. ⌜ (r .kind ≡ 0) × (r .at ≡ 0) × (r .value ≡ entry-value (profile-in (now (profile .entry))) (name-of value)) ⌝ }
 {
     let n = profile.len() / 2;
@@ -557,15 +557,15 @@ fn entry_side(value: u64, profile: &[u64]) -> Side
         }
         i += 1;
     }
-    Side {
-        kind: Side::VALUE,
+    Origin {
+        kind: Origin::VALUE,
         at: 0,
         value: 0,
     }
 }
 
 // What stands for a side by its code, and by the node's value where the code is that of a number or of a profile entry.
-fn side_of(code: u32, value: u64, sc: Scope, profile: &[u64], values: &[i32]) -> Side
+fn side_of(code: u32, value: u64, sc: Scope, profile: &[u64], values: &[i32]) -> Origin
     requires { ⌜ (sc .stream < max-streams) × (values-size ≤ length (now values)) × (code ≡ 26 → value < 4294967296) ⌝ }
     ensures { λ r. ⌜ Stands sc (now (values .entry)) (fill-term (profile-in (now (profile .entry))) (coded-term code value)) r ⌝ }
 {
@@ -573,15 +573,15 @@ fn side_of(code: u32, value: u64, sc: Scope, profile: &[u64], values: &[i32]) ->
         return column_side(code, sc, values);
     }
     if code == Term::TIME {
-        return Side {
-            kind: Side::TIME,
+        return Origin {
+            kind: Origin::TIME,
             at: 0,
             value: 0,
         };
     }
     if code == Term::FIGURE {
-        return Side {
-            kind: Side::VALUE,
+        return Origin {
+            kind: Origin::VALUE,
             at: 0,
             value: 0,
         };
@@ -608,7 +608,7 @@ fn compare_node(n: Node, sc: Scope, profile: &[u64], times: &[u32], values: &[i3
     ensures { λ r. ⌜ r ≡ passing sc (now (times .entry)) (now (values .entry)) (now (profile .entry)) (test (node-compare n)) ⌝ }
 {
     if is_wide(n) {
-        return settled(n.head, Cell { v: 1 }, Cell { v: 0 }, sc.rows);
+        return settled(n.head, Value { v: 1 }, Value { v: 0 }, sc.rows);
     }
     let l = side_of(n.left, n.value, sc, profile, values);
     let r = side_of(n.right, n.value, sc, profile, values);

@@ -51,7 +51,7 @@ pub struct Span {
 }
 
 // Where a run of windows ends: how many answer rows there are, and the span of the last window that was visited.
-pub struct Run {
+pub struct Visited {
     pub rows: u32,
     pub span: Span,
 }
@@ -438,10 +438,10 @@ fn count_windows(w: Windows, times: &[u32], room: u32) -> u32
 }
 
 // No answer rows, and the span of no events.
-fn no_rows() -> Run
+fn no_rows() -> Visited
     ensures { λ r. ⌜ (r .rows ≡ 0) × (r .span .from ≡ 0) × (r .span .to ≡ 0) ⌝ }
 {
-    Run {
+    Visited {
         rows: 0,
         span: Span {
             from: 0,
@@ -468,8 +468,8 @@ fn count_run(
     picks: &[u32],
     room: u32,
     run: Stretch,
-    begun: Run,
-) -> Run
+    begun: Visited,
+) -> Visited
     requires { ⌜ Bounded w × Timed (w .clock) (now times) × Parts (now times) (now counts) (now parts) × (begun .rows ≤ room) × (begun .rows ≤ run .first) × (run .first ≤ run .last) × Runs w (now times) (run .event) (run .first) (run .last + 1) × Kept w (numbered-fn (w .number)) (now times) (now counts) (now parts) (run .first) (begun .span) ⌝ }
     ensures { λ r. ⌜ (r .rows ≡ min (begun .rows + length (picked-rows (now (words .entry)) (now (picks .entry)) (run-rows w (numbered-fn (w .number)) (now (times .entry)) (now (counts .entry)) (now (parts .entry)) (run .event) (run .first) (run .last + 1)))) (suc room)) × Kept w (numbered-fn (w .number)) (now (times .entry)) (now (counts .entry)) (now (parts .entry)) (run .last + 1) (r .span) ⌝ }
 {
@@ -479,7 +479,7 @@ fn count_run(
     let last_end = run.last * w.offset + w.size;
     while end <= last_end {
         if room < r {
-            return Run {
+            return Visited {
                 rows: r,
                 span: span,
             };
@@ -489,7 +489,7 @@ fn count_run(
         r = counted(words, picks, a, r);
         end += w.offset;
     }
-    Run {
+    Visited {
         rows: r,
         span: span,
     }
@@ -568,8 +568,8 @@ fn put_run(
     cells: &mut [i64],
     at: u32,
     run: Stretch,
-    begun: Run,
-) -> Run
+    begun: Visited,
+) -> Visited
     requires { ⌜ Bounded w × Timed (w .clock) (now times) × Parts (now times) (now counts) (now parts) × (begun .rows ≤ run .first) × (run .first ≤ run .last) × Runs w (now times) (run .event) (run .first) (run .last + 1) × Kept w (numbered-fn (w .number)) (now times) (now counts) (now parts) (run .first) (begun .span) ⌝ }
     ensures { λ r. ⌜ Behind (picked-rows (now (words .entry)) (now (picks .entry)) (run-rows w (numbered-fn (w .number)) (now (times .entry)) (now (counts .entry)) (now (parts .entry)) (run .event) (run .first) (run .last + 1))) (now (cells .entry)) at (begun .rows) (now (cells .exit)) (r .rows) × Kept w (numbered-fn (w .number)) (now (times .entry)) (now (counts .entry)) (now (parts .entry)) (run .last + 1) (r .span) ⌝ }
 {
@@ -583,7 +583,7 @@ fn put_run(
         r = put(words, picks, a, cells, at, r);
         end += w.offset;
     }
-    Run {
+    Visited {
         rows: r,
         span: span,
     }
