@@ -4,7 +4,7 @@
     python3 tests/compare.py --gate
 
 For the seeds from FIRST up to, not including, LAST it writes what the reference
-gives as theorems of crate `calls`, one for each script, has them checked, and
+gives as theorems of crate `samples`, one for each script, has them checked, and
 tells which fail. It works in a copy of the definitions as they stand in the
 working tree. The exit status is 1 where a script differs; with --gate, for the
 seeds that are listed below, also where one of the things in `wanted` is not met.
@@ -30,7 +30,7 @@ GATE = [2, 10, 40, 42, 45, 47, 69, 90, 102, 111, 123, 132, 141, 189, 195, 240, 2
         552, 562, 611, 615, 636, 640, 651, 669, 678, 681, 693, 704, 732, 737, 765, 769, 785, 789, 798, 799]
 
 COPY = tempfile.mkdtemp()
-PROOFS = os.path.join(COPY, 'crates', 'calls', 'proofs')
+PROOFS = os.path.join(COPY, 'crates', 'samples', 'proofs')
 
 HEADER = '''-- What the reference gives for random scripts, from the definitions.
 use mathlib.Core.Path.{_≡_, refl}
@@ -199,11 +199,11 @@ def outcomes_of(seed, counts):
 def write_held(theorems):
     with open(os.path.join(PROOFS, 'Held.antt'), 'w') as held:
         held.write(HEADER + ''.join(theorems))
-    write_library(COPY, 'calls', ['Held'])
+    write_library(COPY, 'samples', ['Held'])
 
 
 def check():
-    done = subprocess.run(['rt', 'dev', 'calls'], cwd=COPY, capture_output=True, text=True)
+    done = subprocess.run(['rt', 'dev', 'samples'], cwd=COPY, capture_output=True, text=True)
     return done.returncode, done.stdout + done.stderr
 
 

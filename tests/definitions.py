@@ -8,7 +8,7 @@ import os
 import shutil
 
 ROOT = os.path.dirname(os.path.dirname(os.path.abspath(__file__)))
-CRATES = ('lists', 'refusal', 'syntax', 'model', 'calls')
+CRATES = ('lists', 'refusal', 'syntax', 'model', 'calls', 'samples')
 
 
 def make_copy(copy, modules):
@@ -20,7 +20,8 @@ def make_copy(copy, modules):
     for crate in CRATES:
         source, target = os.path.join(ROOT, 'crates', crate), os.path.join(copy, 'crates', crate)
         for part in ('specs', 'src'):
-            shutil.copytree(os.path.join(source, part), os.path.join(target, part))
+            if os.path.isdir(os.path.join(source, part)):
+                shutil.copytree(os.path.join(source, part), os.path.join(target, part))
         os.makedirs(os.path.join(target, 'proofs'))
         for module in modules.get(crate, []):
             shutil.copy(os.path.join(source, 'proofs', module + '.antt'), os.path.join(target, 'proofs'))

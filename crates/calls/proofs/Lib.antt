@@ -1,17 +1,3 @@
-pub mod Examples
-pub mod Samples
-pub mod Transcripts
-pub mod FormSamples
-pub mod ConditionSamples
-pub mod RecordSamples
-pub mod AggregateSamples
-pub mod RouteSamples
-pub mod LineSamples
-pub mod BoundSamples
-pub mod OrderSamples
-pub mod NestedSamples
-pub mod LentSamples
-pub mod CallSamples
 pub mod Written
 pub mod Order
 pub mod Accepted

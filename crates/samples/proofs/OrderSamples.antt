@@ -2,8 +2,8 @@
 use mathlib.Core.Path.{refl}
 use mathlib.Core.List.{List, [], _∷_, _++_}
 use lib.ListN.{replicate}
 use Rattle.calls.specs.Scripts.{quiet, refusal, scripts-compute}
-use Rattle.calls.proofs.Transcripts.{Said, _says_, each, Holds, Holds-with}
+use Rattle.samples.proofs.Transcripts.{Said, _says_, each, Holds, Holds-with}
 
 -- a stream at clock 5, and a reader of it
 abbrev clocked : List Said

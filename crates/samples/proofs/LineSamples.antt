@@ -2,8 +2,8 @@
 use mathlib.Core.Path.{refl}
 use mathlib.Core.List.{List, [], _∷_, _++_}
 use lib.IntN.{pos}
 use Rattle.calls.specs.Scripts.{quiet, refusal, cells, scripts-compute}
-use Rattle.calls.proofs.Transcripts.{Said, _says_, each, writes, Holds, Holds-with}
+use Rattle.samples.proofs.Transcripts.{Said, _says_, each, writes, Holds, Holds-with}
 
 abbrev streams : List Said
 streams =

@@ -1,0 +1,14 @@
+pub mod Examples
+pub mod Samples
+pub mod Transcripts
+pub mod FormSamples
+pub mod ConditionSamples
+pub mod RecordSamples
+pub mod AggregateSamples
+pub mod RouteSamples
+pub mod LineSamples
+pub mod BoundSamples
+pub mod OrderSamples
+pub mod NestedSamples
+pub mod LentSamples
+pub mod CallSamples
