@@ -8,7 +8,7 @@ use native.Mathlib.Decide.{decLt}
 use lib.IntN.{ℤ, pos, negsuc, _-ℤ_}
 use lib.Signed.{ltZ, leZ}
 use lib.Dec.{leb, ltb, eqb}
-use lib.ListN.{length, getD, List·getD-eq-default}
+use lib.ListN.{getD}
 use mir.Syntax.{w64}
 use mir.Val.{SFits}
 use borrow.Author.Tests.{eq-eqb, ne-eqb, eqb-true, eqb-false, lt-ltb, le-ltb, le-leb, lt-leb}
@@ -24,14 +24,8 @@ use Rattle.figures.specs.Figures.{row-of, coded-value, tested, Standing}
 
 -- ---- words
 
-module _ (ws : List ℕ) where
-  pub word-past : (i : ℕ) → length ws ≤ i → 0 ≡ getD ws i 0
-  word-past i h = sym (List·getD-eq-default ws 0 {n = i} h)
-
-  pub word-front : (k : ℕ) {r : ℕ} → k < 2 → r ≡ getD ws 0 0 → r ≡ getD ws (k - 2) 0
-  word-front k h e = let z : k - 2 ≡ 0 = omega arith in rw z e
-
-pub ruleset word-ends = (word-past, word-front)
+pub word-front : (ws : List ℕ) (k : ℕ) {r : ℕ} → k < 2 → r ≡ getD ws 0 0 → r ≡ getD ws (k - 2) 0
+word-front ws k h e = let z : k - 2 ≡ 0 = omega arith in rw z e
 
 -- ---- terms
 

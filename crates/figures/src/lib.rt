@@ -88,24 +88,14 @@ fn compared(head: u32, l: Scalar, m: Scalar) -> bool
     m.within(l)
 }
 
-// The word at a place, or 0 where there is none.
-fn word_at(words: &[u32], i: usize) -> u32
-    ensures { λ r. ⌜ r ≡ getD (now (words .entry)) i 0 ⌝ }
-{
-    if words.len() <= i {
-        return 0;
-    }
-    words[i]
-}
-
 // The word two places before another.
 fn word_before(words: &[u32], k: usize) -> u32
     ensures { λ r. ⌜ r ≡ getD (now (words .entry)) (k - 2) 0 ⌝ }
 {
     if k < 2 {
-        return word_at(words, 0);
+        return places::word_in(words, 0);
     }
-    word_at(words, k - 2)
+    places::word_in(words, k - 2)
 }
 
 // A number that may stand for the value of the node that ends at a place.
@@ -218,7 +208,7 @@ pub fn passes_all(words: &[u32], picks: &[u32], a: Answer) -> bool
 {
     let mut i: usize = 0;
     while i < picks.len() {
-        let k = word_at(picks, i) as usize;
+        let k = places::word_in(picks, i) as usize;
         if !passes(words, k, a) {
             return false;
         }

@@ -17,8 +17,8 @@ abbrev μ-loop : tie.MeasureT-loop
 loop-holds : tie.Need-loop-holds Inv-loop μ-loop
 loop-holds c = search passing-ends
 
-word-at-requires : tie.Need-word-at-requires Inv-loop μ-loop
-word-at-requires c κs = search needs
+word-in-requires : tie.Need-word-in-requires Inv-loop μ-loop
+word-in-requires c κs = search needs
 
 cast-k : tie.Need-cast-k Inv-loop μ-loop
 cast-k c = search needs
@@ -40,7 +40,7 @@ loop-again c =
     let s = c .before .before .before .before .before .before .before in
     let a = s .args in
     let l = c .before .before .before .before .loop in
-    passing-more (a .words .now) (a .picks .now) (a .a) (omega arith) (c .before .before .word-at .ensures) (c .before .passes .ensures) (c .if1 .left) ∙ l .inv
+    passing-more (a .words .now) (a .picks .now) (a .a) (omega arith) (c .before .before .word-in .ensures) (c .before .passes .ensures) (c .if1 .left) ∙ l .inv
 
 returns-2 : tie.Need-returns-2 Inv-loop μ-loop
 returns-2 c = search passing-ends
@@ -52,7 +52,7 @@ passes-all-spec =
     Inv-loop
     μ-loop
     loop-holds
-    word-at-requires
+    word-in-requires
     cast-k
     passes-requires
     returns
