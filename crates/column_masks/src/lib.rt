@@ -10,7 +10,7 @@ ghost use Rattle.masks.specs.Masks.{bit?};
 ghost use Rattle.rows.specs.Masks.{one, bits, rows-of, row-bit};
 ghost use Rattle.cells.specs.Cells.{most-places};
 ghost use Rattle.column_masks.specs.Columns.{strip, near-end, strip-lent, Strip, compared-at, compared-rows, kind-op, matched, holding, held};
-use cells::Value;
+use cells::Datum;
 use rows::Rows;
 use schema::Stream;
 
@@ -377,7 +377,7 @@ pub fn less_rows(a: &[i32], p: u32, s: u32, b: &[i32], q: u32, t: u32, n: u32) -
 // ---- the rows of a column and one value
 
 // Returns whether a cell has a value.
-fn is_equal(values: &[i32], i: u32, v: Value) -> bool
+fn is_equal(values: &[i32], i: u32, v: Datum) -> bool
     requires { ⌜ i < length (now values) ⌝ }
     ensures { λ r. ⌜ r ≡ compares eq (getD (now (values .entry)) i (pos 0)) (v .v) ⌝ }
 {
@@ -386,7 +386,7 @@ fn is_equal(values: &[i32], i: u32, v: Value) -> bool
 }
 
 // Returns of four rows those with a value.
-fn equal_four(values: &[i32], p: u32, v: Value) -> u32
+fn equal_four(values: &[i32], p: u32, v: Datum) -> u32
     requires { ⌜ (p + 18 < length (now values)) × (p + 18 ≤ most-places) ⌝ }
     ensures { λ r. ⌜ (r ≡ bits (compared-at eq (strip (now (values .entry)) p max-columns) (λ i. v .v)) 0 4) × (r < 16) ⌝ }
 {
@@ -399,7 +399,7 @@ fn equal_four(values: &[i32], p: u32, v: Value) -> u32
 }
 
 // Returns of 32 rows those with a value.
-fn equal_full(values: &[i32], p: u32, v: Value) -> u32
+fn equal_full(values: &[i32], p: u32, v: Datum) -> u32
     requires { ⌜ (p + 186 < length (now values)) × (p + 186 ≤ most-places) ⌝ }
     ensures { λ r. ⌜ r ≡ bits (compared-at eq (strip (now (values .entry)) p max-columns) (λ i. v .v)) 0 32 ⌝ }
 {
@@ -419,7 +419,7 @@ fn equal_full(values: &[i32], p: u32, v: Value) -> u32
 }
 
 // Returns of at most 32 rows those with a value.
-fn equal_word(values: &[i32], p: u32, v: Value, n: u32) -> u32
+fn equal_word(values: &[i32], p: u32, v: Datum, n: u32) -> u32
     requires { ⌜ (n ≤ 32) × Strip (now values) p max-columns 0 n ⌝ }
     ensures { λ r. ⌜ r ≡ bits (compared-at eq (strip (now (values .entry)) p max-columns) (λ i. v .v)) 0 n ⌝ }
 {
@@ -437,7 +437,7 @@ fn equal_word(values: &[i32], p: u32, v: Value, n: u32) -> u32
 }
 
 // Returns of 128 rows those with a value.
-fn equal_all(values: &[i32], p: u32, v: Value) -> Rows
+fn equal_all(values: &[i32], p: u32, v: Datum) -> Rows
     requires { ⌜ (p + 762 < length (now values)) × (p + 762 ≤ most-places) ⌝ }
     ensures { λ r. ⌜ r ≡ rows-of (compared-at eq (strip (now (values .entry)) p max-columns) (λ i. v .v)) 0 max-rows ⌝ }
 {
@@ -450,7 +450,7 @@ fn equal_all(values: &[i32], p: u32, v: Value) -> Rows
 }
 
 // Returns of at most 128 rows those with a value.
-fn equal_value(values: &[i32], p: u32, v: Value, n: u32) -> Rows
+fn equal_value(values: &[i32], p: u32, v: Datum, n: u32) -> Rows
     requires { ⌜ (p < near-end) × Strip (now values) p max-columns 0 n ⌝ }
     ensures { λ r. ⌜ r ≡ rows-of (compared-at eq (strip (now (values .entry)) p max-columns) (λ i. v .v)) 0 n ⌝ }
 {
@@ -466,7 +466,7 @@ fn equal_value(values: &[i32], p: u32, v: Value, n: u32) -> Rows
 }
 
 // Returns whether a cell is below a value.
-fn is_below(values: &[i32], i: u32, v: Value) -> bool
+fn is_below(values: &[i32], i: u32, v: Datum) -> bool
     requires { ⌜ i < length (now values) ⌝ }
     ensures { λ r. ⌜ r ≡ compares lt (getD (now (values .entry)) i (pos 0)) (v .v) ⌝ }
 {
@@ -475,7 +475,7 @@ fn is_below(values: &[i32], i: u32, v: Value) -> bool
 }
 
 // Returns of four rows those below a value.
-fn below_four(values: &[i32], p: u32, v: Value) -> u32
+fn below_four(values: &[i32], p: u32, v: Datum) -> u32
     requires { ⌜ (p + 18 < length (now values)) × (p + 18 ≤ most-places) ⌝ }
     ensures { λ r. ⌜ (r ≡ bits (compared-at lt (strip (now (values .entry)) p max-columns) (λ i. v .v)) 0 4) × (r < 16) ⌝ }
 {
@@ -488,7 +488,7 @@ fn below_four(values: &[i32], p: u32, v: Value) -> u32
 }
 
 // Returns of 32 rows those below a value.
-fn below_full(values: &[i32], p: u32, v: Value) -> u32
+fn below_full(values: &[i32], p: u32, v: Datum) -> u32
     requires { ⌜ (p + 186 < length (now values)) × (p + 186 ≤ most-places) ⌝ }
     ensures { λ r. ⌜ r ≡ bits (compared-at lt (strip (now (values .entry)) p max-columns) (λ i. v .v)) 0 32 ⌝ }
 {
@@ -508,7 +508,7 @@ fn below_full(values: &[i32], p: u32, v: Value) -> u32
 }
 
 // Returns of at most 32 rows those below a value.
-fn below_word(values: &[i32], p: u32, v: Value, n: u32) -> u32
+fn below_word(values: &[i32], p: u32, v: Datum, n: u32) -> u32
     requires { ⌜ (n ≤ 32) × Strip (now values) p max-columns 0 n ⌝ }
     ensures { λ r. ⌜ r ≡ bits (compared-at lt (strip (now (values .entry)) p max-columns) (λ i. v .v)) 0 n ⌝ }
 {
@@ -526,7 +526,7 @@ fn below_word(values: &[i32], p: u32, v: Value, n: u32) -> u32
 }
 
 // Returns of 128 rows those below a value.
-fn below_all(values: &[i32], p: u32, v: Value) -> Rows
+fn below_all(values: &[i32], p: u32, v: Datum) -> Rows
     requires { ⌜ (p + 762 < length (now values)) × (p + 762 ≤ most-places) ⌝ }
     ensures { λ r. ⌜ r ≡ rows-of (compared-at lt (strip (now (values .entry)) p max-columns) (λ i. v .v)) 0 max-rows ⌝ }
 {
@@ -539,7 +539,7 @@ fn below_all(values: &[i32], p: u32, v: Value) -> Rows
 }
 
 // Returns of at most 128 rows those below a value.
-fn below_value(values: &[i32], p: u32, v: Value, n: u32) -> Rows
+fn below_value(values: &[i32], p: u32, v: Datum, n: u32) -> Rows
     requires { ⌜ (p < near-end) × Strip (now values) p max-columns 0 n ⌝ }
     ensures { λ r. ⌜ r ≡ rows-of (compared-at lt (strip (now (values .entry)) p max-columns) (λ i. v .v)) 0 n ⌝ }
 {
@@ -555,7 +555,7 @@ fn below_value(values: &[i32], p: u32, v: Value, n: u32) -> Rows
 }
 
 // Returns whether a cell is above a value.
-fn is_above(values: &[i32], i: u32, v: Value) -> bool
+fn is_above(values: &[i32], i: u32, v: Datum) -> bool
     requires { ⌜ i < length (now values) ⌝ }
     ensures { λ r. ⌜ r ≡ compares gt (getD (now (values .entry)) i (pos 0)) (v .v) ⌝ }
 {
@@ -564,7 +564,7 @@ fn is_above(values: &[i32], i: u32, v: Value) -> bool
 }
 
 // Returns of four rows those above a value.
-fn above_four(values: &[i32], p: u32, v: Value) -> u32
+fn above_four(values: &[i32], p: u32, v: Datum) -> u32
     requires { ⌜ (p + 18 < length (now values)) × (p + 18 ≤ most-places) ⌝ }
     ensures { λ r. ⌜ (r ≡ bits (compared-at gt (strip (now (values .entry)) p max-columns) (λ i. v .v)) 0 4) × (r < 16) ⌝ }
 {
@@ -577,7 +577,7 @@ fn above_four(values: &[i32], p: u32, v: Value) -> u32
 }
 
 // Returns of 32 rows those above a value.
-fn above_full(values: &[i32], p: u32, v: Value) -> u32
+fn above_full(values: &[i32], p: u32, v: Datum) -> u32
     requires { ⌜ (p + 186 < length (now values)) × (p + 186 ≤ most-places) ⌝ }
     ensures { λ r. ⌜ r ≡ bits (compared-at gt (strip (now (values .entry)) p max-columns) (λ i. v .v)) 0 32 ⌝ }
 {
@@ -597,7 +597,7 @@ fn above_full(values: &[i32], p: u32, v: Value) -> u32
 }
 
 // Returns of at most 32 rows those above a value.
-fn above_word(values: &[i32], p: u32, v: Value, n: u32) -> u32
+fn above_word(values: &[i32], p: u32, v: Datum, n: u32) -> u32
     requires { ⌜ (n ≤ 32) × Strip (now values) p max-columns 0 n ⌝ }
     ensures { λ r. ⌜ r ≡ bits (compared-at gt (strip (now (values .entry)) p max-columns) (λ i. v .v)) 0 n ⌝ }
 {
@@ -615,7 +615,7 @@ fn above_word(values: &[i32], p: u32, v: Value, n: u32) -> u32
 }
 
 // Returns of 128 rows those above a value.
-fn above_all(values: &[i32], p: u32, v: Value) -> Rows
+fn above_all(values: &[i32], p: u32, v: Datum) -> Rows
     requires { ⌜ (p + 762 < length (now values)) × (p + 762 ≤ most-places) ⌝ }
     ensures { λ r. ⌜ r ≡ rows-of (compared-at gt (strip (now (values .entry)) p max-columns) (λ i. v .v)) 0 max-rows ⌝ }
 {
@@ -628,7 +628,7 @@ fn above_all(values: &[i32], p: u32, v: Value) -> Rows
 }
 
 // Returns of at most 128 rows those above a value.
-fn above_value(values: &[i32], p: u32, v: Value, n: u32) -> Rows
+fn above_value(values: &[i32], p: u32, v: Datum, n: u32) -> Rows
     requires { ⌜ (p < near-end) × Strip (now values) p max-columns 0 n ⌝ }
     ensures { λ r. ⌜ r ≡ rows-of (compared-at gt (strip (now (values .entry)) p max-columns) (λ i. v .v)) 0 n ⌝ }
 {
@@ -644,14 +644,14 @@ fn above_value(values: &[i32], p: u32, v: Value, n: u32) -> Rows
 }
 
 // Returns of at most 128 rows those that stand so to a value.
-fn matched_mask(kind: u32, values: &[i32], p: u32, v: Value, n: u32) -> Rows
+fn matched_mask(kind: u32, values: &[i32], p: u32, v: Datum, n: u32) -> Rows
     requires { ⌜ (p < near-end) × Strip (now values) p max-columns 0 n ⌝ }
     ensures { λ r. ⌜ r ≡ rows-of (compared-at (kind-op kind) (strip (now (values .entry)) p max-columns) (λ i. v .v)) 0 n ⌝ }
 {
-    if kind == Value::SAME {
+    if kind == Datum::SAME {
         return equal_value(values, p, v, n);
     }
-    if kind == Value::BELOW {
+    if kind == Datum::BELOW {
         return below_value(values, p, v, n);
     }
     above_value(values, p, v, n)
@@ -659,7 +659,7 @@ fn matched_mask(kind: u32, values: &[i32], p: u32, v: Value, n: u32) -> Rows
 
 // Returns of n rows of a column, whose first cell is number p, those whose value is the same as, below or, where the kind is any other, above a value.
 // No rows where n is above 128, memory is short, or p has 32 bits.
-pub fn matched(kind: u32, values: &[i32], p: u32, v: Value, n: u32) -> Rows
+pub fn matched(kind: u32, values: &[i32], p: u32, v: Datum, n: u32) -> Rows
     ensures { λ r. ⌜ r ≡ matched kind (now (values .entry)) p (v .v) n ⌝ }
 {
     if !strip_lent(values.len(), p, COLUMNS, n) {
@@ -669,7 +669,7 @@ pub fn matched(kind: u32, values: &[i32], p: u32, v: Value, n: u32) -> Rows
 }
 
 // Returns a word with a bit more where a cell holds a value.
-fn with_value(values: &[i32], at: u32, v: Value, m: u32, b: u32) -> u32
+fn with_value(values: &[i32], at: u32, v: Datum, m: u32, b: u32) -> u32
     requires { ⌜ (at < length (now values)) × (m + b < 4294967296) ⌝ }
     ensures { λ r. ⌜ r ≡ m + one (compares eq (getD (now (values .entry)) at (pos 0)) (v .v)) * b ⌝ }
 {
@@ -681,7 +681,7 @@ fn with_value(values: &[i32], at: u32, v: Value, m: u32, b: u32) -> u32
 }
 
 // Returns of the rows of a word, of which the first has cell p, those with a value.
-fn held_word(values: &[i32], p: u32, v: Value, w: u32) -> u32
+fn held_word(values: &[i32], p: u32, v: Datum, w: u32) -> u32
     requires { ⌜ Strip (now values) p max-columns 0 32 ⌝ }
     ensures { λ r. ⌜ r ≡ bits (holding (now (values .entry)) p (v .v) (bit? w)) 0 32 ⌝ }
 {
@@ -697,7 +697,7 @@ fn held_word(values: &[i32], p: u32, v: Value, w: u32) -> u32
 }
 
 // Returns of the rows of a mask those with a value in a column.
-fn held_mask(values: &[i32], p: u32, v: Value, m: Rows) -> Rows
+fn held_mask(values: &[i32], p: u32, v: Datum, m: Rows) -> Rows
     requires { ⌜ (p < near-end) × Strip (now values) p max-columns 0 max-rows ⌝ }
     ensures { λ r. ⌜ r ≡ rows-of (holding (now (values .entry)) p (v .v) (row-bit m)) 0 max-rows ⌝ }
 {
@@ -711,7 +711,7 @@ fn held_mask(values: &[i32], p: u32, v: Value, m: Rows) -> Rows
 
 // Returns of the rows of a mask those with a value in a column, whose first cell is number p.
 // No rows where memory for 128 is short or p has 32 bits.
-pub fn held(values: &[i32], p: u32, v: Value, m: Rows) -> Rows
+pub fn held(values: &[i32], p: u32, v: Datum, m: Rows) -> Rows
     ensures { λ r. ⌜ r ≡ held (now (values .entry)) p (v .v) m ⌝ }
 {
     if !strip_lent(values.len(), p, COLUMNS, Rows::MOST) {

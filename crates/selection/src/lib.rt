@@ -18,7 +18,7 @@ ghost use Rattle.rows.specs.Masks.{one, bits, part, rows-of};
 ghost use Rattle.column_masks.specs.Columns.{strip, strip-lent, compared-at};
 ghost use Rattle.selection.specs.Scopes.{times-fit, scope-fits, profile-in, cond-at, selected, selected-all, timely};
 ghost use Rattle.selection.specs.Evaluating.{relate, column-end, left-time, side-value, Stands, Lent, left-named, wide, narrow, Taken, Leads, passing, list-passing, list-at, start-of, joined-of, in-span, timed, past, low-of, high-of, in-limits, time-at, clock-at, later-of, clocked, bare, parted, lists, Carried};
-use cells::Value;
+use cells::Datum;
 use grant::Grant;
 use ledger::Ledger;
 use nodes::Node;
@@ -102,26 +102,26 @@ fn related(head: u32, values: &[i32], p: u32, q: u32, n: u32) -> Rows
 }
 
 // The rows where a column, which begins at a place of the values, compares so with a value.
-fn by_value(head: u32, values: &[i32], p: u32, v: Value, n: u32) -> Rows
+fn by_value(head: u32, values: &[i32], p: u32, v: Datum, n: u32) -> Rows
     requires { ⌜ strip-lent (length (now values)) p max-columns n ≡ true ⌝ }
     ensures { λ x. ⌜ x ≡ rows-of (relate head (strip (now (values .entry)) p max-columns) (λ i. v .v)) 0 n ⌝ }
 {
     if head == 1 {
-        return column_masks::matched(Value::SAME, values, p, v, n);
+        return column_masks::matched(Datum::SAME, values, p, v, n);
     }
     if head == 2 {
-        return Rows::first(n).flip(column_masks::matched(Value::SAME, values, p, v, n));
+        return Rows::first(n).flip(column_masks::matched(Datum::SAME, values, p, v, n));
     }
     if head == 3 {
-        return column_masks::matched(Value::BELOW, values, p, v, n);
+        return column_masks::matched(Datum::BELOW, values, p, v, n);
     }
     if head == 4 {
-        return Rows::first(n).flip(column_masks::matched(Value::ABOVE, values, p, v, n));
+        return Rows::first(n).flip(column_masks::matched(Datum::ABOVE, values, p, v, n));
     }
     if head == 5 {
-        return column_masks::matched(Value::ABOVE, values, p, v, n);
+        return column_masks::matched(Datum::ABOVE, values, p, v, n);
     }
-    Rows::first(n).flip(column_masks::matched(Value::BELOW, values, p, v, n))
+    Rows::first(n).flip(column_masks::matched(Datum::BELOW, values, p, v, n))
 }
 
 // The head of a comparison whose sides are turned.
@@ -147,7 +147,7 @@ fn turned(head: u32) -> u32
 }
 
 // Whether two values compare so.
-fn holds(head: u32, x: Value, y: Value) -> bool
+fn holds(head: u32, x: Datum, y: Datum) -> bool
     ensures { λ r. ⌜ r ≡ compares (numbered-op head) (x .v) (y .v) ⌝ }
 {
     if head == 1 {
@@ -169,7 +169,7 @@ fn holds(head: u32, x: Value, y: Value) -> bool
 }
 
 // All of n rows where two values compare so, or none.
-fn settled(head: u32, x: Value, y: Value, n: u32) -> Rows
+fn settled(head: u32, x: Datum, y: Datum, n: u32) -> Rows
     ensures { λ r. ⌜ r ≡ rows-of (relate head (λ i. x .v) (λ i. y .v)) 0 n ⌝ }
 {
     if holds(head, x, y) {
@@ -189,11 +189,11 @@ fn capped(t: u32) -> u32
 }
 
 // The later of a row's time and another.
-fn clock(low: Value, t: u32) -> Value
+fn clock(low: Datum, t: u32) -> Datum
     ensures { λ r. ⌜ r .v ≡ later-of (low .v) t ⌝ }
 {
     let s = capped(t);
-    let x = Value { v: s as i32 };
+    let x = Datum { v: s as i32 };
     if x.v < low.v {
         return low;
     }
@@ -201,7 +201,7 @@ fn clock(low: Value, t: u32) -> Value
 }
 
 // A weight where two values are the same, or 0.
-fn same_weight(x: Value, y: Value, w: u32) -> u32
+fn same_weight(x: Datum, y: Datum, w: u32) -> u32
     ensures { λ r. ⌜ r ≡ one (compares eq (x .v) (y .v)) * w ⌝ }
 {
     if x.v == y.v {
@@ -211,7 +211,7 @@ fn same_weight(x: Value, y: Value, w: u32) -> u32
 }
 
 // A weight where one value is below another, or 0.
-fn less_weight(x: Value, y: Value, w: u32) -> u32
+fn less_weight(x: Datum, y: Datum, w: u32) -> u32
     ensures { λ r. ⌜ r ≡ one (compares lt (x .v) (y .v)) * w ⌝ }
 {
     if x.v < y.v {
@@ -221,7 +221,7 @@ fn less_weight(x: Value, y: Value, w: u32) -> u32
 }
 
 // A weight where the later of the time at a place and another is a cell's value, or 0.
-fn same_at(low: Value, times: &[u32], at: u32, column: &[i32], q: u32, w: u32) -> u32
+fn same_at(low: Datum, times: &[u32], at: u32, column: &[i32], q: u32, w: u32) -> u32
     requires { ⌜ at < length (now times) ⌝ }
     ensures { λ r. ⌜ r ≡ one (compares eq (later-of (low .v) (getD (now (times .entry)) at 0)) (getD (now (column .entry)) q (pos 0))) * w ⌝ }
 {
@@ -230,7 +230,7 @@ fn same_at(low: Value, times: &[u32], at: u32, column: &[i32], q: u32, w: u32) -
 
 // Of at most 128 rows those with such a time, by a column that begins at a place of the values.
 // Rows 32 apart are taken together, each with its own word.
-fn same_times(low: Value, times: &[u32], from: u32, values: &[i32], p: u32, n: u32) -> Rows
+fn same_times(low: Datum, times: &[u32], from: u32, values: &[i32], p: u32, n: u32) -> Rows
     requires { ⌜ (from ≤ 384) × (places-size ≤ length (now times)) × (p < column-end) × (values-size ≤ length (now values)) ⌝ }
     ensures { λ r. ⌜ r ≡ rows-of (compared-at eq (clocked (low .v) (now (times .entry)) from) (strip (now (values .entry)) p max-columns)) 0 n ⌝ }
 {
@@ -259,7 +259,7 @@ fn same_times(low: Value, times: &[u32], from: u32, values: &[i32], p: u32, n: u
 }
 
 // A weight where it is below the value, or 0.
-fn below_at(low: Value, times: &[u32], at: u32, column: &[i32], q: u32, w: u32) -> u32
+fn below_at(low: Datum, times: &[u32], at: u32, column: &[i32], q: u32, w: u32) -> u32
     requires { ⌜ at < length (now times) ⌝ }
     ensures { λ r. ⌜ r ≡ one (compares lt (later-of (low .v) (getD (now (times .entry)) at 0)) (getD (now (column .entry)) q (pos 0))) * w ⌝ }
 {
@@ -268,7 +268,7 @@ fn below_at(low: Value, times: &[u32], at: u32, column: &[i32], q: u32, w: u32) 
 
 // Of at most 128 rows those with such a time, by a column that begins at a place of the values.
 // Rows 32 apart are taken together, each with its own word.
-fn below_times(low: Value, times: &[u32], from: u32, values: &[i32], p: u32, n: u32) -> Rows
+fn below_times(low: Datum, times: &[u32], from: u32, values: &[i32], p: u32, n: u32) -> Rows
     requires { ⌜ (from ≤ 384) × (places-size ≤ length (now times)) × (p < column-end) × (values-size ≤ length (now values)) ⌝ }
     ensures { λ r. ⌜ r ≡ rows-of (compared-at lt (clocked (low .v) (now (times .entry)) from) (strip (now (values .entry)) p max-columns)) 0 n ⌝ }
 {
@@ -297,7 +297,7 @@ fn below_times(low: Value, times: &[u32], from: u32, values: &[i32], p: u32, n: 
 }
 
 // A weight where it is above the value, or 0.
-fn above_at(low: Value, times: &[u32], at: u32, column: &[i32], q: u32, w: u32) -> u32
+fn above_at(low: Datum, times: &[u32], at: u32, column: &[i32], q: u32, w: u32) -> u32
     requires { ⌜ at < length (now times) ⌝ }
     ensures { λ r. ⌜ r ≡ one (compares gt (later-of (low .v) (getD (now (times .entry)) at 0)) (getD (now (column .entry)) q (pos 0))) * w ⌝ }
 {
@@ -306,7 +306,7 @@ fn above_at(low: Value, times: &[u32], at: u32, column: &[i32], q: u32, w: u32) 
 
 // Of at most 128 rows those with such a time, by a column that begins at a place of the values.
 // Rows 32 apart are taken together, each with its own word.
-fn above_times(low: Value, times: &[u32], from: u32, values: &[i32], p: u32, n: u32) -> Rows
+fn above_times(low: Datum, times: &[u32], from: u32, values: &[i32], p: u32, n: u32) -> Rows
     requires { ⌜ (from ≤ 384) × (places-size ≤ length (now times)) × (p < column-end) × (values-size ≤ length (now values)) ⌝ }
     ensures { λ r. ⌜ r ≡ rows-of (compared-at gt (clocked (low .v) (now (times .entry)) from) (strip (now (values .entry)) p max-columns)) 0 n ⌝ }
 {
@@ -347,7 +347,7 @@ fn left_time(sc: Scope, times: &[u32]) -> u32
 }
 
 // The rows whose time compares so with a column, which begins at a place of the values.
-fn by_clock(head: u32, low: Value, times: &[u32], from: u32, values: &[i32], p: u32, n: u32) -> Rows
+fn by_clock(head: u32, low: Datum, times: &[u32], from: u32, values: &[i32], p: u32, n: u32) -> Rows
     requires { ⌜ (from ≤ 384) × (places-size ≤ length (now times)) × (p < column-end) × (values-size ≤ length (now values)) ⌝ }
     ensures { λ r. ⌜ r ≡ rows-of (relate head (clocked (low .v) (now (times .entry)) from) (strip (now (values .entry)) p max-columns)) 0 n ⌝ }
 {
@@ -370,12 +370,12 @@ fn by_clock(head: u32, low: Value, times: &[u32], from: u32, values: &[i32], p: 
 }
 
 // The rows whose time compares so with a value.
-fn by_time(head: u32, v: Value, sc: Scope, times: &[u32]) -> Rows
+fn by_time(head: u32, v: Datum, sc: Scope, times: &[u32]) -> Rows
     requires { ⌜ (sc .stream < max-streams) × (sc .rows ≤ max-rows) × (places-size ≤ length (now times)) ⌝ }
     ensures { λ x. ⌜ x ≡ rows-of (relate head (clock-at sc (now (times .entry))) (λ i. v .v)) 0 (sc .rows) ⌝ }
 {
     if v.v < 0 {
-        return settled(head, Value { v: 1 }, Value { v: 0 }, sc.rows);
+        return settled(head, Datum { v: 1 }, Datum { v: 0 }, sc.rows);
     }
     let t = v.v as u32;
     if head == 1 {
@@ -402,7 +402,7 @@ fn by_times(
     head: u32,
     kind: u32,
     at: u32,
-    v: Value,
+    v: Datum,
     stream: u32,
     n: u32,
     fixed: u32,
@@ -421,11 +421,11 @@ fn by_times(
         breadth: 0,
     };
     if kind == Origin::COLUMN {
-        let low = clock(Value { v: 0 }, left_time(sc, times));
+        let low = clock(Datum { v: 0 }, left_time(sc, times));
         return by_clock(head, low, times, stream * Scope::ROWS, values, at, n);
     }
     if kind == Origin::TIME {
-        return settled(head, Value { v: 0 }, Value { v: 0 }, n);
+        return settled(head, Datum { v: 0 }, Datum { v: 0 }, n);
     }
     by_time(head, v, sc, times)
 }
@@ -436,7 +436,7 @@ fn compared(head: u32, l: Origin, r: Origin, sc: Scope, times: &[u32], values: &
     ensures { λ x. ⌜ x ≡ rows-of (relate head (side-value l sc (now (times .entry)) (now (values .entry))) (side-value r sc (now (times .entry)) (now (values .entry)))) 0 (sc .rows) ⌝ }
 {
     if l.kind == Origin::TIME {
-        let v = Value { v: r.value };
+        let v = Datum { v: r.value };
         return by_times(
             head,
             r.kind,
@@ -450,7 +450,7 @@ fn compared(head: u32, l: Origin, r: Origin, sc: Scope, times: &[u32], values: &
         );
     }
     if r.kind == Origin::TIME {
-        let v = Value { v: l.value };
+        let v = Datum { v: l.value };
         return by_times(
             turned(head),
             l.kind,
@@ -467,12 +467,12 @@ fn compared(head: u32, l: Origin, r: Origin, sc: Scope, times: &[u32], values: &
         if r.kind == Origin::COLUMN {
             return related(head, values, l.at, r.at, sc.rows);
         }
-        return by_value(head, values, l.at, Value { v: r.value }, sc.rows);
+        return by_value(head, values, l.at, Datum { v: r.value }, sc.rows);
     }
     if r.kind == Origin::COLUMN {
-        return by_value(turned(head), values, r.at, Value { v: l.value }, sc.rows);
+        return by_value(turned(head), values, r.at, Datum { v: l.value }, sc.rows);
     }
-    settled(head, Value { v: l.value }, Value { v: r.value }, sc.rows)
+    settled(head, Datum { v: l.value }, Datum { v: r.value }, sc.rows)
 }
 
 // ---- the sides of a comparison
@@ -608,7 +608,7 @@ fn compare_node(n: Node, sc: Scope, profile: &[u64], times: &[u32], values: &[i3
     ensures { λ r. ⌜ r ≡ passing sc (now (times .entry)) (now (values .entry)) (now (profile .entry)) (test (node-compare n)) ⌝ }
 {
     if is_wide(n) {
-        return settled(n.head, Value { v: 1 }, Value { v: 0 }, sc.rows);
+        return settled(n.head, Datum { v: 1 }, Datum { v: 0 }, sc.rows);
     }
     let l = side_of(n.left, n.value, sc, profile, values);
     let r = side_of(n.right, n.value, sc, profile, values);
