@@ -34,7 +34,7 @@ same-length-2 : tie.Need-same-length-2 Inv-loop μ-loop
 same-length-2 c = ap length (c .before .before .before .before .loop .inv .1)
 
 returns : tie.Need-returns Inv-loop μ-loop
-returns c = (c .before .before .before .before .loop .inv .1, count-past _ _ _ (c .before .before .before .before .before .before .before .before .before .before .before .pre .0) (c .before .before .before .before .loop .i) (c .before .before .before .before .loop .inv .2 (c .before .before .if1 .taken)) (c .if2 .taken), c .before .before .before .before .loop .inv .4)
+returns c = (c .before .before .before .before .before .loop .inv .1, c .fit .ensures .0 ∙ count-past _ _ _ (c .before .before .before .before .before .before .before .before .before .before .before .before .pre .0) (c .before .before .before .before .before .loop .i) (c .before .before .before .before .before .loop .inv .2 (c .before .before .before .if1 .taken)) (c .before .if2 .taken), rw (c .fit .ensures .1) (c .before .before .before .before .before .loop .inv .4))
 
 sub-if3 : tie.Need-sub-if3 Inv-loop μ-loop
 sub-if3 c = search needs
