@@ -7,7 +7,7 @@ use native.Mathlib.Decide.{decLt}
 use native.Mathlib.Omega.{arith}
 use lib.IntN.{ℤ, pos, negsuc}
 use lib.Signed.{leZ}
-use lib.ListN.{length, getD, List·getD-eq-default}
+use lib.ListN.{getD}
 use lib.Dec.{T, leb, eqb}
 use borrow.Author.Tests.{ne-eqb, lt-ltb, lt-leb, le-leb, eqb-true, eqb-false}
 use Rattle.lists.specs.Lists.{every, some?, empty?}
@@ -30,9 +30,6 @@ use Rattle.selection.specs.Scopes.{cond-at, scope-columns, scope-row, pr
 use Rattle.selection.specs.Evaluating.{narrow, Taken, list-at, lists, Listed, Carried, Leads, test-at, passing, all-passing, any-passing, list-passing, start-of, joined-of}
 
 -- ---- words and nodes
-
-pub word-past : (ws : List ℕ) (i : ℕ) → length ws ≤ i → 0 ≡ getD ws i 0
-word-past ws i h = sym (List·getD-eq-default ws 0 {n = i} h)
 
 narrow-small : (w v : ℕ) {r : Node} → v < 4294967296 → r ≡ node-of w v → T (narrow r)
 unfolding narrow node-of

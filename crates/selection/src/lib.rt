@@ -13,7 +13,7 @@ ghost use Rattle.model.specs.Meaning.{compares};
 ghost use Rattle.model.specs.Grants.{entry-value, fill-term, fill};
 ghost use Rattle.text.specs.Words.{name-of};
 ghost use Rattle.ledger.specs.Records.{places-size, values-size};
-ghost use Rattle.nodes.specs.Nodes.{unbiased, coded-term, numbered-op, node-of, node-at, node-compare, link, conditions-of};
+ghost use Rattle.nodes.specs.Nodes.{unbiased, coded-term, numbered-op, node-at, node-compare, link, conditions-of};
 ghost use Rattle.rows.specs.Masks.{one, bits, part, rows-of};
 ghost use Rattle.column_masks.specs.Columns.{strip, strip-lent, compared-at};
 ghost use Rattle.selection.specs.Scopes.{times-fit, scope-fits, profile-in, cond-at, selected, selected-all, timely};
@@ -62,6 +62,13 @@ struct Origin {
 struct Reached {
     rows: Rows,
     at: u32,
+}
+
+// Conditions that are joined: those that end at a place and before it, down to a stop; by `or`, or by `and`.
+struct Walk {
+    stop: u32,
+    at: u32,
+    any: bool,
 }
 
 impl Origin {
@@ -617,16 +624,6 @@ fn compare_node(n: Node, sc: Scope, profile: &[u64], times: &[u32], values: &[i3
 
 // ---- nodes
 
-// The word at a place, or 0 where there is none.
-fn word(words: &[u32], i: u32) -> u32
-    ensures { λ r. ⌜ r ≡ getD (now (words .entry)) i 0 ⌝ }
-{
-    if words.len() <= i as usize {
-        return 0;
-    }
-    words[i as usize]
-}
-
 // Some places before another, or the first.
 fn back(k: u32, d: u32) -> u32
     ensures { λ r. ⌜ r ≡ k - d ⌝ }
@@ -637,42 +634,28 @@ fn back(k: u32, d: u32) -> u32
     k - d
 }
 
-// A value of its two halves.
-fn halves(low: u32, high: u32) -> u64
-    ensures { λ r. ⌜ r ≡ low + high * 4294967296 ⌝ }
-{
-    low as u64 + high as u64 * 4294967296
-}
-
-// A node of its head's word and its value.
-fn unpacked(w: u32, value: u64) -> Node
-    ensures { λ r. ⌜ r ≡ node-of w value ⌝ }
-{
-    Node {
-        head: w % 256,
-        left: w / 256 % 256,
-        right: w / 65536 % 256,
-        before: w / 16777216,
-        value: value,
-    }
-}
-
 // The node that ends at a place, whatever is lent.
 fn node_of(words: &[u32], k: u32) -> Node
     ensures { λ r. ⌜ Taken (now (words .entry)) k r ⌝ }
 {
     if k == 0 {
-        return unpacked(0, 0);
+        return nodes::unpacked(0, 0);
     }
-    let w = word(words, k - 1);
+    let w = places::word_at(words, k - 1);
     let right = w / 65536 % 256;
     if right == Term::NUMBER {
-        return unpacked(w, word(words, back(k, 2)) as u64);
+        return nodes::unpacked(w, places::word_at(words, back(k, 2)) as u64);
     }
     if right == Term::ENTRY {
-        return unpacked(w, halves(word(words, back(k, 3)), word(words, back(k, 2))));
+        return nodes::unpacked(
+            w,
+            nodes::joined(
+                places::word_at(words, back(k, 3)),
+                places::word_at(words, back(k, 2)),
+            ),
+        );
     }
-    unpacked(w, 0)
+    nodes::unpacked(w, 0)
 }
 
 // The head of the node that ends at a place.
@@ -682,7 +665,7 @@ fn head_of(words: &[u32], k: u32) -> u32
     if k == 0 {
         return 0;
     }
-    word(words, k - 1) % 256
+    places::word_at(words, k - 1) % 256
 }
 
 // How many words stand before those of the condition that ends at a place.
@@ -692,7 +675,7 @@ fn link_at(words: &[u32], k: u32) -> u32
     if k == 0 {
         return 0;
     }
-    let b = word(words, k - 1) / 16777216;
+    let b = places::word_at(words, k - 1) / 16777216;
     if k - 1 < b {
         return k - 1;
     }
@@ -762,13 +745,11 @@ fn is_list(words: &[u32], k: u32) -> bool
     head <= Node::NOT
 }
 
-// The rows so far, with the comparisons that end at place j and before it joined, down to a stop or to a list; and where that is.
+// The rows so far, with the comparisons of a walk joined, down to its stop or to a list; and where that is.
 // A comparison is made here alone, so that what all of them use is read once.
 fn leaves(
     words: &[u32],
-    stop: u32,
-    j: u32,
-    any: bool,
+    walk: Walk,
     start: Rows,
     sc: Scope,
     profile: &[u64],
@@ -776,10 +757,12 @@ fn leaves(
     values: &[i32],
 ) -> Reached
     requires { ⌜ Lent sc (now times) (now values) ⌝ }
-    ensures { λ r. ⌜ Carried (now (words .entry)) stop j any sc (now (times .entry)) (now (values .entry)) (now (profile .entry)) start (r .at) (r .rows) × (stop < r .at → lists (now (words .entry)) (r .at) ≡ true) ⌝ }
+    ensures { λ r. ⌜ Carried (now (words .entry)) (walk .stop) (walk .at) (walk .any) sc (now (times .entry)) (now (values .entry)) (now (profile .entry)) start (r .at) (r .rows) × (walk .stop < r .at → lists (now (words .entry)) (r .at) ≡ true) ⌝ }
 {
+    let stop = walk.stop;
+    let any = walk.any;
     let mut m = start;
-    let mut at = j;
+    let mut at = walk.at;
     while stop < at {
         if is_list(words, at) {
             return Reached { rows: m, at: at };
@@ -800,7 +783,12 @@ fn leaf(words: &[u32], k: u32, sc: Scope, profile: &[u64], times: &[u32], values
     if k == 0 {
         return all;
     }
-    let w = leaves(words, k - 1, k, false, all, sc, profile, times, values);
+    let one = Walk {
+        stop: k - 1,
+        at: k,
+        any: false,
+    };
+    let w = leaves(words, one, all, sc, profile, times, values);
     w.rows
 }
 
@@ -824,36 +812,37 @@ fn eval(words: &[u32], k: u32, sc: Scope, profile: &[u64], times: &[u32], values
     if k - 1 <= stop {
         return eval(words, 0, sc, profile, times, values);
     }
-    list(
-        words,
-        stop,
-        k - 1,
-        head == Node::OR,
-        sc,
-        profile,
-        times,
-        values,
-    )
+    let walk = Walk {
+        stop: stop,
+        at: k - 1,
+        any: head == Node::OR,
+    };
+    list(words, walk, sc, profile, times, values)
 }
 
-// The rows that all or any hold of the conditions that end at place j and before it, down to a stop.
+// The rows that all or any of the conditions of a walk hold of.
 fn list(
     words: &[u32],
-    stop: u32,
-    j: u32,
-    any: bool,
+    walk: Walk,
     sc: Scope,
     profile: &[u64],
     times: &[u32],
     values: &[i32],
 ) -> Rows
     requires { ⌜ Lent sc (now times) (now values) ⌝ }
-    ensures { λ r. ⌜ r ≡ list-passing any sc (now (times .entry)) (now (values .entry)) (now (profile .entry)) (list-at (now (words .entry)) stop j) ⌝ }
+    ensures { λ r. ⌜ r ≡ list-passing (walk .any) sc (now (times .entry)) (now (values .entry)) (now (profile .entry)) (list-at (now (words .entry)) (walk .stop) (walk .at)) ⌝ }
 {
+    let stop = walk.stop;
+    let any = walk.any;
     let mut m = started(any, sc.rows);
-    let mut at = j;
+    let mut at = walk.at;
     while stop < at {
-        let w = leaves(words, stop, at, any, m, sc, profile, times, values);
+        let rest = Walk {
+            stop: stop,
+            at: at,
+            any: any,
+        };
+        let w = leaves(words, rest, m, sc, profile, times, values);
         let k = w.at;
         if k <= stop {
             return w.rows;
@@ -921,7 +910,12 @@ pub fn conditions(
     if !fits(scope, times, values) {
         return Rows::none();
     }
-    list(words, 0, n, false, scope, profile, times, values)
+    let walk = Walk {
+        stop: 0,
+        at: n,
+        any: false,
+    };
+    list(words, walk, scope, profile, times, values)
 }
 
 // ---- times

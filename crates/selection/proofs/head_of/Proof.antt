@@ -9,9 +9,9 @@ head-of-spec =
     (tie.spec
     {- returns -}
     (λ c. search (head-ends, needs))
-    {- sub-word -}
+    {- sub-word-at -}
     (λ c. search needs)
-    {- word-requires -}
+    {- word-at-requires -}
     (λ c κs. search needs)
     {- returns-2 -}
     (λ c. search (head-ends, needs)))

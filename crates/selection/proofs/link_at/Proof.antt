@@ -9,9 +9,9 @@ link-at-spec =
     (tie.spec
     {- returns -}
     (λ c. search (link-ends, needs))
-    {- sub-word -}
+    {- sub-word-at -}
     (λ c. search needs)
-    {- word-requires -}
+    {- word-at-requires -}
     (λ c κs. search needs)
     {- sub-if2 -}
     (λ c. search needs)

@@ -11,13 +11,13 @@ node-of-spec =
     (λ c κs. search needs)
     {- returns -}
     (λ c. search (taken-ends, needs))
-    {- sub-word -}
+    {- sub-word-at -}
     (λ c. search needs)
-    {- word-requires -}
+    {- word-at-requires -}
     (λ c κs. search needs)
     {- back-requires -}
     (λ c κs. search needs)
-    {- word-requires-2 -}
+    {- word-at-requires-2 -}
     (λ c κs. search needs)
     {- cast-unpacked -}
     (λ c. search needs)
@@ -27,13 +27,13 @@ node-of-spec =
     (λ c. search (taken-ends, needs))
     {- back-requires-2 -}
     (λ c κs. search needs)
-    {- word-requires-3 -}
+    {- word-at-requires-3 -}
     (λ c κs. search needs)
     {- back-requires-3 -}
     (λ c κs. search needs)
-    {- word-requires-4 -}
+    {- word-at-requires-4 -}
     (λ c κs. search needs)
-    {- halves-requires -}
+    {- joined-requires -}
     (λ c κs. search needs)
     {- unpacked-requires-3 -}
     (λ c κs. search needs)
