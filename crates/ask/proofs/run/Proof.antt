@@ -28,7 +28,7 @@ most-cells-requires : tie.Need-most-cells-requires
 most-cells-requires c κs = search needs
 
 serve-requires : tie.Need-serve-requires
-serve-requires c κs = record { ready = c .before .before .before .before .before .before .before .before .before .before .before .before .pre; listed = c .before .before .before .before .before .before .routes .ensures; some = c .before .before .before .before .if1 .left; few = c .before .before .if2 .left; each = c .most-cells .ensures; all = c .before .least .ensures }
+serve-requires c κs = record { ready = c .before .before .before .before .before .before .before .before .before .before .before .before .before .pre; listed = c .before .before .before .before .before .before .before .routes .ensures; some = c .before .before .before .before .before .if1 .left; few = c .before .before .before .if2 .left; each = c .before .most-cells .ensures; all = c .before .before .least .ensures }
 
 same-length : tie.Need-same-length
 same-length c = search needs
