@@ -1,3 +1,4 @@
+pub mod Examples
 pub mod Written
 pub mod Order
 pub mod Accepted

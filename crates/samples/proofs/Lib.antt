@@ -1,4 +1,3 @@
-pub mod Examples
 pub mod Samples
 pub mod Transcripts
 pub mod FormSamples
