@@ -2,7 +2,7 @@
 use mathlib.Core.Path.{_≡_}
 use mathlib.Core.List.{List, [], _∷_}
 use mathlib.Core.Bool.{cond}
-use Prim.Native.Nat.{ℕ, suc, _+_, _*_, _/_, _≤_, _<_}
+use Prim.Native.Nat.{ℕ, suc, _+_, _*_, _/_, _≤_, _<_, min}
 use lib.IntN.{ℤ, pos}
 use lib.Dec.{eqb, leb, ltb}
 use lib.ListN.{length}
@@ -81,3 +81,12 @@ pub record Ready (s : Setting) (o : Open) (n : Needs) : Type 0 where
   pub spans : (n .aggregate ≡ 0 → ⊥) → 1 ≤ n .offset
   pub each : All (λ (x : Route). Evaluable s (most-cells n (s .memory .names) (s .memory .ledger)) (way-of o n x)) (routes-in o n)
   pub small : All (λ (x : Route). length (way-cells s (way-of o n x)) ≤ most-a-route) (routes-in o n)
+
+-- the same, its routes neither none nor too many, with what the cells of a route can be at most and the room for all of them
+pub record Countable (s : Setting) (o : Open) (n : Needs) (r : Routes) (most room size : ℕ) : Type 0 where
+  pub ready : Ready s o n
+  pub listed : r ≡ routes-of (routes-in o n)
+  pub some : r .count ≡ 0 → ⊥
+  pub few : r .count ≤ max-routes
+  pub each : (most ≡ most-cells n (s .memory .names) (s .memory .ledger)) × (most ≤ room-end)
+  pub all : room ≡ min size room-end

@@ -95,7 +95,13 @@ fn after(f: Form, g: Restriction, next: Restriction) -> Restriction
 
 // Returns how many forms the rewritten query of a route has with a grant for each stream, the first stream's and that of the stream after it.
 // Leaves the forms in the words from the first on, and all else as it was.
-pub fn sides(q: Query, names: &[u64], first: Restriction, second: Restriction, table: &mut [u32]) -> u32
+pub fn sides(
+    q: Query,
+    names: &[u64],
+    first: Restriction,
+    second: Restriction,
+    table: &mut [u32],
+) -> u32
     ensures { λ r. ⌜ held (now (table .exit)) r ≡ rewritten-table (now (table .entry)) (side-forms (now (names .entry)) first second (query-forms q)) ⌝ }
 {
     let n = q.count();

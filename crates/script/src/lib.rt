@@ -322,7 +322,7 @@ fn lined(
 {
     let t = query_text::read_line(line, names);
     let x = opened(grants, n, query_text::asks(t), names, words, who);
-    ask::routed(t, x, l, names, times, values, words, who, bytes)
+    ask::lined(t, x, l, names, times, values, words, who, t.number, bytes)
 }
 
 // Does one line of a script, with memory lent for the record, for the words of the grants' conditions, and for what an `ask` and a `line` write.

@@ -28,13 +28,13 @@ loop-holds : tie.Need-loop-holds Inv-loop μ-loop
 loop-holds c = let x = count-start _ _ _ (c .before .before .before .before .before .before .pre .0) in (omega arith, refl, x .0, x .1, keep-none _ _ _ (c .before .before .before .before .before .before .pre .0) (c .before .before .before .before .before .before .pre .1), refl)
 
 same-length : tie.Need-same-length Inv-loop μ-loop
-same-length c = c .before .before .before .before .loop .inv .5
+same-length c = c .before .before .before .before .before .loop .inv .5
 
 same-length-2 : tie.Need-same-length-2 Inv-loop μ-loop
-same-length-2 c = ap length (c .before .before .before .before .loop .inv .1)
+same-length-2 c = ap length (c .before .before .before .before .before .loop .inv .1)
 
 returns : tie.Need-returns Inv-loop μ-loop
-returns c = (c .before .before .before .before .loop .inv .1, count-past _ _ _ (c .before .before .before .before .before .before .before .before .before .before .before .pre .0) (c .before .before .before .before .loop .i) (c .before .before .before .before .loop .inv .2 (c .before .before .if1 .taken)) (c .if2 .taken), c .before .before .before .before .loop .inv .4)
+returns c = (c .before .before .before .before .before .loop .inv .1, c .settled .ensures .0 ∙ count-past _ _ _ (c .before .before .before .before .before .before .before .before .before .before .before .before .pre .0) (c .before .before .before .before .before .loop .i) (c .before .before .before .before .before .loop .inv .2 (c .before .before .before .if1 .taken)) (c .before .if2 .taken), rw (c .settled .ensures .1) (c .before .before .before .before .before .loop .inv .4))
 
 sub-if3 : tie.Need-sub-if3 Inv-loop μ-loop
 sub-if3 c = search needs
@@ -49,13 +49,13 @@ add-if3-2 : tie.Need-add-if3-2 Inv-loop μ-loop
 add-if3-2 c = sum-fits _ _ _ (c .before .before .before .before .before .before .before .before .before .before .before .before .before .pre .0) (c .before .before .before .before .before .before .loop .i) (c .before .before .if2 .left)
 
 same-length-3 : tie.Need-same-length-3 Inv-loop μ-loop
-same-length-3 c = c .before .before .before .before .before .before .before .before .loop .inv .5
+same-length-3 c = c .before .before .before .before .before .before .before .before .before .loop .inv .5
 
 same-length-4 : tie.Need-same-length-4 Inv-loop μ-loop
-same-length-4 c = ap length (c .before .before .before .before .before .before .before .before .loop .inv .1)
+same-length-4 c = ap length (c .before .before .before .before .before .before .before .before .before .loop .inv .1)
 
 returns-2 : tie.Need-returns-2 Inv-loop μ-loop
-returns-2 c = (c .before .before .before .before .before .before .before .before .loop .inv .1, count-sure _ _ _ (c .before .before .before .before .before .before .before .before .before .before .before .before .before .before .before .pre .0) (c .before .before .before .before .before .before .if1 .taken) refl refl (c .before .before .before .before .before .before .before .before .loop .inv .2 (c .before .before .before .before .before .before .if1 .taken)) (c .before .before .before .before .if2 .left) (c .if3 .taken), c .before .before .before .before .before .before .before .before .loop .inv .4)
+returns-2 c = (c .before .before .before .before .before .before .before .before .before .loop .inv .1, c .settled2 .ensures .0 ∙ count-sure _ _ _ (c .before .before .before .before .before .before .before .before .before .before .before .before .before .before .before .before .pre .0) (c .before .before .before .before .before .before .before .if1 .taken) refl refl (c .before .before .before .before .before .before .before .before .before .loop .inv .2 (c .before .before .before .before .before .before .before .if1 .taken)) (c .before .before .before .before .before .if2 .left) (c .before .if3 .taken), rw (c .settled2 .ensures .1) (c .before .before .before .before .before .before .before .before .before .loop .inv .4))
 
 route-requires : tie.Need-route-requires Inv-loop μ-loop
 route-requires c κs = search needs
@@ -102,6 +102,8 @@ fits-spec =
     Inv-loop
     μ-loop
     loop-holds
+    {- settled-requires -}
+    (λ c κs. search needs)
     same-length
     same-length-2
     returns
@@ -109,6 +111,8 @@ fits-spec =
     add-if3
     mul-if3
     add-if3-2
+    {- settled-requires-2 -}
+    (λ c κs. search needs)
     same-length-3
     same-length-4
     returns-2
