@@ -20,7 +20,9 @@ use Rattle.cells.specs.Cells.{room-for}
 use Rattle.cells.proofs.Stored.{sets-append}
 use Rattle.rows.specs.declared.Rows.{Rows}
 use Rattle.plan.specs.declared.Plan.{Plan}
-use Rattle.sides.specs.Sides.{words-of, left-mask, right-mask}
+use Rattle.selection.specs.declared.Scope.{Scope}
+use Rattle.sides.specs.Sides.{stream-scope, words-of, left-in, left-mask, right-mask}
+use Rattle.sides.proofs.Masks.{left-of-stream}
 use Rattle.pairs.specs.Given.{Masked, plan-rows, Counted}
 use Rattle.answer.specs.Given.{MostGiven}
 use Rattle.ledger.specs.Records.{Memory}
@@ -29,6 +31,7 @@ use Rattle.query.specs.declared.Form.{Form}
 use Rattle.route_plan.specs.Ways.{way-plan}
 use Rattle.route_plan.specs.declared.Way.{Way}
 use Rattle.route_plan.specs.Suits.{Suits}
+use Rattle.route_rows.specs.declared.Aim.{Aim}
 use Rattle.route_rows.specs.Rows.{plan-width, Gives}
 use Rattle.route_cells.specs.Kept.{Keepable, Keeping}
 use Rattle.route_cells.specs.Routes.{Setting, plan-of, left-of, way-rows, way-header, way-cells, Bounds, Enterable, Turns}
@@ -66,17 +69,17 @@ sets-before cells at k xs ys e = sets-past cells at k xs ys (omega arith) ∙ ap
 
 -- ---- a place that the cells of a route do not go past
 
-module _ (l : Ledger) (ns : List ℕ) (vs : List ℤ) (p : Plan) (w : ℕ) (lefts rights : Rows) (at room : ℕ) where
-  pub bound-made : {n : ℕ} → p .joined ≡ true → p .number ≡ 0 → MostGiven l ns vs p lefts rights n → Bounds l ns vs p w lefts rights at room (at + 4 + n * w)
+module _ (l : Ledger) (ns : List ℕ) (vs : List ℤ) (p : Plan) (lefts rights : Rows) (aim : Aim) where
+  pub bound-made : {n : ℕ} → p .joined ≡ true → p .number ≡ 0 → MostGiven l ns vs p lefts rights n → Bounds l ns vs p lefts rights aim (aim .at + n * aim .width)
   bound-made j e g =
       record {
         enough = λ h ts ws gs ps s k.
             let m : Memory = record { ledger = l; names = ns; times = ts; values = vs } in
-            let a = mul-le-mul {m₁ = w} (g .shown ts ws gs ps j (fit m ws gs ps p s e) k) (le-refl w) in
+            let a = mul-le-mul {m₁ = aim .width} (g .shown ts ws gs ps j (fit m ws gs ps p s e) k) (le-refl (aim .width)) in
             omega arith;
       }
 
-  pub bound-none : Bounds l ns vs p w lefts rights at room (room + 1)
+  pub bound-none : Bounds l ns vs p lefts rights aim (aim .room + 1)
   bound-none = record { enough = λ h. absurd (omega arith) }
 
 pub bound-small : {n w : ℕ} → n ≤ 16384 → w ≤ 25 → n * w ≤ 409600
@@ -100,20 +103,24 @@ module _ (m : Memory) (own gs ps : List ℕ) (fs : List Form) (y : Way) (write :
       → Suits m q × Masked m own gs ps q lefts rights
   rows-ready a b = (rw f (e .suits), record { left = a; right = λ j. b })
 
-  pub left-ready : {i : ℕ} {known : Bool} {ks : List ℕ} → Keepable (left-of (record { memory = m; own = own; granted = gs; profile = ps; forms = fs }) y) i known ks → Keepable (left-mask m (words-of own gs ps) q) i known ks
-  left-ready k = rw f k
+  pub left-ready : {sc : Scope} → sc ≡ stream-scope (m .ledger) (m .names) (q .left) → {i : ℕ} {known : Bool} {ks : List ℕ} → Keepable (left-of (record { memory = m; own = own; granted = gs; profile = ps; forms = fs }) y) i known ks
+      → Keepable (left-in sc (m .times) (m .values) (words-of own gs ps) q) i known ks
+  left-ready a {i} {known} {ks} k = subst (λ x. Keepable x i known ks) (sym (left-of-stream m (words-of own gs ps) q a refl ∙ ap (left-mask m (words-of own gs ps)) f)) k
 
   pub left-kept : {lefts : Rows} → lefts ≡ left-mask m (words-of own gs ps) q → {i : ℕ} {ks ks′ : List ℕ} → Keeping lefts i ks ks′ → Keeping (left-of (record { memory = m; own = own; granted = gs; profile = ps; forms = fs }) y) i ks ks′
   left-kept a {i} {ks} {ks′} k = subst (λ x. Keeping x i ks ks′) (a ∙ ap (left-mask m (words-of own gs ps)) f) k
 
   module _ {w : ℕ} (g : w ≡ plan-width q) where
-    pub bound-ready : (q .number ≡ 0 → w ≤ 25) × (at ≤ room) × (room ≤ 67108864)
-    bound-ready = (λ z. let a = width-any m own gs ps q (rw f (e .suits)) z in omega arith, e .from, e .near)
+    pub bound-ready : (q .number ≡ 0 → w ≤ 25) × (at + 4 ≤ room + 4) × (room ≤ 67108864)
+    bound-ready = (λ z. let a = width-any m own gs ps q (rw f (e .suits)) z in omega arith, let a = e .from in omega arith, e .near)
 
-    module _ {last : Bool} {lefts rights : Rows} {r : ℕ} (a : lefts ≡ left-mask m (words-of own gs ps) q) (b : rights ≡ right-mask m (words-of own gs ps) q) (k : Bounds (m .ledger) (m .names) (m .values) q w lefts rights at room r) (h : r ≤ room) (d : last ≡ true) where
+    module _ {last : Bool} {lefts rights : Rows} {r : ℕ} (a : lefts ≡ left-mask m (words-of own gs ps) q) (b : rights ≡ right-mask m (words-of own gs ps) q) (k : Bounds (m .ledger) (m .names) (m .values) q lefts rights (record { write = write; at = at + 4; room = room; width = w }) r) (h : r ≤ room) (d : last ≡ true) where
       within : at + length (way-cells s y) ≤ r
       unfolding way-rows
-      within = let x = rows-ready a b in rw (way-long s y (e .suits), sym f, sym g) (k .enough h (m .times) own gs ps (x .0) (x .1))
+      within =
+          let x = rows-ready a b in
+          let z = k .enough h (m .times) own gs ps (x .0) (x .1) in
+          rw (way-long s y (e .suits), sym f, sym g) (omega arith)
 
       pub route-bounded : Turns (record { memory = m; own = own; granted = gs; profile = ps; forms = fs }) y write last at room cells cells r
       route-bounded =

@@ -21,6 +21,7 @@ use Rattle.pairs.specs.Given.{Masked, plan-rows, Counted}
 use Rattle.route_plan.specs.Ways.{way-plan}
 use Rattle.route_plan.specs.declared.Way.{Way}
 use Rattle.route_plan.specs.Suits.{Suits}
+use Rattle.route_rows.specs.declared.Aim.{Aim}
 use Rattle.route_rows.specs.Rows.{room-end, plan-width}
 
 -- what routes are evaluated over: the record, the words of the query and of the grants, the profile, and the query's forms
@@ -64,7 +65,7 @@ pub record Turns (s : Setting) (y : Way) (write last : Bool) (at room : ℕ) (ce
   pub counted : write ≡ false → (cells′ ≡ cells) × (last ≡ false → Counted (at + length (way-cells s y)) room r) × (leb r room ≡ leb (at + length (way-cells s y)) room)
   pub written : write ≡ true → last ≡ false → (cells′ ≡ sets cells at (way-cells s y)) × (r ≡ at + length (way-cells s y))
 
--- the cells of a plan's rows, with the header before them, do not go past a place, where that is in the room
-pub record Bounds (l : Ledger) (ns : List ℕ) (vs : List ℤ) (p : Plan) (w : ℕ) (lefts rights : Rows) (at room r : ℕ) : Type 0 where
-  pub enough : r ≤ room → (ts ws gs ps : List ℕ) → Suits (record { ledger = l; names = ns; times = ts; values = vs }) p → Masked (record { ledger = l; names = ns; times = ts; values = vs }) ws gs ps p lefts rights
-      → at + (4 + length (plan-rows (record { ledger = l; names = ns; times = ts; values = vs }) ws gs ps p) * w) ≤ r
+-- the cells of a plan's rows, from the place on where they are wanted, do not go past another, where that is in the room
+pub record Bounds (l : Ledger) (ns : List ℕ) (vs : List ℤ) (p : Plan) (lefts rights : Rows) (aim : Aim) (r : ℕ) : Type 0 where
+  pub enough : r ≤ aim .room → (ts ws gs ps : List ℕ) → Suits (record { ledger = l; names = ns; times = ts; values = vs }) p → Masked (record { ledger = l; names = ns; times = ts; values = vs }) ws gs ps p lefts rights
+      → aim .at + length (plan-rows (record { ledger = l; names = ns; times = ts; values = vs }) ws gs ps p) * aim .width ≤ r

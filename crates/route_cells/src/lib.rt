@@ -6,7 +6,7 @@ ghost use lib.ListN.{length, set};
 ghost use lib.Seq.{sets};
 ghost use Rattle.syntax.specs.Limits.{max-routes};
 ghost use Rattle.query.specs.Tables.{query-forms};
-ghost use Rattle.sides.specs.Sides.{words-of, left-mask};
+ghost use Rattle.sides.specs.Sides.{words-of, left-in};
 ghost use Rattle.pairs.specs.Given.{Counted};
 ghost use Rattle.route_rows.specs.Rows.{room-end, most-width};
 ghost use Rattle.route_cells.specs.Kept.{kept-size, kept-at, words-in, Keepable, Keeping};
@@ -19,6 +19,7 @@ use route_plan::Way;
 use route_rows::Aim;
 use routes::Route;
 use rows::Rows;
+use selection::Scope;
 
 // Cells of the header of a route.
 pub const HEADER: u32 = 4;
@@ -108,12 +109,11 @@ pub struct Turn {
     pub room: u32,
 }
 
-// The rows of the left stream of the plan of the route in a place: as they were kept where they are known, or selected and kept.
+// The rows of a scope that the plan of the route in a place asks of its left stream: as they were kept where they are known, or selected and kept.
 fn left_rows(
     p: Plan,
     turn: Turn,
-    l: Ledger,
-    names: &[u64],
+    sc: Scope,
     times: &[u32],
     values: &[i32],
     words: &[u32],
@@ -121,38 +121,37 @@ fn left_rows(
     profile: &[u64],
     kept: &mut [u32],
 ) -> Rows
-    requires { ⌜ Keepable (left-mask (record { ledger = l; names = now names; times = now times; values = now values }) (words-of (now words) (now granted) (now profile)) p) (turn .place) (turn .known) (now kept) ⌝ }
-    ensures { λ r. ⌜ (r ≡ left-mask (record { ledger = l; names = now (names .entry); times = now (times .entry); values = now (values .entry) }) (words-of (now (words .entry)) (now (granted .entry)) (now (profile .entry))) p) × Keeping r (turn .place) (now (kept .entry)) (now (kept .exit)) ⌝ }
+    requires { ⌜ Keepable (left-in sc (now times) (now values) (words-of (now words) (now granted) (now profile)) p) (turn .place) (turn .known) (now kept) ⌝ }
+    ensures { λ r. ⌜ (r ≡ left-in sc (now (times .entry)) (now (values .entry)) (words-of (now (words .entry)) (now (granted .entry)) (now (profile .entry))) p) × Keeping r (turn .place) (now (kept .entry)) (now (kept .exit)) ⌝ }
 {
     if turn.known {
         return kept_rows(kept, turn.place);
     }
-    let m = sides::left(p, l, names, times, values, words, granted, profile);
+    let m = sides::left(p, sc, times, values, words, granted, profile);
     keep_rows(kept, turn.place, m);
     m
 }
 
-// A place that the cells of a route, with rows of a width, do not go past, where it is known without a look for pairs; past the room where it is not.
+// A place that the cells of a plan's rows, as they are wanted, do not go past, where it is known without a look for pairs; past the room where it is not.
 fn bound(
     p: Plan,
-    w: u32,
     lefts: Rows,
     rights: Rows,
     l: Ledger,
     names: &[u64],
     values: &[i32],
-    turn: Turn,
+    aim: Aim,
 ) -> u32
-    requires { ⌜ (p .number ≡ 0 → w ≤ most-width) × (turn .at ≤ turn .room) × (turn .room ≤ room-end) ⌝ }
-    ensures { λ r. ⌜ Bounds l (now (names .entry)) (now (values .entry)) p w lefts rights (turn .at) (turn .room) r ⌝ }
+    requires { ⌜ (p .number ≡ 0 → aim .width ≤ most-width) × (aim .at ≤ aim .room + 4) × (aim .room ≤ room-end) ⌝ }
+    ensures { λ r. ⌜ Bounds l (now (names .entry)) (now (values .entry)) p lefts rights aim r ⌝ }
 {
     if p.joined {
         if p.number == 0 {
             let n = answer::most_pairs(p, lefts, rights, l, names, values);
-            return turn.at + HEADER + n * w;
+            return aim.at + n * aim.width;
         }
     }
-    turn.room + 1
+    aim.room + 1
 }
 
 // The place after the cells of a route, as wanted: past the room where they are counted and have none.
@@ -175,32 +174,23 @@ pub fn enter(
     ensures { λ r. ⌜ Turns (record { memory = record { ledger = l; names = now (names .entry); times = now (times .entry); values = now (values .entry) }; own = now (words .entry); granted = now (granted .entry); profile = now (profile .entry); forms = query-forms q }) y (turn .write) (turn .last) (turn .at) (turn .room) (now (cells .entry)) (now (cells .exit)) r × Keeping (left-of (record { memory = record { ledger = l; names = now (names .entry); times = now (times .entry); values = now (values .entry) }; own = now (words .entry); granted = now (granted .entry); profile = now (profile .entry); forms = query-forms q }) y) (turn .place) (now (kept .entry)) (now (kept .exit)) ⌝ }
 {
     let p = y.plan(q, names);
-    let lefts = left_rows(
-        p,
-        turn,
-        l,
-        names,
-        times,
-        values,
-        words,
-        granted,
-        profile,
-        kept,
-    );
-    let rights = sides::right(p, l, names, times, values, words, granted, profile);
+    let left = sides::scope(l, names, p.left);
+    let lefts = left_rows(p, turn, left, times, values, words, granted, profile, kept);
+    let right = sides::scope(l, names, p.right);
+    let rights = sides::right(p, right, times, values, words, granted, profile);
     let w = route_rows::width(p);
-    if turn.last {
-        let end = bound(p, w, lefts, rights, l, names, values, turn);
-        if end <= turn.room {
-            return end;
-        }
-    }
     let aim = Aim {
         write: turn.write,
         at: turn.at + HEADER,
         room: turn.room,
         width: w,
     };
+    if turn.last {
+        let end = bound(p, lefts, rights, l, names, values, aim);
+        if end <= turn.room {
+            return end;
+        }
+    }
     let n = route_rows::rows(
         p,
         lefts,

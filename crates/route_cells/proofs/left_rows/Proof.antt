@@ -2,39 +2,27 @@ use borrow.Author.Needs.{needs}
 use Rattle.route_cells.proofs.Keeping.{rows-known, rows-stored}
 use Rattle.route_cells.proofs.left_rows.Statement.{statement}
 use Rattle.route_cells.proofs.left_rows.Tie as tie
-use Rattle.route_cells.proofs.left_rows.Reads as reads
-use Rattle.route_cells.proofs.left_rows.Lts as lts
-use Rattle.route_cells.proofs.keep_rows.Reads as keep-rows-reads
-use Rattle.route_cells.proofs.kept_rows.Reads as kept-rows-reads
-use Rattle.sides.proofs.left.Reads as left-reads
 
--- src/lib.rt:616:9
 kept-rows-requires : tie.Need-kept-rows-requires
-kept-rows-requires c κs = (c .before .before .before .before .before .before .before .before .pre .placed, c .before .before .before .before .before .before .before .before .pre .lent)
+kept-rows-requires c κs = (c .before .before .before .before .before .before .before .pre .placed, c .before .before .before .before .before .before .before .pre .lent)
 
--- src/lib.rt:616:9
 same-length : tie.Need-same-length
 same-length c = search needs
 
--- src/lib.rt:616:9
 returns : tie.Need-returns
-returns c = rows-known (c .before .before .before .before .before .before .before .before .before .pre) (c .before .before .if1 .taken) (c .kept-rows .ensures)
+returns c = rows-known (c .before .before .before .before .before .before .before .before .pre) (c .before .before .if1 .taken) (c .kept-rows .ensures)
 
--- src/lib.rt:618:9
 left-requires : tie.Need-left-requires
 left-requires c κs = search needs
 
--- src/lib.rt:619:5
 keep-rows-requires : tie.Need-keep-rows-requires
-keep-rows-requires c κs = (c .before .before .before .before .before .before .before .before .before .pre .placed, c .before .before .before .before .before .before .before .before .before .pre .lent)
+keep-rows-requires c κs = (c .before .before .before .before .before .before .before .before .pre .placed, c .before .before .before .before .before .before .before .before .pre .lent)
 
--- src/lib.rt:599:1
 same-length-2 : tie.Need-same-length-2
 same-length-2 c = search needs
 
--- src/lib.rt:599:1
 returns-2 : tie.Need-returns-2
-returns-2 c = rows-stored (c .before .before .before .before .before .before .before .before .before .before .before .before .pre) (c .before .before .before .before .left .ensures) (c .before .before .keep-rows .ensures)
+returns-2 c = rows-stored (c .before .before .before .before .before .before .before .before .before .before .before .pre) (c .before .before .before .before .left .ensures) (c .before .before .keep-rows .ensures)
 
 pub left-rows-spec : {M : Type 1} → statement M
 left-rows-spec =
