@@ -18,7 +18,7 @@ use Rattle.program.specs.declared.Run.{Run}
 use Rattle.program.specs.declared.Got.{Got}
 use Rattle.program.specs.Lines.{line-end, Ends, Keeps, Reads, ended, begun}
 use Rattle.program.specs.Output.{most-text, Writes, Adds}
-use Rattle.program.specs.Runs.{Point, outcome-at, Runs, stop, then, text-room, texts, Follows, Done, lines-after, is-refusal, refused-after, Counts, Sized, Advances, Known, Part, Block, Turn}
+use Rattle.program.specs.Runs.{Point, outcome-at, Runs, stop, then, text-room, texts, Follows, Done, lines-after, is-refusal, refused-after, Counts, Sized, Advances, Known, Part, Block, Round}
 use Rattle.program.proofs.Lines.{ended-append, begun-append, ended-line, begun-line, ended-none, begun-none}
 
 -- ---- runs, texts and counts of two parts
@@ -203,9 +203,9 @@ block-end s start run {r} {p} {q} {l} {l₁} {m} {m₁} kept lines refused expla
 
 -- ---- a part of the input that is read
 
-pub turn-done : (s : Bytes) (run b r : Run) (got : Got) {p q : Point} {l l′ m m′ : Bytes} → Reads (run .kept) s got → Block (take (got .count - 0) (drop 0 s)) run b p q l l′ m m′ → r .kept ≡ b .kept → r .lines ≡ b .lines
-    → r .refused ≡ b .refused → r .explains ≡ b .explains → r .output .used ≡ 0 → r .failed ≡ got .failed → r .ended ≡ cond (got .ended) true (r .output .lost) → Turn s run r p q l l′ m m′
-turn-done s run b r got {p} {q} {l} {l′} {m} {m′} x y kept lines refused explains used failed over =
+pub round-done : (s : Bytes) (run b r : Run) (got : Got) {p q : Point} {l l′ m m′ : Bytes} → Reads (run .kept) s got → Block (take (got .count - 0) (drop 0 s)) run b p q l l′ m m′ → r .kept ≡ b .kept → r .lines ≡ b .lines
+    → r .refused ≡ b .refused → r .explains ≡ b .explains → r .output .used ≡ 0 → r .failed ≡ got .failed → r .ended ≡ cond (got .ended) true (r .output .lost) → Round s run r p q l l′ m m′
+round-done s run b r got {p} {q} {l} {l′} {m} {m′} x y kept lines refused explains used failed over =
     record {
       got = got;
       reads = x;

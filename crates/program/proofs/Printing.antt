@@ -8,16 +8,14 @@ use lib.IntN.{ℤ}
 use lib.ListN.{length, take, drop, length-take, length-drop, length-append}
 use lib.Seq.{take-append-seam}
 use Rattle.syntax.specs.Grammar.{Bytes}
+use Rattle.syntax.specs.Readers.{verb-of}
 use Rattle.calls.specs.Scripts.{refusal, cells, text}
 use Rattle.report.specs.Outcomes.{put-outcome, outcome-text}
 use Rattle.report.specs.Written.{Written}
-use Rattle.syntax.specs.Readers.{verb-of}
+use Rattle.history.specs.Fixtures.{Store}
 use Rattle.script.specs.States.{Saying}
 use Rattle.script.specs.Steps.{outcome-of, Does}
-use Rattle.script.specs.Runs.{store}
-use Rattle.program.specs.declared.Run.{Run}
 use Rattle.program.specs.Output.{most-text, Room, Tells, Adds}
-use Rattle.program.specs.Runs.{Point, outcome-at, text-room, Follows, Done}
 use Rattle.program.proofs.Keeping.{take-min}
 
 -- ---- outcomes by kind
@@ -104,9 +102,7 @@ told-behind {t} {n} {used} {m} {m′} {r} {r′} explains x y =
 
 -- ---- a line
 
-pub line-done : (l : Bytes) (kept n : ℕ) {run r : Run} {p q : Point} {m m′ : Bytes} (y : Saying) → n ≡ min kept (length l)
-    → Does (take (n - 0) l) (p .cells) (p .bytes) (verb-of (take (n - 0) l)) (store (p .held)) (store (q .held)) (q .cells) (q .bytes) y
-    → Adds (outcome-text (outcome-at q y)) (text-room q) (run .explains) m (run .output .used) m′ (r .output .used) → Follows run r y → Done (take kept l) run r p q m m′
-line-done l kept n {run} {r} {p} {q} y e d a f =
-    let g : n - 0 ≡ n = omega arith in
-    record { said = y; does = subst (λ (w : Bytes). Does w (p .cells) (p .bytes) (verb-of w) (store (p .held)) (store (q .held)) (q .cells) (q .bytes) y) (ap (λ (j : ℕ). take j l) (g ∙ e) ∙ take-min l kept) d; adds = a; follows = f }
+-- a step by the kept part of a line
+pub step-kept : {zs zs′ : List ℤ} {ys ys′ : Bytes} {s t : Store} {y : Saying} (l : Bytes) (kept n : ℕ) → n ≡ min kept (length l) → Does (take (n - 0) l) zs ys (verb-of (take (n - 0) l)) s t zs′ ys′ y
+    → Does (take kept l) zs ys (verb-of (take kept l)) s t zs′ ys′ y
+step-kept {zs} {zs′} {ys} {ys′} {s} {t} {y} l kept n e d = let g : n - 0 ≡ n = omega arith in subst (λ (w : Bytes). Does w zs ys (verb-of w) s t zs′ ys′ y) (ap (λ (j : ℕ). take j l) (g ∙ e) ∙ take-min l kept) d

@@ -42,8 +42,8 @@ pub ruleset tell-ends = (tells-nothing, tells-behind)
 pub or-so : {a x y : Bool} → a ≡ false → x ≡ y → x ≡ cond a true y
 or-so e f = f ∙ rw e refl
 
-pub turns-so : {a : Bool} {x y : ℕ} → a ≡ false → x ≡ y → x ≡ cond a 0 y
-turns-so e f = f ∙ rw e refl
+pub rounds-so : {a : Bool} {x y : ℕ} → a ≡ false → x ≡ y → x ≡ cond a 0 y
+rounds-so e f = f ∙ rw e refl
 
 -- ---- what is read
 
@@ -81,8 +81,8 @@ end-read kept m n x = record { inside = x .inside; more = λ e. absurd (true≢f
 
 pub ruleset read-ends = (more-read, none-read, end-read)
 
--- ---- turns
+-- ---- rounds
 
-pub turns-less : (b : Bool) {n t : ℕ} → n ≡ cond b 0 (t - 1) → 0 < t → n < t
-turns-less true e h = omega arith
-turns-less false e h = omega arith
+pub rounds-less : (b : Bool) {n t : ℕ} → n ≡ cond b 0 (t - 1) → 0 < t → n < t
+rounds-less true e h = omega arith
+rounds-less false e h = omega arith

@@ -8,15 +8,17 @@ use lib.Dec.{eqb}
 use lib.ListN.{length, take, drop}
 use Rattle.syntax.specs.Grammar.{Bytes}
 use Rattle.syntax.specs.Readers.{verb-of}
-use Rattle.calls.specs.Scripts.{Outcome, quiet, refusal, cells, text}
+use Rattle.calls.specs.Scripts.{Outcome, quiet, refusal, cells, text, script}
 use Rattle.report.specs.Outcomes.{outcome-text}
+use Rattle.history.specs.Fixtures.{Fresh}
 use Rattle.script.specs.declared.State.{State}
 use Rattle.script.specs.States.{Saying}
 use Rattle.script.specs.Steps.{outcome-of, Does}
 use Rattle.script.specs.Runs.{Held, store}
 use Rattle.program.specs.declared.Run.{Run}
 use Rattle.program.specs.declared.Got.{Got}
-use Rattle.program.specs.Lines.{ended, begun, closing, Reads}
+use Rattle.program.specs.declared.Said.{Said}
+use Rattle.program.specs.Lines.{lines-of, ended, begun, closing, Reads}
 use Rattle.program.specs.Output.{most-text, Writes, Adds}
 
 -- where a run stands: the state, the memory lent with it, and the cells and bytes that are lent to a line
@@ -32,10 +34,14 @@ point s ns ts vs ws zs ys = record { held = record { state = s; names = ns; time
 abbrev pub outcome-at : Point → Saying → Outcome
 outcome-at q y = outcome-of (y .kind) (y .number) (q .cells) (q .bytes)
 
+-- a step of the script by a line, which says y
+abbrev pub Steps : Bytes → Point → Point → Saying → Type 0
+Steps bs p q y = Does bs (p .cells) (p .bytes) (verb-of bs) (store (p .held)) (store (q .held)) (q .cells) (q .bytes) y
+
 -- lines one after the other, what each of them prints, and where they lead
 pub data Runs : Point → List Bytes → List Outcome → Point → Type 0 where
   stop : {p : Point} → Runs p [] [] p
-  then : {p q t : Point} {l : Bytes} {ls : List Bytes} {os : List Outcome} {y : Saying} → Does l (p .cells) (p .bytes) (verb-of l) (store (p .held)) (store (q .held)) (q .cells) (q .bytes) y → Runs q ls os t
+  then : {p q t : Point} {l : Bytes} {ls : List Bytes} {os : List Outcome} {y : Saying} → Steps l p q y → Runs q ls os t
       → Runs p (l ∷ ls) (outcome-at q y ∷ os) t
 
 -- the bytes that any text of a line takes at most
@@ -46,6 +52,12 @@ text-room p = 28 * length (p .cells) + length (p .bytes) + 20
 unfoldable pub texts : List Outcome → Bytes
 texts [] = []
 texts (o ∷ os) = outcome-text o ++ texts os
+
+-- after a line that says y and left these cells and bytes: one line more is counted, and the text of its outcome goes behind the output
+pub record Says (lines used : ℕ) (refused explains : Bool) (y : Saying) (zs : List ℤ) (ys m m′ : Bytes) (r : Said) : Type 0 where
+  pub count : r .lines ≡ (lines + 1) % 2 ^ 64
+  pub any : r .refused ≡ cond refused true (eqb (y .kind) 1)
+  pub adds : Adds (outcome-text (outcome-of (y .kind) (y .number) zs ys)) (28 * length zs + length ys + 20) explains m used m′ (r .output .used)
 
 -- what goes on as it was, and one line more is counted
 pub record Follows (run r : Run) (y : Saying) : Type 0 where
@@ -60,7 +72,7 @@ pub record Follows (run r : Run) (y : Saying) : Type 0 where
 -- A line is done by what the script's step does of its text, and the text of its outcome goes behind the output.
 pub record Done (bs : Bytes) (run r : Run) (p q : Point) (m m′ : Bytes) : Type 0 where
   pub said : Saying
-  pub does : Does bs (p .cells) (p .bytes) (verb-of bs) (store (p .held)) (store (q .held)) (q .cells) (q .bytes) said
+  pub does : Steps bs p q said
   pub adds : Adds (outcome-text (outcome-at q said)) (text-room q) (run .explains) m (run .output .used) m′ (r .output .used)
   pub follows : Follows run r said
 
@@ -122,7 +134,7 @@ pub record Block (s : Bytes) (run r : Run) (p q : Point) (l l′ m m′ : Bytes)
   pub advances : (w : Bytes) → Known w run l → Advances w s run r p q l l′ m m′
 
 -- A part of the input is read, and stands at the start of s; it is done, and all that its lines print is written. The run is over where the input ended or output is lost.
-pub record Turn (s : Bytes) (run r : Run) (p q : Point) (l l′ m m′ : Bytes) : Type 0 where
+pub record Round (s : Bytes) (run r : Run) (p q : Point) (l l′ m m′ : Bytes) : Type 0 where
   pub got : Got
   pub reads : Reads (run .kept) s got
   pub failed : r .failed ≡ got .failed
@@ -140,18 +152,34 @@ pub record Closed (w b : Bytes) : Type 0 where
   pub input : Bytes
   pub same : b ≡ input ++ closing (begun w input)
 
--- what a run must be lent: room for the longest line and one byte more, for a block, and for any text
+-- How a run begins: nothing of a line is kept and nothing of the output, no line was refused, and it is lent fresh memory, room for the longest line and one byte more, for a block, and for any text.
 pub record Lent (run : Run) (p : Point) (b l m : Bytes) : Type 0 where
+  pub fresh : Fresh (store (p .held))
+  pub kept : run .kept ≡ 0
+  pub used : run .output .used ≡ 0
+  pub none : run .refused ≡ false
   pub block : 1 ≤ length b
   pub line : length l ≡ 513
   pub texts : text-room p ≤ most-text
   pub out : most-text ≤ length m
   pub goes : run .ended ≡ false
 
--- The input is done, block by block, to its end, and all that its lines print is written; unless it could not be read, output was lost, or 2 ^ 64 - 1 blocks were read.
-pub record All (run r : Run) (p q : Point) (l l′ m m′ : Bytes) : Type 0 where
+-- Blocks of the input are done, and all that their lines print is written. Where the input ended, with all of it read and all output written, the blocks are all of it.
+pub record Blocks (run r : Run) (p q : Point) (l l′ m m′ : Bytes) : Type 0 where
   pub blocks : List Bytes
   pub advances : (w : Bytes) → Known w run l → Advances w (joined blocks) run r p q l l′ m m′
   pub written : run .output .used ≡ 0 → r .output .used ≡ 0
   pub closed : r .ended ≡ true → r .failed ≡ false → r .output .lost ≡ false → (w : Bytes) → Known w run l → Closed w (joined blocks)
-  pub over : r .ended ≡ false → length blocks ≡ 2 ^ 64 - 1
+
+-- What was read, b, is the input, and a line feed where its last line has none; what was written is what the script of the input's lines prints, all of it; and a line was refused where the script refuses one.
+pub record Prints (b : Bytes) (zs : List ℤ) (ys : Bytes) (refused : Bool) : Type 0 where
+  pub input : Bytes
+  pub read : b ≡ input ++ closing (begun [] input)
+  pub written : Writes (texts (script zs ys (lines-of input))) []
+  pub any : refused ≡ refused-after false (script zs ys (lines-of input))
+
+-- The input is done, block by block, to its end; unless it could not be read, output was lost, or 2 ^ 64 - 1 blocks were read.
+pub record All (run r : Run) (p q : Point) (l l′ m m′ : Bytes) : Type 0 where
+  pub done : Blocks run r p q l l′ m m′
+  pub over : r .ended ≡ false → length (done .blocks) ≡ 2 ^ 64 - 1
+  pub prints : r .ended ≡ true → r .failed ≡ false → r .output .lost ≡ false → Prints (joined (done .blocks)) (p .cells) (p .bytes) (r .refused)

@@ -10,7 +10,7 @@ ghost use Rattle.report.specs.Written.{Written};
 ghost use Rattle.script.specs.Steps.{outcome-of};
 ghost use Rattle.program.specs.Lines.{Ends, Keeps, Closes, Reads};
 ghost use Rattle.program.specs.Output.{Room, Tells, Adds};
-ghost use Rattle.program.specs.Runs.{point, Done, Part, Block, Turn, Lent, All};
+ghost use Rattle.program.specs.Runs.{point, Says, Done, Part, Block, Round, Lent, All};
 // Named since a State holds one: the checker knows the types of the crates that are named here alone.
 use caller::Caller;
 use grant::Grant;
@@ -53,6 +53,13 @@ struct Run {
     refused: bool,
     failed: bool,
     ended: bool,
+}
+
+// What a line leaves beside the state: how many lines were done, where the output stands, and whether one was refused.
+struct Said {
+    lines: u64,
+    output: Output,
+    refused: bool,
 }
 
 // What was read: how many bytes of the block, whether the input ended, and whether that is because it could not be read.
@@ -286,6 +293,30 @@ fn refused_by(refused: bool, kind: u32) -> bool
     kind == Stepped::REFUSED
 }
 
+// After a line: the text of its outcome behind the output, the reason where refusals are explained, and what is counted.
+fn say(
+    lines: u64,
+    o: Output,
+    refused: bool,
+    explains: bool,
+    kind: u32,
+    number: u32,
+    cells: &[i64],
+    bytes: &[u8],
+    out: &mut [u8],
+) -> Said
+    ensures { λ r. ⌜ Says lines (o .used) refused explains (record { kind = kind; number = number }) (now (cells .entry)) (now (bytes .entry)) (now (out .entry)) (now (out .exit)) r ⌝ }
+{
+    let count = std::num::wrapping_add_u64(lines, 1);
+    let added = add(out, o, kind, number, cells, bytes);
+    let told = tell(out, added, explains, count, kind, number);
+    Said {
+        lines: count,
+        output: told,
+        refused: refused_by(refused, kind),
+    }
+}
+
 // Does the line that is kept.
 fn do_line(
     run: Run,
@@ -311,19 +342,27 @@ fn do_line(
         cells,
         bytes,
     );
-    let lines = std::num::wrapping_add_u64(run.lines, 1);
-    let added = add(out, run.output, r.kind, r.number, cells, bytes);
-    let told = tell(out, added, run.explains, lines, r.kind, r.number);
-    let refused = refused_by(run.refused, r.kind);
+    let said = say(
+        run.lines,
+        run.output,
+        run.refused,
+        run.explains,
+        r.kind,
+        r.number,
+        cells,
+        bytes,
+        out,
+    );
     let state = r.state;
+    let output = said.output;
     Run {
         state: state,
-        lines: lines,
+        lines: said.lines,
         kept: 0,
         at: run.at,
-        output: told,
+        output: output,
         explains: run.explains,
-        refused: refused,
+        refused: said.refused,
         failed: run.failed,
         ended: run.ended,
     }
@@ -445,7 +484,7 @@ fn do_some(
     bytes: &mut [u8],
     out: &mut [u8],
 ) -> Run
-    ensures { λ r. ⌜ Turn (now (block .exit)) run r (point (run .state) (now (names .entry)) (now (times .entry)) (now (values .entry)) (now (words .entry)) (now (cells .entry)) (now (bytes .entry))) (point (r .state) (now (names .exit)) (now (times .exit)) (now (values .exit)) (now (words .exit)) (now (cells .exit)) (now (bytes .exit))) (now (line .entry)) (now (line .exit)) (now (out .entry)) (now (out .exit)) ⌝ }
+    ensures { λ r. ⌜ Round (now (block .exit)) run r (point (run .state) (now (names .entry)) (now (times .entry)) (now (values .entry)) (now (words .entry)) (now (cells .entry)) (now (bytes .entry))) (point (r .state) (now (names .exit)) (now (times .exit)) (now (values .exit)) (now (words .exit)) (now (cells .exit)) (now (bytes .exit))) (now (line .entry)) (now (line .exit)) (now (out .entry)) (now (out .exit)) ⌝ }
 {
     let got = read_some(block, run.kept);
     let n = got.count;
@@ -477,20 +516,20 @@ fn is_over(ended: bool, lost: bool) -> bool
     lost
 }
 
-// One turn less, none where the run ended.
-fn turns_left(turns: u64, ended: bool) -> u64
-    ensures { λ r. ⌜ r ≡ cond ended 0 (turns - 1) ⌝ }
+// One round less, none where the run ended.
+fn rounds_left(rounds: u64, ended: bool) -> u64
+    ensures { λ r. ⌜ r ≡ cond ended 0 (rounds - 1) ⌝ }
 {
     if ended {
         return 0;
     }
-    if turns == 0 {
+    if rounds == 0 {
         return 0;
     }
-    turns - 1
+    rounds - 1
 }
 
-// Does the lines of standard input to its end. A proved loop has to end, and nothing says that the input does: the loop counts its turns down, from a number that no run uses up.
+// Does the lines of standard input to its end. A proved loop has to end, and nothing says that the input does: the loop counts its rounds down, from a number that no run uses up.
 fn do_all(
     run: Run,
     block: &mut [u8],
@@ -507,8 +546,8 @@ fn do_all(
     ensures { λ r. ⌜ All run r (point (run .state) (now (names .entry)) (now (times .entry)) (now (values .entry)) (now (words .entry)) (now (cells .entry)) (now (bytes .entry))) (point (r .state) (now (names .exit)) (now (times .exit)) (now (values .exit)) (now (words .exit)) (now (cells .exit)) (now (bytes .exit))) (now (line .entry)) (now (line .exit)) (now (out .entry)) (now (out .exit)) ⌝ }
 {
     let mut r = run;
-    let mut turns = u64::MAX;
-    while 0 < turns {
+    let mut rounds = u64::MAX;
+    while 0 < rounds {
         r = do_some(
             r,
             block,
@@ -521,7 +560,7 @@ fn do_all(
             bytes,
             out,
         );
-        turns = turns_left(turns, r.ended);
+        rounds = rounds_left(rounds, r.ended);
     }
     r
 }

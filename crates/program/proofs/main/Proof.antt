@@ -44,7 +44,7 @@ slice-aggregate-do-all-9 : tie.Need-slice-aggregate-do-all-9
 slice-aggregate-do-all-9 c = search needs
 
 do-all-requires : tie.Need-do-all-requires
-do-all-requires c κs = lent-main (c .before .before .before .before .before .before .before .before .before .before .before .before .large-buffer .ensures) refl
+do-all-requires c κs = lent-main (c .before .before .before .before .before .before .before .before .before .before .before .new .ensures) (c .before .before .before .before .before .before .before .before .before .before .before .before .large-buffer .ensures) refl refl refl refl
 
 say-status-requires : tie.Need-say-status-requires
 say-status-requires c κs = search needs
