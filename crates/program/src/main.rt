@@ -295,9 +295,7 @@ fn refused_by(refused: bool, kind: u32) -> bool
 
 // After a line: the text of its outcome behind the output, the reason where refusals are explained, and what is counted.
 fn say(
-    lines: u64,
-    o: Output,
-    refused: bool,
+    before: Said,
     explains: bool,
     kind: u32,
     number: u32,
@@ -305,15 +303,15 @@ fn say(
     bytes: &[u8],
     out: &mut [u8],
 ) -> Said
-    ensures { λ r. ⌜ Says lines (o .used) refused explains (record { kind = kind; number = number }) (now (cells .entry)) (now (bytes .entry)) (now (out .entry)) (now (out .exit)) r ⌝ }
+    ensures { λ r. ⌜ Says explains (record { kind = kind; number = number }) (now (cells .entry)) (now (bytes .entry)) before r (now (out .entry)) (now (out .exit)) ⌝ }
 {
-    let count = std::num::wrapping_add_u64(lines, 1);
-    let added = add(out, o, kind, number, cells, bytes);
-    let told = tell(out, added, explains, count, kind, number);
+    let lines = std::num::wrapping_add_u64(before.lines, 1);
+    let added = add(out, before.output, kind, number, cells, bytes);
+    let told = tell(out, added, explains, lines, kind, number);
     Said {
-        lines: count,
+        lines: lines,
         output: told,
-        refused: refused_by(refused, kind),
+        refused: refused_by(before.refused, kind),
     }
 }
 
@@ -342,25 +340,21 @@ fn do_line(
         cells,
         bytes,
     );
-    let said = say(
-        run.lines,
-        run.output,
-        run.refused,
-        run.explains,
-        r.kind,
-        r.number,
-        cells,
-        bytes,
-        out,
-    );
+    let output = run.output;
+    let before = Said {
+        lines: run.lines,
+        output: output,
+        refused: run.refused,
+    };
+    let said = say(before, run.explains, r.kind, r.number, cells, bytes, out);
     let state = r.state;
-    let output = said.output;
+    let told = said.output;
     Run {
         state: state,
         lines: said.lines,
         kept: 0,
         at: run.at,
-        output: output,
+        output: told,
         explains: run.explains,
         refused: said.refused,
         failed: run.failed,
