@@ -54,10 +54,10 @@ texts [] = []
 texts (o ∷ os) = outcome-text o ++ texts os
 
 -- after a line that says y and left these cells and bytes: one line more is counted, and the text of its outcome goes behind the output
-pub record Says (lines used : ℕ) (refused explains : Bool) (y : Saying) (zs : List ℤ) (ys m m′ : Bytes) (r : Said) : Type 0 where
-  pub count : r .lines ≡ (lines + 1) % 2 ^ 64
-  pub any : r .refused ≡ cond refused true (eqb (y .kind) 1)
-  pub adds : Adds (outcome-text (outcome-of (y .kind) (y .number) zs ys)) (28 * length zs + length ys + 20) explains m used m′ (r .output .used)
+pub record Says (explains : Bool) (y : Saying) (zs : List ℤ) (ys : Bytes) (s r : Said) (m m′ : Bytes) : Type 0 where
+  pub lines : r .lines ≡ (s .lines + 1) % 2 ^ 64
+  pub refused : r .refused ≡ cond (s .refused) true (eqb (y .kind) 1)
+  pub adds : Adds (outcome-text (outcome-of (y .kind) (y .number) zs ys)) (28 * length zs + length ys + 20) explains m (s .output .used) m′ (r .output .used)
 
 -- what goes on as it was, and one line more is counted
 pub record Follows (run r : Run) (y : Saying) : Type 0 where

@@ -303,13 +303,13 @@ fn say(
     bytes: &[u8],
     out: &mut [u8],
 ) -> Said
-    ensures { λ r. ⌜ Says (before .lines) (before .output .used) (before .refused) explains (record { kind = kind; number = number }) (now (cells .entry)) (now (bytes .entry)) (now (out .entry)) (now (out .exit)) r ⌝ }
+    ensures { λ r. ⌜ Says explains (record { kind = kind; number = number }) (now (cells .entry)) (now (bytes .entry)) before r (now (out .entry)) (now (out .exit)) ⌝ }
 {
-    let count = std::num::wrapping_add_u64(before.lines, 1);
+    let lines = std::num::wrapping_add_u64(before.lines, 1);
     let added = add(out, before.output, kind, number, cells, bytes);
-    let told = tell(out, added, explains, count, kind, number);
+    let told = tell(out, added, explains, lines, kind, number);
     Said {
-        lines: count,
+        lines: lines,
         output: told,
         refused: refused_by(before.refused, kind),
     }
@@ -348,13 +348,13 @@ fn do_line(
     };
     let said = say(before, run.explains, r.kind, r.number, cells, bytes, out);
     let state = r.state;
-    let said_output = said.output;
+    let told = said.output;
     Run {
         state: state,
         lines: said.lines,
         kept: 0,
         at: run.at,
-        output: said_output,
+        output: told,
         explains: run.explains,
         refused: said.refused,
         failed: run.failed,
