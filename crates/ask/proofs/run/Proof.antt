@@ -21,14 +21,14 @@ returns-2 c = run-many _ _ _ (c .before .before .before .before .before .before 
 least-requires : tie.Need-least-requires
 least-requires c κs = search needs
 
-cast-room : tie.Need-cast-room
-cast-room c = search needs
+cast-task : tie.Need-cast-task
+cast-task c = search needs
 
 most-cells-requires : tie.Need-most-cells-requires
 most-cells-requires c κs = search needs
 
 serve-requires : tie.Need-serve-requires
-serve-requires c κs = record { ready = c .before .before .before .before .before .before .before .before .before .before .before .before .before .pre; listed = c .before .before .before .before .before .before .before .routes .ensures; some = c .before .before .before .before .before .if1 .left; few = c .before .before .before .if2 .left; each = c .before .most-cells .ensures; all = c .before .before .least .ensures }
+serve-requires c κs = search needs
 
 same-length : tie.Need-same-length
 same-length c = search needs
@@ -46,7 +46,7 @@ run-spec =
     refused-requires-2
     returns-2
     least-requires
-    cast-room
+    cast-task
     most-cells-requires
     serve-requires
     same-length

@@ -1,7 +1,7 @@
 use borrow.Author.Needs.{needs}
 use Rattle.ask.proofs.Running.{run-ready, run-full, put-ready, run-filled}
-use Rattle.ask.proofs.serve.Statement.{statement}
-use Rattle.ask.proofs.serve.Tie as tie
+use Rattle.ask.proofs.Task.serve.Statement.{statement}
+use Rattle.ask.proofs.Task.serve.Tie as tie
 
 slice-aggregate-fits : tie.Need-slice-aggregate-fits
 slice-aggregate-fits c = search needs
