@@ -64,13 +64,6 @@ struct Reached {
     at: u32,
 }
 
-// Conditions that are joined: those that end at a place and before it, down to a stop; by `or`, or by `and`.
-struct Walk {
-    stop: u32,
-    at: u32,
-    any: bool,
-}
-
 impl Origin {
     const VALUE: u32 = 0;
 
@@ -745,11 +738,13 @@ fn is_list(words: &[u32], k: u32) -> bool
     head <= Node::NOT
 }
 
-// The rows so far, with the comparisons of a walk joined, down to its stop or to a list; and where that is.
+// The rows so far, with the comparisons that end at place j and before it joined, down to a stop or to a list; and where that is.
 // A comparison is made here alone, so that what all of them use is read once.
 fn leaves(
     words: &[u32],
-    walk: Walk,
+    stop: u32,
+    j: u32,
+    any: bool,
     start: Rows,
     sc: Scope,
     profile: &[u64],
@@ -757,12 +752,10 @@ fn leaves(
     values: &[i32],
 ) -> Reached
     requires { ⌜ Lent sc (now times) (now values) ⌝ }
-    ensures { λ r. ⌜ Carried (now (words .entry)) (walk .stop) (walk .at) (walk .any) sc (now (times .entry)) (now (values .entry)) (now (profile .entry)) start (r .at) (r .rows) × (walk .stop < r .at → lists (now (words .entry)) (r .at) ≡ true) ⌝ }
+    ensures { λ r. ⌜ Carried (now (words .entry)) stop j any sc (now (times .entry)) (now (values .entry)) (now (profile .entry)) start (r .at) (r .rows) × (stop < r .at → lists (now (words .entry)) (r .at) ≡ true) ⌝ }
 {
-    let stop = walk.stop;
-    let any = walk.any;
     let mut m = start;
-    let mut at = walk.at;
+    let mut at = j;
     while stop < at {
         if is_list(words, at) {
             return Reached { rows: m, at: at };
@@ -783,12 +776,7 @@ fn leaf(words: &[u32], k: u32, sc: Scope, profile: &[u64], times: &[u32], values
     if k == 0 {
         return all;
     }
-    let one = Walk {
-        stop: k - 1,
-        at: k,
-        any: false,
-    };
-    let w = leaves(words, one, all, sc, profile, times, values);
+    let w = leaves(words, k - 1, k, false, all, sc, profile, times, values);
     w.rows
 }
 
@@ -812,37 +800,36 @@ fn eval(words: &[u32], k: u32, sc: Scope, profile: &[u64], times: &[u32], values
     if k - 1 <= stop {
         return eval(words, 0, sc, profile, times, values);
     }
-    let walk = Walk {
-        stop: stop,
-        at: k - 1,
-        any: head == Node::OR,
-    };
-    list(words, walk, sc, profile, times, values)
+    list(
+        words,
+        stop,
+        k - 1,
+        head == Node::OR,
+        sc,
+        profile,
+        times,
+        values,
+    )
 }
 
-// The rows that all or any of the conditions of a walk hold of.
+// The rows that all or any hold of the conditions that end at place j and before it, down to a stop.
 fn list(
     words: &[u32],
-    walk: Walk,
+    stop: u32,
+    j: u32,
+    any: bool,
     sc: Scope,
     profile: &[u64],
     times: &[u32],
     values: &[i32],
 ) -> Rows
     requires { ⌜ Lent sc (now times) (now values) ⌝ }
-    ensures { λ r. ⌜ r ≡ list-passing (walk .any) sc (now (times .entry)) (now (values .entry)) (now (profile .entry)) (list-at (now (words .entry)) (walk .stop) (walk .at)) ⌝ }
+    ensures { λ r. ⌜ r ≡ list-passing any sc (now (times .entry)) (now (values .entry)) (now (profile .entry)) (list-at (now (words .entry)) stop j) ⌝ }
 {
-    let stop = walk.stop;
-    let any = walk.any;
     let mut m = started(any, sc.rows);
-    let mut at = walk.at;
+    let mut at = j;
     while stop < at {
-        let rest = Walk {
-            stop: stop,
-            at: at,
-            any: any,
-        };
-        let w = leaves(words, rest, m, sc, profile, times, values);
+        let w = leaves(words, stop, at, any, m, sc, profile, times, values);
         let k = w.at;
         if k <= stop {
             return w.rows;
@@ -910,12 +897,7 @@ pub fn conditions(
     if !fits(scope, times, values) {
         return Rows::none();
     }
-    let walk = Walk {
-        stop: 0,
-        at: n,
-        any: false,
-    };
-    list(words, walk, scope, profile, times, values)
+    list(words, 0, n, false, scope, profile, times, values)
 }
 
 // ---- times

@@ -28,7 +28,7 @@ abbrev μ-eval : Measures 4 eval-kinds.ps ℕ
 μ-eval κs a = 2 * a .1 .0
 
 abbrev μ-list : Measures 4 list-kinds.ps ℕ
-μ-list κs a = 2 * a .1 .0 .at + 1
+μ-list κs a = 2 * a .1 .1 .0 + 1
 
 abbrev eval-at : ℕ → In 4 eval-kinds.ps
 eval-at t = and 4 eval-kinds.ps (is 4 eval-kinds.ps μ-eval t) eval.Pre
@@ -49,10 +49,10 @@ abbrev list-claims : ℕ → list-lts.Claims
 list-claims t = (started-reads.Asked, started-reads.Learnt, leaves-reads.Asked, leaves-reads.Learnt, eval-below t, eval.Post, joined-reads.Asked, joined-reads.Learnt, link-at-reads.Asked, link-at-reads.Learnt)
 
 abbrev list-Inv-loop : list-lts.InvT-loop
-list-Inv-loop words sc profile times values stop any m₀ at₀ m at = Listed words stop at₀ any sc times values profile at m
+list-Inv-loop words stop j any sc profile times values m₀ at₀ m at = Listed words stop j any sc times values profile at m
 
 abbrev list-μ-loop : list-lts.MeasureT-loop
-list-μ-loop words sc profile times values stop any m₀ at₀ m at = at
+list-μ-loop words stop j any sc profile times values m₀ at₀ m at = at
 
 pub +eval+list-spec : {M : Type 1} → statement M
 +eval+list-spec =
@@ -102,16 +102,16 @@ pub +eval+list-spec : {M : Type 1} → statement M
     {- leaves-requires -}
     (λ c κs. search needs)
     {- returns -}
-    (λ c. let a = c .before .before .before .before .before .before .before .before .before .args in let w = c .before .before .leaves .ensures .0 in let l = w .on (a .walk .at) (c .before .before .before .before .loop .inv) in listed-end (a .words .now) (a .walk .stop) (a .walk .at) (a .walk .any) (a .sc) (a .times .now) (a .values .now) (a .profile .now) l (c .before .if1 .taken))
+    (λ c. let a = c .before .before .before .before .before .before .before .before .before .args in let w = c .before .before .leaves .ensures .0 in let l = w .on (a .j) (c .before .before .before .before .loop .inv) in listed-end (a .words .now) (a .stop) (a .j) (a .any) (a .sc) (a .times .now) (a .values .now) (a .profile .now) l (c .before .if1 .taken))
     {- eval-requires -}
-    (λ c κs. (let a = c .before .before .before .before .before .before .before .before .args in let w = c .before .leaves .ensures .0 in let l = w .on (a .walk .at) (c .before .before .before .loop .inv) in listed-below (a .words .now) (a .walk .stop) (a .walk .at) (a .walk .any) (a .sc) (a .times .now) (a .values .now) (a .profile .now) l (search needs), search needs))
+    (λ c κs. (let a = c .before .before .before .before .before .before .before .before .args in let w = c .before .leaves .ensures .0 in let l = w .on (a .j) (c .before .before .before .loop .inv) in listed-below (a .words .now) (a .stop) (a .j) (a .any) (a .sc) (a .times .now) (a .values .now) (a .profile .now) l (search needs), search needs))
     {- joined-requires -}
     (λ c κs. search needs)
     {- link-at-requires -}
     (λ c κs. search needs)
     {- loop-less -}
-    (λ c. let a = c .before .before .before .before .before .before .before .before .before .before .before .args in let w = c .before .before .before .before .leaves .ensures .0 in let l = w .on (a .walk .at) (c .before .before .before .before .before .before .loop .inv) in let f = listed-falls (a .words .now) (a .walk .stop) (a .walk .at) (a .walk .any) (a .sc) (a .times .now) (a .values .now) (a .profile .now) l (let g = c .before .before .before .if1 .left in omega arith) (c .link-at .ensures) in let h = w .low in omega arith)
+    (λ c. let a = c .before .before .before .before .before .before .before .before .before .before .before .args in let w = c .before .before .before .before .leaves .ensures .0 in let l = w .on (a .j) (c .before .before .before .before .before .before .loop .inv) in let f = listed-falls (a .words .now) (a .stop) (a .j) (a .any) (a .sc) (a .times .now) (a .values .now) (a .profile .now) l (let g = c .before .before .before .if1 .left in omega arith) (c .link-at .ensures) in let h = w .low in omega arith)
     {- loop-again -}
-    (λ c. let a = c .before .before .before .before .before .before .before .before .before .before .before .args in let w = c .before .before .before .before .leaves .ensures .0 in let l = w .on (a .walk .at) (c .before .before .before .before .before .before .loop .inv) in listed-more (a .words .now) (a .walk .stop) (a .walk .at) (a .walk .any) (a .sc) (a .times .now) (a .values .now) (a .profile .now) l (let g = c .before .before .before .if1 .left in omega arith) (c .link-at .ensures) (c .before .before .eval .ensures) (c .before .joined .ensures))
+    (λ c. let a = c .before .before .before .before .before .before .before .before .before .before .before .args in let w = c .before .before .before .before .leaves .ensures .0 in let l = w .on (a .j) (c .before .before .before .before .before .before .loop .inv) in listed-more (a .words .now) (a .stop) (a .j) (a .any) (a .sc) (a .times .now) (a .values .now) (a .profile .now) l (let g = c .before .before .before .if1 .left in omega arith) (c .link-at .ensures) (c .before .before .eval .ensures) (c .before .joined .ensures))
     {- returns-2 -}
     (λ c. search (list-ends, needs)))

@@ -7,17 +7,17 @@ use Rattle.selection.proofs.leaves.Statement.{statement}
 use Rattle.selection.proofs.leaves.Tie as tie
 
 abbrev Inv-loop : tie.InvT-loop
-Inv-loop words sc profile times values stop any m₀ at₀ m at = Carried words stop at₀ any sc times values profile m₀ at m
+Inv-loop words stop j any sc profile times values m₀ at₀ m at = Carried words stop j any sc times values profile m₀ at m
 
 abbrev μ-loop : tie.MeasureT-loop
-μ-loop words sc profile times values stop any m₀ at₀ m at = at
+μ-loop words stop j any sc profile times values m₀ at₀ m at = at
 
 pub leaves-spec : {M : Type 1} → statement M
 leaves-spec =
     tie.close
     (tie.spec Inv-loop μ-loop
     {- loop-holds -}
-    (λ c. let a = c .before .before .before .args in carried-start (a .words .now) (a .walk .stop) (a .walk .at) (a .walk .any) (a .sc) (a .times .now) (a .values .now) (a .profile .now))
+    (λ c. let a = c .before .before .before .args in carried-start (a .words .now) (a .stop) (a .j) (a .any) (a .sc) (a .times .now) (a .values .now) (a .profile .now))
     {- is-list-requires -}
     (λ c κs. search needs)
     {- returns -}
@@ -31,6 +31,6 @@ leaves-spec =
     {- loop-less -}
     (λ c. let a = c .before .before .before .before .before .before .before .before .before .before .args in link-less (a .words .now) (c .link-at .ensures) (c .before .before .before .before .before .loop-test .taken))
     {- loop-again -}
-    (λ c. let a = c .before .before .before .before .before .before .before .before .before .before .args in carried-more (a .words .now) (a .walk .stop) (a .walk .at) (a .walk .any) (a .sc) (a .times .now) (a .values .now) (a .profile .now) (c .before .before .before .before .before .before .loop .inv) (c .before .before .before .before .before .loop-test .taken) (sym (c .before .before .before .before .is-list .ensures) ∙ c .before .before .before .if1 .left) (c .link-at .ensures) (c .before .before .compare-at .ensures) (c .before .joined .ensures))
+    (λ c. let a = c .before .before .before .before .before .before .before .before .before .before .args in carried-more (a .words .now) (a .stop) (a .j) (a .any) (a .sc) (a .times .now) (a .values .now) (a .profile .now) (c .before .before .before .before .before .before .loop .inv) (c .before .before .before .before .before .loop-test .taken) (sym (c .before .before .before .before .is-list .ensures) ∙ c .before .before .before .if1 .left) (c .link-at .ensures) (c .before .before .compare-at .ensures) (c .before .joined .ensures))
     {- returns-2 -}
     (λ c. (c .before .loop .inv, λ h. absurd (let l = c .loop-test .left in omega arith))))
