@@ -31,7 +31,7 @@ use Rattle.query.specs.Tables.{query-forms}
 use Rattle.needs.specs.Asking.{needs-in}
 use Rattle.needs.specs.declared.Needs.{Needs}
 use Rattle.query_text.specs.declared.Told.{Told}
-use Rattle.query_text.specs.Texts.{told-of, TextRead, QueryRead, AskRead, LineRead}
+use Rattle.query_text.specs.Texts.{told-of, TextRead, PlainRead, QueryRead, AskRead, LineRead}
 use Rattle.query_text.proofs.Firsts.{not-first}
 
 -- a text whose checks hold off is no longer than a line, and so is its query
@@ -83,11 +83,16 @@ of-line spare none ns bs t = record { is = t .is; stored = t .stored; checks = t
 of-line spare (some l) ns bs {ws} {ws′} {a} t =
     record { is = t .is; stored = t .stored; checks = t .checks; query = λ s u q e f. subst (λ p. Means (schema-of ns) p ws′ (a .query)) (Option·some-injective (l .query) q e) (t .query s u l refl f); kept = t .kept }
 
+-- a query by itself or of an `ask` line
+plain-told : (spare : ℕ) (o : Option Form) (ns : List ℕ) (bs : Bytes) {ws : List ℕ} {a : Asked} {t : Told} → ((q : Form) → o ≡ some q → length (query-text q) ≤ length bs) → L.Told (λ q. q) spare o ns bs (replicate max-words 0) ws a
+    → t ≡ told-of ns ws (record { route = pos 0; asked = a }) → PlainRead spare o ns bs t
+plain-told spare o ns bs {ws} {a} l k e = subst (λ x. PlainRead spare o ns bs x) (sym e) (record { text = read-told spare o ns bs (record { route = pos 0; asked = a }) l k; number = unfold told-of in refl })
+
 pub query-told : (ns : List ℕ) (bs : Bytes) {ws : List ℕ} {a : Asked} {t : Told} → QueryTold ns bs (replicate max-words 0) ws a → t ≡ told-of ns ws (record { route = pos 0; asked = a }) → QueryRead ns bs t
-query-told ns bs {ws} {a} k e = subst (λ x. QueryRead ns bs x) (sym e) (read-told 0 (parse-query bs) ns bs (record { route = pos 0; asked = a }) (alone-short bs) k)
+query-told ns bs k e = plain-told 0 (parse-query bs) ns bs (alone-short bs) k e
 
 pub ask-told : (ns : List ℕ) (bs : Bytes) {ws : List ℕ} {a : Asked} {t : Told} → AskTold ns bs (replicate max-words 0) ws a → t ≡ told-of ns ws (record { route = pos 0; asked = a }) → AskRead ns bs t
-ask-told ns bs {ws} {a} k e = subst (λ x. AskRead ns bs x) (sym e) (read-told 1 (parse-as G.ask bs) ns bs (record { route = pos 0; asked = a }) (ask-short bs) k)
+ask-told ns bs k e = plain-told 1 (parse-as G.ask bs) ns bs (ask-short bs) k e
 
 pub line-told : (ns : List ℕ) (bs : Bytes) {ws : List ℕ} {r : Routed} {t : Told} → RouteTold ns bs (replicate max-words 0) ws r → t ≡ told-of ns ws r → LineRead ns bs t
 unfolding told-of map-option

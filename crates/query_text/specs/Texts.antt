@@ -3,6 +3,7 @@ use mathlib.Core.Path.{_≡_}
 use mathlib.Core.List.{List}
 use mathlib.Core.Option.{Option, none, some}
 use Prim.Native.Nat.{ℕ, _≤_}
+use lib.IntN.{pos}
 use lib.Dec.{T}
 use lib.ListN.{length}
 use Rattle.refusal.specs.Checks.{first, table}
@@ -32,13 +33,18 @@ pub record TextRead (spare : ℕ) (o : Option Form) (ns : List ℕ) (bs : Bytes)
   pub short : (q : Form) → o ≡ some q → first (written spare bs o (query-checks (schema-of ns))) ≡ none → length (query-text q) ≤ max-line
   pub needs : t .needs ≡ needs-in ns (t .words) (query-forms (t .query))
 
+-- a query with no number of a route, which is then 0
+pub record PlainRead (spare : ℕ) (o : Option Form) (ns : List ℕ) (bs : Bytes) (t : Told) : Type 0 where
+  pub text : TextRead spare o ns bs t
+  pub number : t .number ≡ pos 0
+
 -- the text of a query alone
 abbrev pub QueryRead : List ℕ → Bytes → Told → Type 0
-QueryRead ns bs t = TextRead 0 (parse-query bs) ns bs t
+QueryRead ns bs t = PlainRead 0 (parse-query bs) ns bs t
 
 -- `(ask Q)`
 abbrev pub AskRead : List ℕ → Bytes → Told → Type 0
-AskRead ns bs t = TextRead 1 (parse-as G.ask bs) ns bs t
+AskRead ns bs t = PlainRead 1 (parse-as G.ask bs) ns bs t
 
 -- the query of a line, and its number as far as numbers are told apart
 pub record RouteRead (spare : ℕ) (o : Option RouteLine) (ns : List ℕ) (bs : Bytes) (t : Told) : Type 0 where

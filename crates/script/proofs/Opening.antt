@@ -17,7 +17,7 @@ use Rattle.ledger.specs.Records.{Memory}
 use Rattle.caller.specs.declared.Caller.{Caller}
 use Rattle.catalogue.specs.Callers.{roles-of, profile-of}
 use Rattle.query_text.specs.declared.Told.{Told}
-use Rattle.query_text.specs.Texts.{TextRead, RouteRead}
+use Rattle.query_text.specs.Texts.{TextRead, PlainRead, RouteRead}
 use Rattle.ask.specs.declared.Reply.{Reply}
 use Rattle.ask.specs.Replies.{Replies}
 use Rattle.ask.specs.Asking.{asked, LineReplies, Prepared, Answers, RouteLines}
@@ -50,18 +50,22 @@ module _ (n : Needs) (ns : List ℕ) (gs : List Grant) (ws roles profile : List 
 for-it : (ns ws : List ℕ) (who : Caller) (t : Told) (gs : List Grant) (n : Needs) {x : Opened} → n ≡ t .needs → x ≡ opened-in n ns gs ws (roles-of who) (profile-of who) → x ≡ opened-in (t .needs) ns gs ws (roles-of who) (profile-of who)
 for-it ns ws who t gs n f e = e ∙ ap (λ (k : Needs). opened-in k ns gs ws (roles-of who) (profile-of who)) f
 
-pub prepared : (ns ws : List ℕ) (who : Caller) (t : Told) (x : Opened) (spare : ℕ) (bs : Bytes) (gs : List Grant) (n : Needs) (o : Option Form)
+prepared : (ns ws : List ℕ) (who : Caller) (t : Told) (x : Opened) (spare : ℕ) (bs : Bytes) (gs : List Grant) (n : Needs) (o : Option Form)
     → n ≡ t .needs → x ≡ opened-in n ns gs ws (roles-of who) (profile-of who) → TextRead spare o ns bs t → Prepared ns ws who t x
 prepared ns ws who t x spare bs gs n o f e k = record { spare = spare; bytes = bs; form = o; grants = gs; text = k; opened = for-it ns ws who t gs n f e }
+
+pub plain-prepared : (ns ws : List ℕ) (who : Caller) (t : Told) (x : Opened) (spare : ℕ) (bs : Bytes) (gs : List Grant) (n : Needs) (o : Option Form)
+    → n ≡ t .needs → x ≡ opened-in n ns gs ws (roles-of who) (profile-of who) → PlainRead spare o ns bs t → Prepared ns ws who t x
+plain-prepared ns ws who t x spare bs gs n o f e k = prepared ns ws who t x spare bs gs n o f e (k .text)
 
 pub route-prepared : (ns ws : List ℕ) (who : Caller) (t : Told) (x : Opened) (spare : ℕ) (bs : Bytes) (gs : List Grant) (n : Needs) (o : Option RouteLine)
     → n ≡ t .needs → x ≡ opened-in n ns gs ws (roles-of who) (profile-of who) → RouteRead spare o ns bs t → Prepared ns ws who t x
 route-prepared ns ws who t x spare bs gs n o f e k = prepared ns ws who t x spare bs gs n _ f e (k .text)
 
 pub answers-said : (m : Memory) (ws : List ℕ) (who : Caller) (t : Told) (x : Opened) (spare : ℕ) (bs : Bytes) (gs : List Grant) (n : Needs) (o : Option Form) (cells cells′ : List ℤ) (r : Reply)
-    → n ≡ t .needs → x ≡ opened-in n (m .names) gs ws (roles-of who) (profile-of who) → TextRead spare o (m .names) bs t → Answers m ws who t x cells cells′ r
+    → n ≡ t .needs → x ≡ opened-in n (m .names) gs ws (roles-of who) (profile-of who) → PlainRead spare o (m .names) bs t → Answers m ws who t x cells cells′ r
     → Replies (asked spare o (record { memory = m; grants = gs; granted = ws; caller = who }) bs cells) cells cells′ r
-answers-said m ws who t x spare bs gs n o cells cells′ r f e k a = a .shown spare bs o gs k (for-it (m .names) ws who t gs n f e)
+answers-said m ws who t x spare bs gs n o cells cells′ r f e k a = a .shown spare bs o gs (k .text) (for-it (m .names) ws who t gs n f e)
 
 pub routes-said : (m : Memory) (ws : List ℕ) (who : Caller) (t : Told) (x : Opened) (spare : ℕ) (bs : Bytes) (gs : List Grant) (n : Needs) (o : Option RouteLine) (out out′ : Bytes) (r : Reply)
     → n ≡ t .needs → x ≡ opened-in n (m .names) gs ws (roles-of who) (profile-of who) → RouteRead spare o (m .names) bs t → RouteLines m ws who t x out out′ r

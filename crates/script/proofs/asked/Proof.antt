@@ -1,10 +1,10 @@
 use borrow.Author.Needs.{needs}
-use Rattle.script.proofs.Opening.{prepared, answers-said}
+use Rattle.script.proofs.Opening.{plain-prepared, answers-said}
 use Rattle.script.proofs.asked.Statement.{statement}
 use Rattle.script.proofs.asked.Tie as tie
 
 answered-requires : tie.Need-answered-requires
-answered-requires c κs = search (prepared, needs)
+answered-requires c κs = search (plain-prepared, needs)
 
 returns : tie.Need-returns
 returns c = search (answers-said, needs)
