@@ -1,7 +1,3 @@
-pub mod Lines
-pub mod Keeping
-pub mod Rooms
-pub mod Printing
+pub mod Rounds
 pub mod Cut
-pub mod Advancing
 pub mod Whole

@@ -18,12 +18,13 @@ use Rattle.script.specs.Runs as S
 use Rattle.script.specs.Runs.{store}
 use Rattle.script.specs.States.{new-state}
 use Rattle.script.proofs.Running.{script-runs, new-fresh}
-use Rattle.program.specs.declared.Run.{Run}
-use Rattle.program.specs.Lines.{lines-of, ended, begun, closing, closer}
-use Rattle.program.specs.Output.{Writes}
-use Rattle.program.specs.Runs.{Point, point, Runs, stop, then, texts, Advances, refused-after, Known, Round, joined, Closed, Lent, Blocks, Prints, All}
-use Rattle.program.proofs.Advancing.{advances-then, advances-none}
-use Rattle.program.proofs.Lines.{lines-whole}
+use Rattle.lines.specs.declared.Run.{Run}
+use Rattle.lines.specs.Lines.{lines-of, ended, begun, closing, closer}
+use Rattle.lines.specs.Output.{Writes}
+use Rattle.lines.specs.Runs.{Point, point, Runs, stop, then, texts, Advances, refused-after, Known}
+use Rattle.program.specs.Rounds.{Round, joined, Closed, Lent, Blocks, Prints, All}
+use Rattle.lines.proofs.Advancing.{advances-then, advances-none}
+use Rattle.lines.proofs.Lines.{lines-whole}
 use Rattle.program.proofs.Cut.{script-cut}
 
 joined-append : (bs cs : List Bytes) → joined (bs ++ cs) ≡ joined bs ++ joined cs

@@ -1,8 +1,8 @@
 use borrow.Author.Needs.{needs}
 use mathlib.Core.Path.{_≡_, refl, _∙_}
 use lib.ListN.{length}
-use Rattle.program.specs.Runs.{point}
-use Rattle.program.proofs.Rooms.{rounds-less}
+use Rattle.lines.specs.Runs.{point}
+use Rattle.program.proofs.Rounds.{rounds-less}
 use Rattle.program.proofs.Whole.{Rounds, rounds-start, rounds-more, rounds-end, wide, wide-line}
 use Rattle.program.proofs.do_all.Statement.{statement}
 use Rattle.program.proofs.do_all.Tie as tie

@@ -4,8 +4,8 @@ use mathlib.Core.List.{List}
 use Prim.Native.Nat.{ℕ, _-_, _≤_}
 use native.Mathlib.Omega.{arith}
 use lib.ListN.{length, take}
-use Rattle.program.specs.Runs.{point, Advances, Known}
-use Rattle.program.proofs.Advancing.{block-start, block-more, block-end}
+use Rattle.lines.specs.Runs.{point, Advances, Known}
+use Rattle.lines.proofs.Advancing.{block-start, block-more, block-end}
 use Rattle.program.proofs.do_block.Statement.{statement}
 use Rattle.program.proofs.do_block.Tie as tie
 

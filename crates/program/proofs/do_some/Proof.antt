@@ -1,6 +1,6 @@
 use borrow.Author.Needs.{needs}
 use mathlib.Core.Path.{refl}
-use Rattle.program.proofs.Advancing.{round-done}
+use Rattle.program.proofs.Rounds.{round-done}
 use Rattle.program.proofs.do_some.Statement.{statement}
 use Rattle.program.proofs.do_some.Tie as tie
 

@@ -1,0 +1,5 @@
+pub mod Lines
+pub mod Keeping
+pub mod Rooms
+pub mod Printing
+pub mod Advancing

@@ -1,0 +1,108 @@
+-- The text of an outcome, and output that is kept.
+use mathlib.Core.Path.{_≡_, refl, sym, ap, _∙_, subst}
+use mathlib.Core.List.{List, _++_, append-assoc}
+use mathlib.Core.Bool.{Bool, false}
+use Prim.Native.Nat.{ℕ, zero, suc, _+_, _*_, _-_, _≤_, min}
+use native.Mathlib.Omega.{arith}
+use lib.IntN.{ℤ}
+use lib.ListN.{length, take, drop, length-take, length-drop, length-append}
+use lib.Seq.{take-append-seam}
+use Rattle.syntax.specs.Grammar.{Bytes}
+use Rattle.syntax.specs.Readers.{verb-of}
+use Rattle.calls.specs.Scripts.{refusal, cells, text}
+use Rattle.report.specs.Outcomes.{put-outcome, outcome-text}
+use Rattle.report.specs.Written.{Written}
+use Rattle.history.specs.Fixtures.{Store}
+use Rattle.script.specs.States.{Saying}
+use Rattle.script.specs.Steps.{outcome-of, Does}
+use Rattle.lines.specs.Output.{most-text, Room, Tells, Adds}
+use Rattle.lines.proofs.Keeping.{take-min}
+
+-- ---- outcomes by kind
+
+more-room : {t : Bytes} {a b : ℕ} {m m′ : Bytes} {n : ℕ} → Written t a m m′ n → a ≤ b → Written t b m m′ n
+more-room x h = record { count = x .count; whole = x .whole; cut = x .cut; few = omega (arith, x .few) }
+
+module _ (k n : ℕ) (zs : List ℤ) (ys m : Bytes) where
+  abbrev all : ℕ
+  all = 28 * length zs + length ys + 20
+
+  pub quiet-printed : k ≡ 0 → Written (outcome-text (outcome-of k n zs ys)) all m m 0
+  unfolding outcome-text put-outcome outcome-of
+  quiet-printed e =
+      subst (λ (j : ℕ). Written (outcome-text (outcome-of j n zs ys)) (28 * length zs + length ys + 20) m m 0) (sym e)
+      (record { count = refl; whole = λ h l. refl; cut = λ h l. absurd (omega arith); few = omega arith })
+
+  pub refusal-printed : {m′ : Bytes} {r : ℕ} → k ≡ 1 → Written (outcome-text (refusal n)) 20 m m′ r → Written (outcome-text (outcome-of k n zs ys)) all m m′ r
+  unfolding outcome-of
+  refusal-printed {m′} {r} e x = subst (λ (j : ℕ). Written (outcome-text (outcome-of j n zs ys)) (28 * length zs + length ys + 20) m m′ r) (sym e) (more-room x (omega arith))
+
+  pub cells-printed : {m′ : Bytes} {r : ℕ} (i : ℕ) → k ≡ 2 → i ≡ min n (length zs) → Written (outcome-text (cells (take (i - 0) zs))) (28 * length (take (i - 0) zs)) m m′ r → Written (outcome-text (outcome-of k n zs ys)) all m m′ r
+  unfolding outcome-of
+  cells-printed {m′} {r} i e f x =
+      let g : i - 0 ≡ i = omega arith in
+      let l : length (take (i - 0) zs) ≡ min (i - 0) (length zs) = length-take (i - 0) zs in
+      subst (λ (j : ℕ). Written (outcome-text (outcome-of j n zs ys)) (28 * length zs + length ys + 20) m m′ r) (sym e)
+      (subst (λ (w : List ℤ). Written (outcome-text (cells w)) (28 * length zs + length ys + 20) m m′ r) (ap (λ (j : ℕ). take j zs) (g ∙ f) ∙ take-min zs n) (more-room x (omega arith)))
+
+  pub text-printed : {m′ : Bytes} {r : ℕ} (i : ℕ) → (k ≡ 0 → ⊥) → (k ≡ 1 → ⊥) → (k ≡ 2 → ⊥) → i ≡ min n (length ys) → Written (outcome-text (text (take (i - 0) ys))) (length (take (i - 0) ys) + 1) m m′ r
+      → Written (outcome-text (outcome-of k n zs ys)) all m m′ r
+  unfolding outcome-of
+  text-printed {m′} {r} i a b c f x =
+      let g : i - 0 ≡ i = omega arith in
+      let l : length (take (i - 0) ys) ≡ min (i - 0) (length ys) = length-take (i - 0) ys in
+      go k a b c
+      (subst (λ (w : Bytes). Written (outcome-text (text w)) (28 * length zs + length ys + 20) m m′ r) (ap (λ (j : ℕ). take j ys) (g ∙ f) ∙ take-min ys n) (more-room x (omega arith)))
+    where
+      go : (j : ℕ) → (j ≡ 0 → ⊥) → (j ≡ 1 → ⊥) → (j ≡ 2 → ⊥) → Written (outcome-text (text (take n ys))) (28 * length zs + length ys + 20) m m′ r
+          → Written (outcome-text (outcome-of j n zs ys)) (28 * length zs + length ys + 20) m m′ r
+      go zero a b c y = absurd (a refl)
+      go (suc zero) a b c y = absurd (b refl)
+      go (suc (suc zero)) a b c y = absurd (c refl)
+      go (suc (suc (suc j))) a b c y = y
+
+pub ruleset print-ends = (quiet-printed, refusal-printed, cells-printed, text-printed)
+
+-- ---- behind what is kept
+
+take-more : (a b : Bytes) (n : ℕ) → n ≡ length a + length b → (c : Bytes) → take n (a ++ (b ++ c)) ≡ a ++ b
+take-more a b n e c = ap (λ (w : Bytes). take n w) (sym (append-assoc a b c)) ∙ ap (λ (j : ℕ). take j ((a ++ b) ++ c)) (e ∙ sym (length-append a b)) ∙ take-append-seam (a ++ b) c
+
+module _ (t : Bytes) (most used : ℕ) (m : Bytes) {at : ℕ} (x : Room m used at) where
+  -- the text is written into the part of m from `at` on, which leaves q
+  pub text-added : {q : Bytes} {n k : ℕ} (e : ℕ) → e ≡ length m → Written t most (take (e - at) (drop at m)) q n → k ≡ min n (length m - at)
+      → Adds t most false m used (take at m ++ (q ++ drop (e - at) (drop at m))) (at + k)
+  text-added {q} {n} {k} e f y g =
+      record {
+        rest = λ h i. record { written = x .rest .written; all = ap (λ (w : Bytes). x .rest .written ++ w) (fits h i) ∙ sym (append-assoc (x .rest .written) (take at m) t) ∙ ap (λ (w : Bytes). w ++ t) (x .rest .all) };
+        kept = λ o h i. fits h (omega arith) ∙ ap (λ (j : ℕ). take j m ++ t) (x .kept i);
+      }
+    where
+      fits : most ≤ most-text → most-text ≤ length m → take (at + k) (take at m ++ (q ++ drop (e - at) (drop at m))) ≡ take at m ++ t
+      fits h i =
+          let a : at + most-text ≤ length m = x .room i in
+          let p : length (take (e - at) (drop at m)) ≡ length m - at = length-take (e - at) (drop at m) ∙ (let b = length-drop at m in omega arith) in
+          let c = y .count in
+          let d = y .few in
+          let long : length t ≤ length m - at = omega arith in
+          let w = y .whole (omega arith) (omega arith) in
+          let o = length-take at m in
+          let v = x .inside in
+          ap (λ (z : Bytes). take (at + k) (take at m ++ (z ++ drop (e - at) (drop at m)))) w
+          ∙ ap (λ (z : Bytes). take (at + k) (take at m ++ z)) (append-assoc t (drop (length t) (take (e - at) (drop at m))) (drop (e - at) (drop at m)))
+          ∙ take-more (take at m) t (at + k) (omega arith) (drop (length t) (take (e - at) (drop at m)) ++ drop (e - at) (drop at m))
+
+-- the output up to a refusal is written before the reason
+pub told-behind : {t : Bytes} {n used : ℕ} {m m′ : Bytes} {r r′ : ℕ} (explains : Bool) → Adds t n false m used m′ r → Tells m′ r explains r′ → Adds t n explains m used m′ r′
+told-behind {t} {n} {used} {m} {m′} {r} {r′} explains x y =
+    record {
+      rest = λ h i. let z = x .rest h i in record { written = z .written ++ y .rest .written; all = append-assoc (z .written) (y .rest .written) (take r′ m′) ∙ ap (λ (w : Bytes). z .written ++ w) (y .rest .all) ∙ z .all };
+      kept = λ e h i. ap (λ (j : ℕ). take j m′) (y .kept e) ∙ x .kept refl h i;
+    }
+
+-- ---- a line
+
+-- a step by the kept part of a line
+pub step-kept : {zs zs′ : List ℤ} {ys ys′ : Bytes} {s t : Store} {y : Saying} (l : Bytes) (kept n : ℕ) → n ≡ min kept (length l) → Does (take (n - 0) l) zs ys (verb-of (take (n - 0) l)) s t zs′ ys′ y
+    → Does (take kept l) zs ys (verb-of (take kept l)) s t zs′ ys′ y
+step-kept {zs} {zs′} {ys} {ys′} {s} {t} {y} l kept n e d = let g : n - 0 ≡ n = omega arith in subst (λ (w : Bytes). Does w zs ys (verb-of w) s t zs′ ys′ y) (ap (λ (j : ℕ). take j l) (g ∙ e) ∙ take-min l kept) d
