@@ -1,4 +1,3 @@
-pub mod Weights
 pub mod Comparing
 pub mod Clocks
 pub mod Sides

@@ -28,7 +28,8 @@ use Rattle.column_masks.proofs.Columns.{lent-true}
 use Rattle.selection.specs.declared.Origin.{Origin}
 use Rattle.selection.specs.declared.Scope.{Scope}
 use Rattle.selection.specs.Scopes.{scope-columns, scope-row, paired, entry-at, profile-in}
-use Rattle.selection.specs.Evaluating.{relate, column-end, left-time, time-at, clock-at, side-value, parted, bare, Stands, wide, narrow, test-at, passing}
+use Rattle.time_masks.specs.Times.{column-end}
+use Rattle.selection.specs.Evaluating.{relate, left-time, time-at, clock-at, side-value, parted, bare, Stands, wide, narrow, test-at, passing}
 use Rattle.selection.proofs.Comparing.{le-not, Turned}
 
 -- ---- sides

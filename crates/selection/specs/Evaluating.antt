@@ -4,7 +4,6 @@ use mathlib.Core.List.{List, []}
 use mathlib.Core.Bool.{Bool, true, _&&_, _||_, cond}
 use Prim.Native.Nat.{ℕ, _+_, _*_, _-_, _≤_, _<_, min, max}
 use lib.IntN.{ℤ, pos}
-use lib.Signed.{ltZ}
 use lib.Dec.{T, leb, ltb, eqb}
 use lib.ListN.{length, getD}
 use Rattle.lists.specs.Lists.{every, some?}
@@ -22,6 +21,7 @@ use Rattle.grant.specs.Grants.{no-time}
 use Rattle.rows.specs.declared.Rows.{Rows}
 use Rattle.rows.specs.Masks.{rows-of, no-rows, first-rows, both-of, either-of}
 use Rattle.column_masks.specs.Columns.{compared-at}
+use Rattle.time_masks.specs.Times.{column-end}
 use Rattle.selection.specs.declared.Origin.{Origin}
 use Rattle.selection.specs.declared.Scope.{Scope}
 use Rattle.selection.specs.Scopes.{paired, scope-columns, scope-row, profile-in, cond-at}
@@ -34,10 +34,6 @@ relate head f g = compared-at (numbered-op head) f g
 
 -- ---- one side of a comparison
 
--- columns begin in the first place of a stream
-abbrev pub column-end : ℕ
-column-end = (places-size - max-rows) * max-columns + max-columns
-
 -- the time of the left row, 0 where there is none
 unfoldable pub left-time : Scope → List ℕ → ℕ
 left-time sc ts = cond (paired sc) (getD ts (sc .fixed) 0) 0
@@ -49,14 +45,6 @@ time-at sc ts i = min (max (left-time sc ts) (getD ts (sc .stream * max-rows + i
 -- and as a value
 unfoldable pub clock-at : Scope → List ℕ → ℕ → ℤ
 clock-at sc ts i = pos (time-at sc ts i)
-
--- the later of a time, at most the highest, and another
-unfoldable pub later-of : ℤ → ℕ → ℤ
-later-of low t = cond (ltZ (pos (min t top)) low) low (pos (min t top))
-
--- for rows whose times stand from a place on
-unfoldable pub clocked : ℤ → List ℕ → ℕ → ℕ → ℤ
-clocked low ts from i = later-of low (getD ts (from + i) 0)
 
 -- 1 is a column that begins at a place of the values, 2 the time, any other the side's value
 unfoldable pub side-value : Origin → Scope → List ℕ → List ℤ → ℕ → ℤ
@@ -148,13 +136,6 @@ pub record Carried (ws : List ℕ) (stop j : ℕ) (any? : Bool) (sc : Scope) (ts
   pub on : (k : ℕ) → Listed ws stop k any? sc ts vs ps j start → Listed ws stop k any? sc ts vs ps at m
 
 -- ---- times within two
-
--- the last time may be none
-unfoldable pub in-span : ℕ → ℕ → ℕ → Bool
-in-span low high t = leb low t && (eqb high no-time || leb t high)
-
-unfoldable pub timed : List ℕ → ℕ → ℕ → ℕ → Bool
-timed ts low high i = in-span low high (getD ts i 0)
 
 -- what a first and a last time ask of one; above the highest there is no limit
 unfoldable pub in-limits : ℕ → ℕ → ℕ → Bool

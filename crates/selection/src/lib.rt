@@ -2,22 +2,23 @@
 ghost use mathlib.Core.Path.{_≡_};
 ghost use mathlib.Core.List.{map};
 ghost use mathlib.Core.Bool.{true, false};
-ghost use Prim.Native.Nat.{_≤_, _<_, _+_, _*_, _-_, _/_, _%_, min};
+ghost use Prim.Native.Nat.{_≤_, _<_, _-_, _/_, _%_};
 ghost use lib.Dec.{T};
-ghost use lib.IntN.{ℤ, pos};
-ghost use lib.ListN.{length, getD};
-ghost use Rattle.syntax.specs.Grammar.{eq, lt, gt, test};
-ghost use Rattle.syntax.specs.Limits.{max-streams, max-columns, max-rows, top};
+ghost use lib.IntN.{ℤ};
+ghost use lib.ListN.{length};
+ghost use Rattle.syntax.specs.Grammar.{test};
+ghost use Rattle.syntax.specs.Limits.{max-streams, max-columns, max-rows};
 ghost use Rattle.model.specs.Queries.{column, col};
 ghost use Rattle.model.specs.Meaning.{compares};
 ghost use Rattle.model.specs.Grants.{entry-value, fill-term, fill};
 ghost use Rattle.text.specs.Words.{name-of};
 ghost use Rattle.ledger.specs.Records.{places-size, values-size};
 ghost use Rattle.nodes.specs.Nodes.{unbiased, coded-term, numbered-op, node-at, node-compare, link, conditions-of};
-ghost use Rattle.rows.specs.Masks.{one, bits, part, rows-of};
-ghost use Rattle.column_masks.specs.Columns.{strip, strip-lent, compared-at};
+ghost use Rattle.rows.specs.Masks.{rows-of};
+ghost use Rattle.column_masks.specs.Columns.{strip, strip-lent};
 ghost use Rattle.selection.specs.Scopes.{times-fit, scope-fits, profile-in, cond-at, selected, selected-all, timely};
-ghost use Rattle.selection.specs.Evaluating.{relate, column-end, left-time, side-value, Stands, Lent, left-named, wide, narrow, Taken, Leads, passing, list-passing, list-at, start-of, joined-of, in-span, timed, past, low-of, high-of, in-limits, time-at, clock-at, later-of, clocked, bare, parted, lists, Carried};
+ghost use Rattle.time_masks.specs.Times.{column-end, clocked};
+ghost use Rattle.selection.specs.Evaluating.{relate, left-time, side-value, Stands, Lent, left-named, wide, narrow, Taken, Leads, passing, list-passing, list-at, start-of, joined-of, past, low-of, high-of, in-limits, time-at, clock-at, bare, parted, lists, Carried};
 use cells::Datum;
 use grant::Grant;
 use ledger::Ledger;
@@ -71,9 +72,6 @@ impl Origin {
 
     const TIME: u32 = 2;
 }
-
-// From the first cell of a column to its last.
-const COLUMN: usize = 763;
 
 // ---- two numbers for each row
 
@@ -180,160 +178,6 @@ fn settled(head: u32, x: Datum, y: Datum, n: u32) -> Rows
 
 // ---- two sides compared
 
-// A time, at most the highest. Without a branch, so that rows are taken four at once.
-fn capped(t: u32) -> u32
-    ensures { λ r. ⌜ r ≡ min t top ⌝ }
-{
-    let bits = t / 2147483648 * 4294967295;
-    (t | bits) & Time::TOP
-}
-
-// The later of a row's time and another.
-fn clock(low: Datum, t: u32) -> Datum
-    ensures { λ r. ⌜ r .v ≡ later-of (low .v) t ⌝ }
-{
-    let s = capped(t);
-    let x = Datum { v: s as i32 };
-    if x.v < low.v {
-        return low;
-    }
-    x
-}
-
-// A weight where two values are the same, or 0.
-fn same_weight(x: Datum, y: Datum, w: u32) -> u32
-    ensures { λ r. ⌜ r ≡ one (compares eq (x .v) (y .v)) * w ⌝ }
-{
-    if x.v == y.v {
-        return w;
-    }
-    0
-}
-
-// A weight where one value is below another, or 0.
-fn less_weight(x: Datum, y: Datum, w: u32) -> u32
-    ensures { λ r. ⌜ r ≡ one (compares lt (x .v) (y .v)) * w ⌝ }
-{
-    if x.v < y.v {
-        return w;
-    }
-    0
-}
-
-// A weight where the later of the time at a place and another is a cell's value, or 0.
-fn same_at(low: Datum, times: &[u32], at: u32, column: &[i32], q: u32, w: u32) -> u32
-    requires { ⌜ at < length (now times) ⌝ }
-    ensures { λ r. ⌜ r ≡ one (compares eq (later-of (low .v) (getD (now (times .entry)) at 0)) (getD (now (column .entry)) q (pos 0))) * w ⌝ }
-{
-    same_weight(clock(low, times[at as usize]), cells::value(column, q), w)
-}
-
-// Of at most 128 rows those with such a time, by a column that begins at a place of the values.
-// Rows 32 apart are taken together, each with its own word.
-fn same_times(low: Datum, times: &[u32], from: u32, values: &[i32], p: u32, n: u32) -> Rows
-    requires { ⌜ (from ≤ 384) × (places-size ≤ length (now times)) × (p < column-end) × (values-size ≤ length (now values)) ⌝ }
-    ensures { λ r. ⌜ r ≡ rows-of (compared-at eq (clocked (low .v) (now (times .entry)) from) (strip (now (values .entry)) p max-columns)) 0 n ⌝ }
-{
-    let v = &values[(p as usize)..(p as usize + COLUMN)];
-    let mut a: u32 = 0;
-    let mut b: u32 = 0;
-    let mut c: u32 = 0;
-    let mut d: u32 = 0;
-    let mut i: u32 = 0;
-    while i < Rows::WORD {
-        let w = 1 << i;
-        let q = i * Scope::COLUMNS;
-        a += same_at(low, times, from + i, v, q, w);
-        b += same_at(low, times, from + i + 32, v, q + 192, w);
-        c += same_at(low, times, from + i + 64, v, q + 384, w);
-        d += same_at(low, times, from + i + 96, v, q + 576, w);
-        i += 1;
-    }
-    let m = Rows {
-        a: a,
-        b: b,
-        c: c,
-        d: d,
-    };
-    m.both(Rows::first(n))
-}
-
-// A weight where it is below the value, or 0.
-fn below_at(low: Datum, times: &[u32], at: u32, column: &[i32], q: u32, w: u32) -> u32
-    requires { ⌜ at < length (now times) ⌝ }
-    ensures { λ r. ⌜ r ≡ one (compares lt (later-of (low .v) (getD (now (times .entry)) at 0)) (getD (now (column .entry)) q (pos 0))) * w ⌝ }
-{
-    less_weight(clock(low, times[at as usize]), cells::value(column, q), w)
-}
-
-// Of at most 128 rows those with such a time, by a column that begins at a place of the values.
-// Rows 32 apart are taken together, each with its own word.
-fn below_times(low: Datum, times: &[u32], from: u32, values: &[i32], p: u32, n: u32) -> Rows
-    requires { ⌜ (from ≤ 384) × (places-size ≤ length (now times)) × (p < column-end) × (values-size ≤ length (now values)) ⌝ }
-    ensures { λ r. ⌜ r ≡ rows-of (compared-at lt (clocked (low .v) (now (times .entry)) from) (strip (now (values .entry)) p max-columns)) 0 n ⌝ }
-{
-    let v = &values[(p as usize)..(p as usize + COLUMN)];
-    let mut a: u32 = 0;
-    let mut b: u32 = 0;
-    let mut c: u32 = 0;
-    let mut d: u32 = 0;
-    let mut i: u32 = 0;
-    while i < Rows::WORD {
-        let w = 1 << i;
-        let q = i * Scope::COLUMNS;
-        a += below_at(low, times, from + i, v, q, w);
-        b += below_at(low, times, from + i + 32, v, q + 192, w);
-        c += below_at(low, times, from + i + 64, v, q + 384, w);
-        d += below_at(low, times, from + i + 96, v, q + 576, w);
-        i += 1;
-    }
-    let m = Rows {
-        a: a,
-        b: b,
-        c: c,
-        d: d,
-    };
-    m.both(Rows::first(n))
-}
-
-// A weight where it is above the value, or 0.
-fn above_at(low: Datum, times: &[u32], at: u32, column: &[i32], q: u32, w: u32) -> u32
-    requires { ⌜ at < length (now times) ⌝ }
-    ensures { λ r. ⌜ r ≡ one (compares gt (later-of (low .v) (getD (now (times .entry)) at 0)) (getD (now (column .entry)) q (pos 0))) * w ⌝ }
-{
-    less_weight(cells::value(column, q), clock(low, times[at as usize]), w)
-}
-
-// Of at most 128 rows those with such a time, by a column that begins at a place of the values.
-// Rows 32 apart are taken together, each with its own word.
-fn above_times(low: Datum, times: &[u32], from: u32, values: &[i32], p: u32, n: u32) -> Rows
-    requires { ⌜ (from ≤ 384) × (places-size ≤ length (now times)) × (p < column-end) × (values-size ≤ length (now values)) ⌝ }
-    ensures { λ r. ⌜ r ≡ rows-of (compared-at gt (clocked (low .v) (now (times .entry)) from) (strip (now (values .entry)) p max-columns)) 0 n ⌝ }
-{
-    let v = &values[(p as usize)..(p as usize + COLUMN)];
-    let mut a: u32 = 0;
-    let mut b: u32 = 0;
-    let mut c: u32 = 0;
-    let mut d: u32 = 0;
-    let mut i: u32 = 0;
-    while i < Rows::WORD {
-        let w = 1 << i;
-        let q = i * Scope::COLUMNS;
-        a += above_at(low, times, from + i, v, q, w);
-        b += above_at(low, times, from + i + 32, v, q + 192, w);
-        c += above_at(low, times, from + i + 64, v, q + 384, w);
-        d += above_at(low, times, from + i + 96, v, q + 576, w);
-        i += 1;
-    }
-    let m = Rows {
-        a: a,
-        b: b,
-        c: c,
-        d: d,
-    };
-    m.both(Rows::first(n))
-}
-
 // The time of the left row, 0 where there is none.
 fn left_time(sc: Scope, times: &[u32]) -> u32
     requires { ⌜ places-size ≤ length (now times) ⌝ }
@@ -352,21 +196,21 @@ fn by_clock(head: u32, low: Datum, times: &[u32], from: u32, values: &[i32], p: 
     ensures { λ r. ⌜ r ≡ rows-of (relate head (clocked (low .v) (now (times .entry)) from) (strip (now (values .entry)) p max-columns)) 0 n ⌝ }
 {
     if head == 5 {
-        return above_times(low, times, from, values, p, n);
+        return time_masks::above_times(low, times, from, values, p, n);
     }
     if head == 3 {
-        return below_times(low, times, from, values, p, n);
+        return time_masks::below_times(low, times, from, values, p, n);
     }
     if head == 1 {
-        return same_times(low, times, from, values, p, n);
+        return time_masks::same_times(low, times, from, values, p, n);
     }
     if head == 2 {
-        return Rows::first(n).flip(same_times(low, times, from, values, p, n));
+        return Rows::first(n).flip(time_masks::same_times(low, times, from, values, p, n));
     }
     if head == 4 {
-        return Rows::first(n).flip(above_times(low, times, from, values, p, n));
+        return Rows::first(n).flip(time_masks::above_times(low, times, from, values, p, n));
     }
-    Rows::first(n).flip(below_times(low, times, from, values, p, n))
+    Rows::first(n).flip(time_masks::below_times(low, times, from, values, p, n))
 }
 
 // The rows whose time compares so with a value.
@@ -421,7 +265,7 @@ fn by_times(
         breadth: 0,
     };
     if kind == Origin::COLUMN {
-        let low = clock(Datum { v: 0 }, left_time(sc, times));
+        let low = time_masks::clock(Datum { v: 0 }, left_time(sc, times));
         return by_clock(head, low, times, stream * Scope::ROWS, values, at, n);
     }
     if kind == Origin::TIME {
@@ -902,47 +746,6 @@ pub fn conditions(
 
 // ---- times
 
-// A weight where a time is within two, or 0.
-fn time_weight(t: u32, low: u32, high: u32, w: u32) -> u32
-    ensures { λ r. ⌜ r ≡ one (in-span low high t) * w ⌝ }
-{
-    if t < low {
-        return 0;
-    }
-    if high < t {
-        return 0;
-    }
-    w
-}
-
-// Of at most 128 places from one on, those with such a time. Places 32 apart are taken together, each with its own word.
-fn time_rows(times: &[u32], low: u32, high: u32, from: u32, n: u32) -> Rows
-    requires { ⌜ (from ≤ 384) × (places-size ≤ length (now times)) ⌝ }
-    ensures { λ r. ⌜ r ≡ rows-of (timed (now (times .entry)) low high) from n ⌝ }
-{
-    let k = rows::part(n, 0);
-    let mut a: u32 = 0;
-    let mut b: u32 = 0;
-    let mut c: u32 = 0;
-    let mut d: u32 = 0;
-    let mut i: u32 = 0;
-    while i < k {
-        let w = 1 << i;
-        a += time_weight(times[(from + i) as usize], low, high, w);
-        b += time_weight(times[(from + 32 + i) as usize], low, high, w);
-        c += time_weight(times[(from + 64 + i) as usize], low, high, w);
-        d += time_weight(times[(from + 96 + i) as usize], low, high, w);
-        i += 1;
-    }
-    let m = Rows {
-        a: a,
-        b: b,
-        c: c,
-        d: d,
-    };
-    m.both(Rows::first(n))
-}
-
 // The first time that is asked of a row beside one of another time.
 fn low_time(from: u32, left: u32) -> u32
     ensures { λ r. ⌜ r ≡ low-of from left ⌝ }
@@ -987,7 +790,7 @@ fn limited(from: u32, to: u32, sc: Scope, times: &[u32]) -> Rows
     }
     let low = low_time(from, left);
     let high = high_time(to);
-    time_rows(times, low, high, sc.stream * Scope::ROWS, sc.rows)
+    time_masks::time_rows(times, low, high, sc.stream * Scope::ROWS, sc.rows)
 }
 
 // Returns the rows of a scope whose time is within two, of which each may be no limit; none where memory is short.

@@ -1,6 +1,6 @@
 use borrow.Author.Needs.{needs}
 use Rattle.column_masks.specs.Columns.{strip}
-use Rattle.selection.specs.Evaluating.{clocked}
+use Rattle.time_masks.specs.Times.{clocked}
 use Rattle.selection.proofs.Comparing.{compared-eq, compared-ne, compared-lt, compared-le, compared-gt, compared-ge}
 use Rattle.selection.proofs.Clocks.{rows-above}
 use Rattle.selection.proofs.by_clock.Statement.{statement}

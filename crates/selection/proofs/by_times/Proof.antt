@@ -3,7 +3,8 @@ use mathlib.Core.Path.{refl, ap, _∙_}
 use native.Mathlib.Omega.{arith}
 use lib.IntN.{pos}
 use Rattle.column_masks.specs.Columns.{strip}
-use Rattle.selection.specs.Evaluating.{later-of, bare, parted}
+use Rattle.time_masks.specs.Times.{later-of}
+use Rattle.selection.specs.Evaluating.{bare, parted}
 use Rattle.selection.proofs.Clocks.{clocked-rows}
 use Rattle.selection.proofs.Relating.{valued-column, valued-fixed, times-valued, times-self}
 use Rattle.selection.proofs.by_times.Statement.{statement}

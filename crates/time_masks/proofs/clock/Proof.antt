@@ -1,10 +1,10 @@
 use borrow.Author.Needs.{needs}
-use Rattle.selection.proofs.Clocks.{later-ends}
-use Rattle.selection.proofs.clock.Statement.{statement}
-use Rattle.selection.proofs.clock.Tie as tie
-use Rattle.selection.proofs.clock.Reads as reads
-use Rattle.selection.proofs.clock.Lts as lts
-use Rattle.selection.proofs.capped.Reads as capped-reads
+use Rattle.time_masks.proofs.Clocks.{later-ends}
+use Rattle.time_masks.proofs.clock.Statement.{statement}
+use Rattle.time_masks.proofs.clock.Tie as tie
+use Rattle.time_masks.proofs.clock.Reads as reads
+use Rattle.time_masks.proofs.clock.Lts as lts
+use Rattle.time_masks.proofs.capped.Reads as capped-reads
 
 -- src/lib.rt:191:9
 capped-requires : tie.Need-capped-requires

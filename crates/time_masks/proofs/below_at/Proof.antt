@@ -1,12 +1,12 @@
 use borrow.Author.Needs.{needs}
-use Rattle.selection.proofs.Clocks.{at-weight}
-use Rattle.selection.proofs.below_at.Statement.{statement}
-use Rattle.selection.proofs.below_at.Tie as tie
-use Rattle.selection.proofs.below_at.Reads as reads
-use Rattle.selection.proofs.below_at.Lts as lts
+use Rattle.time_masks.proofs.Clocks.{at-weight}
+use Rattle.time_masks.proofs.below_at.Statement.{statement}
+use Rattle.time_masks.proofs.below_at.Tie as tie
+use Rattle.time_masks.proofs.below_at.Reads as reads
+use Rattle.time_masks.proofs.below_at.Lts as lts
 use Rattle.cells.proofs.value.Reads as value-reads
-use Rattle.selection.proofs.clock.Reads as clock-reads
-use Rattle.selection.proofs.less_weight.Reads as less-weight-reads
+use Rattle.time_masks.proofs.clock.Reads as clock-reads
+use Rattle.time_masks.proofs.less_weight.Reads as less-weight-reads
 
 -- src/lib.rt:263:28
 mul-clock : tie.Need-mul-clock

@@ -1,9 +1,9 @@
 use borrow.Author.Needs.{needs}
-use Rattle.selection.proofs.Limits.{time-ends}
-use Rattle.selection.proofs.time_weight.Statement.{statement}
-use Rattle.selection.proofs.time_weight.Tie as tie
-use Rattle.selection.proofs.time_weight.Reads as reads
-use Rattle.selection.proofs.time_weight.Lts as lts
+use Rattle.time_masks.proofs.Spans.{time-ends}
+use Rattle.time_masks.proofs.time_weight.Statement.{statement}
+use Rattle.time_masks.proofs.time_weight.Tie as tie
+use Rattle.time_masks.proofs.time_weight.Reads as reads
+use Rattle.time_masks.proofs.time_weight.Lts as lts
 
 -- src/lib.rt:816:9
 returns : tie.Need-returns

@@ -1,8 +1,8 @@
 use native.Mathlib.Omega.{arith}
 use borrow.Author.Needs.{needs}
-use Rattle.selection.proofs.Clocks.{capped-is}
-use Rattle.selection.proofs.capped.Statement.{statement}
-use Rattle.selection.proofs.capped.Tie as tie
+use Rattle.time_masks.proofs.Clocks.{capped-is}
+use Rattle.time_masks.proofs.capped.Statement.{statement}
+use Rattle.time_masks.proofs.capped.Tie as tie
 
 pub capped-spec : {M : Type 1} → statement M
 capped-spec =

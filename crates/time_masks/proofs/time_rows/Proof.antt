@@ -3,11 +3,11 @@ use mathlib.Core.Path.{_≡_, refl}
 use Prim.Native.Nat.{_+_, _-_, _<_, _≤_}
 use native.Mathlib.Omega.{arith}
 use Rattle.rows.specs.Masks.{bits}
-use Rattle.selection.specs.Evaluating.{timed}
-use Rattle.selection.proofs.Limits.{time-read}
-use Rattle.selection.proofs.Weights.{weight-none, weight-fits, weight-more, rows-cut}
-use Rattle.selection.proofs.time_rows.Statement.{statement}
-use Rattle.selection.proofs.time_rows.Tie as tie
+use Rattle.time_masks.specs.Times.{timed}
+use Rattle.time_masks.proofs.Spans.{time-read}
+use Rattle.time_masks.proofs.Weights.{weight-none, weight-fits, weight-more, rows-cut}
+use Rattle.time_masks.proofs.time_rows.Statement.{statement}
+use Rattle.time_masks.proofs.time_rows.Tie as tie
 
 abbrev Inv-loop : tie.InvT-loop
 Inv-loop times low high from n k a₀ b₀ c₀ d₀ i₀ a b c d i =

@@ -1,0 +1,3 @@
+pub mod Weights
+pub mod Clocks
+pub mod Spans
