@@ -19,7 +19,7 @@ use Rattle.figures.specs.declared.Answer.{Answer}
 use Rattle.figures.specs.Figures.{row-of, passing}
 use Rattle.windows.specs.Events.{figure-in, window-tally, events-from}
 use Rattle.windows.specs.Windows.{Timed, Sought, Runs, window-row, run-rows, answers-from, answers}
-use Rattle.windows.specs.Lent.{events-sound, answers-in, passing-row, picked-rows, Behind, Written}
+use Rattle.windows.specs.Lent.{events-sound, answers-in, passing-row, picked-rows, Behind}
 use Rattle.windows.specs.declared.Event.{Event}
 use Rattle.windows.specs.declared.Windows.{Windows}
 use Rattle.windows.specs.declared.Place.{Place}
@@ -83,11 +83,6 @@ module _ {more : List Row} {cells : List ℤ} {at rows : ℕ} {cells′ : List �
       let m : at + r * 2 ≡ at + rows * 2 + length more * 2 = omega arith in
       rw (m, b .cells-left, e, gather-append row-cells more rest) (sets-rows cells (at + rows * 2) s (gather row-cells rest))
 
--- no rows
-pub written-none : (cells : List ℤ) (at : ℕ) → Written [] cells at cells 0
-unfolding gather
-written-none cells at = record { cells-left = refl; counted = refl }
-
 -- ---- rows that pass
 
 module _ (ws ks : List ℕ) where
@@ -105,7 +100,7 @@ module _ (ws ks : List ℕ) where
       go true e = ap (λ l. x ∷ l) e
       go false e = e
 
-  pub picked-none : picked-rows ws ks [] ≡ []
+  picked-none : picked-rows ws ks [] ≡ []
   unfolding picked-rows select
   picked-none = refl
 
@@ -210,13 +205,8 @@ module _ (w : Windows) (f : Fn) (ts cs : List ℕ) (ps : List ℤ) (ws ks : List
   unfolding rows-left
   rows-next k p o t s e n l h = ap (picked-rows ws ks) (sought-run w f ts cs ps k p o t s e n l h) ∙ picked-append ws ks (run-rows w f ts cs ps (p .event) (p .window) n) (answers-from w f es n)
 
--- ---- events that may be lent, and others
+-- ---- events that may be lent
 
-module _ (w : Windows) (f : Fn) (ts cs : List ℕ) (ps : List ℤ) {b : Bool} (s : b ≡ events-sound w ts cs ps) where
-  pub answers-lent : not b ≡ false → answers w f (events-from ts cs ps 0) ≡ answers-in f w ts cs ps
-  unfolding answers-in
-  answers-lent h = rw (← s, not-false b h)
-
-  pub answers-unlent : not b ≡ true → [] ≡ answers-in f w ts cs ps
-  unfolding answers-in
-  answers-unlent h = rw (← s, not-true b h)
+pub answers-lent : (w : Windows) (f : Fn) (ts cs : List ℕ) (ps : List ℤ) → events-sound w ts cs ps ≡ true → answers w f (events-from ts cs ps 0) ≡ answers-in f w ts cs ps
+unfolding answers-in
+answers-lent w f ts cs ps s = rw s

@@ -1,6 +1,6 @@
 // Figures of windows over events in order of time: only windows that have ended and hold an event are visited, and the tally moves with them.
 ghost use mathlib.Core.Path.{_≡_};
-ghost use mathlib.Core.Bool.{false};
+ghost use mathlib.Core.Bool.{true, false};
 ghost use mathlib.Core.List.{List, _∷_, []};
 ghost use Prim.Native.Nat.{ℕ, suc, _+_, _*_, _^_, _≤_, _<_, min, max};
 ghost use lib.IntN.{ℤ, natAbs};
@@ -11,9 +11,8 @@ ghost use Rattle.model.specs.Answers.{row-cells};
 ghost use Rattle.figures.specs.Figures.{row-of};
 ghost use Rattle.windows.specs.Events.{with-event, less-event, figure-in, event-at, events-from, window-tally};
 ghost use Rattle.windows.specs.Windows.{Bounded, Timed, Before, Ordered, Reached, Sought, Parts, Spans, Kept, Runs, most-events, answers, last-with, run-rows};
-ghost use Rattle.windows.specs.Lent.{windows-sound, part-sound, event-sound, events-sound, answers-in, picked-rows, Behind, Written};
+ghost use Rattle.windows.specs.Lent.{events-sound, answers-in, picked-rows, Behind, Written};
 use figures::Answer;
-use text::Time;
 
 // The windows of an aggregate, with its number: window k covers the times from k * offset up to, not including, k * offset + size.
 pub struct Windows {
@@ -35,6 +34,17 @@ pub struct Event {
     pub time: u32,
     pub count: u32,
     pub part: i64,
+}
+
+impl Event {
+    // The least and the greatest part that it may have.
+    pub const LEAST: i64 = -35184372088832;
+
+    pub const GREATEST: i64 = 35184372088832;
+    // How many rows it may have.
+    pub const ROWS: u32 = 16384;
+    // How many events there may be.
+    pub const MOST: usize = 256;
 }
 
 // What an aggregate has seen.
@@ -316,94 +326,6 @@ fn counted(words: &[u32], picks: &[u32], a: Answer, rows: u32) -> u32
     rows + 1
 }
 
-impl Windows {
-    // Whether windows may be lent.
-    fn sound(self) -> bool
-        ensures { λ r. ⌜ r ≡ windows-sound self ⌝ }
-    {
-        if Time::TOP < self.clock {
-            return false;
-        }
-        if self.size == 0 {
-            return false;
-        }
-        if self.offset == 0 {
-            return false;
-        }
-        self.offset <= Time::TOP
-    }
-}
-
-impl Event {
-    // The least and the greatest part that it may have.
-    pub const LEAST: i64 = -35184372088832;
-
-    pub const GREATEST: i64 = 35184372088832;
-    // How many rows it may have.
-    pub const ROWS: u32 = 16384;
-    // How many events there may be.
-    pub const MOST: usize = 256;
-
-    // Whether an event may be lent behind a time.
-    fn sound(self, clock: u32, low: u32) -> bool
-        ensures { λ r. ⌜ r ≡ event-sound clock low self ⌝ }
-    {
-        if self.time < low {
-            return false;
-        }
-        if clock < self.time {
-            return false;
-        }
-        if self.count == 0 {
-            return false;
-        }
-        if Event::ROWS < self.count {
-            return false;
-        }
-        self.part_sound()
-    }
-
-    // Whether its part is not too large.
-    fn part_sound(self) -> bool
-        ensures { λ r. ⌜ r ≡ part-sound (self .part) ⌝ }
-    {
-        if Event::LEAST <= self.part {
-            return self.part <= Event::GREATEST;
-        }
-        false
-    }
-}
-
-// Returns whether events may be lent with windows (see `events-sound`).
-pub fn sound(w: Windows, times: &[u32], counts: &[u16], parts: &[i64]) -> bool
-    ensures { λ r. ⌜ r ≡ events-sound w (now (times .entry)) (now (counts .entry)) (now (parts .entry)) ⌝ }
-{
-    if !w.sound() {
-        return false;
-    }
-    if Event::MOST < times.len() {
-        return false;
-    }
-    if counts.len() != times.len() {
-        return false;
-    }
-    if parts.len() != times.len() {
-        return false;
-    }
-    let n = times.len() as u32;
-    let mut low: u32 = 0;
-    let mut i: u32 = 0;
-    while i < n {
-        let e = event_at(times, counts, parts, i);
-        if !e.sound(w.clock, low) {
-            return false;
-        }
-        low = e.time;
-        i += 1;
-    }
-    true
-}
-
 // The last window that has ended and begins by a time.
 fn last_with(w: Windows, t: u32) -> u32
     requires { ⌜ (1 ≤ w .offset) × (w .size ≤ w .clock) ⌝ }
@@ -536,7 +458,7 @@ fn count_picked(
     r.rows
 }
 
-// Returns how many answer rows pass the conditions that end at some places of the words, or one more than the room where they are more; 0 where the events may not be lent.
+// Returns how many answer rows pass the conditions that end at some places of the words, or one more than the room where they are more.
 pub fn count(
     w: Windows,
     times: &[u32],
@@ -546,11 +468,9 @@ pub fn count(
     picks: &[u32],
     room: u32,
 ) -> u32
+    requires { ⌜ events-sound w (now times) (now counts) (now parts) ≡ true ⌝ }
     ensures { λ r. ⌜ r ≡ min (length (picked-rows (now (words .entry)) (now (picks .entry)) (answers-in (numbered-fn (w .number)) w (now (times .entry)) (now (counts .entry)) (now (parts .entry))))) (suc room) ⌝ }
 {
-    if !sound(w, times, counts, parts) {
-        return 0;
-    }
     if picks.len() == 0 {
         return count_windows(w, times, room);
     }
@@ -629,7 +549,7 @@ fn write_rows(
     r.rows
 }
 
-// Returns how many answer rows pass the conditions that end at some places of the words; 0 where the events may not be lent.
+// Returns how many answer rows pass the conditions that end at some places of the words.
 // Leaves two cells a row from a place on, its end and its figure, as far as there are cells, and all others as they were.
 pub fn write(
     w: Windows,
@@ -641,10 +561,8 @@ pub fn write(
     cells: &mut [i64],
     at: u32,
 ) -> u32
+    requires { ⌜ events-sound w (now times) (now counts) (now parts) ≡ true ⌝ }
     ensures { λ r. ⌜ Written (picked-rows (now (words .entry)) (now (picks .entry)) (answers-in (numbered-fn (w .number)) w (now (times .entry)) (now (counts .entry)) (now (parts .entry)))) (now (cells .entry)) at (now (cells .exit)) r ⌝ }
 {
-    if !sound(w, times, counts, parts) {
-        return 0;
-    }
     write_rows(w, times, counts, parts, words, picks, cells, at)
 }
