@@ -176,7 +176,7 @@ pub fn enter(
     let p = y.plan(q, names);
     let left = sides::scope(l, names, p.left);
     let lefts = left_rows(p, turn, left, times, values, words, granted, profile, kept);
-    let right = sides::scope(l, names, p.right);
+    let right = sides::right_scope(p, left, l, names);
     let rights = sides::right(p, right, times, values, words, granted, profile);
     let w = route_rows::width(p);
     let aim = Aim {
