@@ -48,7 +48,7 @@ abbrev memory : tie.Start → Memory
 memory c = record { ledger = c .args .l; names = c .args .names .now; times = c .args .times .now; values = c .args .values .now }
 
 print-requires : tie.Need-print-requires
-print-requires c κs = lines-ready (memory (c .before .before .before .before .before .before .before .before .before .before .before .before .before .before .before .before .before .before .before .before .before)) _ _ _ _ (c .before .before .before .before .before .before .before .before .before .before .before .before .before .before .may-be-lent .ensures) (c .before .before .before .before .before .before .before .before .before .before .before .before .before .verdict .ensures) (c .before .before .before .before .before .before .before .before .before .before .before .before .before .before .before .before .before .before .before .before .before .args .number) (c .before .before .before .before .before .before .before .before .before .before .before .before .before .before .before .before .before .before .before .before .before .args .out .now) (c .before .before .before .before .before .before .before .before .before .before .before .before .before .before .before .before .before .before .before .before .before .pre) (search needs) (profile-first _ (c .before .before .before .before .before .before .before .before .before .before .profile-of .ensures) (c .before .before .before .before .before .before .before .before .least .ensures))
+print-requires c κs = lines-ready (memory (c .before .before .before .before .before .before .before .before .before .before .before .before .before .before .before .before .before .before .before .before .before .before)) _ _ _ _ (c .before .before .before .before .before .before .before .before .before .before .before .before .before .before .before .may-be-lent .ensures) (c .before .before .before .before .before .before .before .before .before .before .before .before .before .before .verdict .ensures) (c .before .before .before .before .before .before .before .before .before .before .before .before .before .before .before .before .before .before .before .before .before .before .args .number) (c .before .before .before .before .before .before .before .before .before .before .before .before .before .before .before .before .before .before .before .before .before .before .args .out .now) (c .before .before .before .before .before .before .before .before .before .before .before .before .before .before .before .before .before .before .before .before .before .before .pre) (search needs) (profile-first _ (c .before .before .before .before .before .before .before .before .before .before .before .profile-of .ensures) (c .before .before .before .before .before .before .before .before .before .least .ensures))
 
 returns : tie.Need-returns
 returns c = let a = c .before .before .before .before .before .may-be-lent .ensures in let b = c .before .before .before .before .verdict .ensures in let d = c .refused .ensures in search (lines-refused, needs)
@@ -57,7 +57,7 @@ same-length : tie.Need-same-length
 same-length c = search needs
 
 returns-2 : tie.Need-returns-2
-returns-2 c = lines-given (memory (c .before .before .before .before .before .before .before .before .before .before .before .before .before .before .before .before .before .before .before .before .before .before .before .before)) _ _ _ _ (c .before .before .before .before .before .before .before .before .before .before .before .before .before .before .before .before .before .may-be-lent .ensures) (c .before .before .before .before .before .before .before .before .before .before .before .before .before .before .before .before .verdict .ensures) (c .before .before .before .before .before .before .before .before .before .before .before .before .before .before .before .before .before .before .before .before .before .before .before .before .args .number) _ (search needs) (search needs) (c .before .before .before .before .before .before .before .before .before .before .before .before .before .before .before .before .before .before .before .before .before .before .before .before .fits .number) (profile-first _ (c .before .before .before .before .before .before .before .before .before .before .before .before .before .profile-of .ensures) (c .before .before .before .before .before .before .before .before .before .before .before .least .ensures)) (c .before .before .print .ensures)
+returns-2 c = lines-given (memory (c .before .before .before .before .before .before .before .before .before .before .before .before .before .before .before .before .before .before .before .before .before .before .before .before .before)) _ _ _ _ (c .before .before .before .before .before .before .before .before .before .before .before .before .before .before .before .before .before .before .may-be-lent .ensures) (c .before .before .before .before .before .before .before .before .before .before .before .before .before .before .before .before .before .verdict .ensures) (c .before .before .before .before .before .before .before .before .before .before .before .before .before .before .before .before .before .before .before .before .before .before .before .before .before .args .number) _ (search needs) (search needs) (c .before .before .before .before .before .before .before .before .before .before .before .before .before .before .before .before .before .before .before .before .before .before .before .before .before .fits .number) (profile-first _ (c .before .before .before .before .before .before .before .before .before .before .before .before .before .before .profile-of .ensures) (c .before .before .before .before .before .before .before .before .before .before .before .before .least .ensures)) (c .before .before .print .ensures)
 
 pub lined-spec : {M : Type 1} → statement M
 lined-spec =

@@ -14,8 +14,8 @@ scope-requires c κs = search needs
 left-rows-requires : tie.Need-left-rows-requires
 left-rows-requires c κs = left-ready _ _ _ _ _ _ _ _ _ (c .before .before .before .before .before .before .before .before .before .args .cells .now) (c .before .before .before .before .before .before .before .before .before .pre .0) (c .before .before .plan .ensures) (c .before .scope .ensures) (c .before .before .before .before .before .before .before .before .before .pre .1)
 
-scope-requires-2 : tie.Need-scope-requires-2
-scope-requires-2 c κs = search needs
+right-scope-requires : tie.Need-right-scope-requires
+right-scope-requires c κs = search needs
 
 right-requires : tie.Need-right-requires
 right-requires c κs = search needs
@@ -33,10 +33,10 @@ same-length : tie.Need-same-length
 same-length c = c .before .before .before .before .before .before .before .before .before .before .left-rows .ensures .1 .size
 
 returns : tie.Need-returns
-returns c = let a = left-of-stream _ _ _ (c .before .before .before .before .before .before .before .before .before .before .before .before .scope .ensures) (c .before .before .before .before .before .before .before .before .before .before .left-rows .ensures .0) in let b = right-of-stream _ _ _ (c .before .before .before .before .before .before .before .scope2 .ensures) (c .before .before .before .before .before .before .right .ensures) in (route-bounded _ _ _ _ _ _ _ _ _ _ (c .before .before .before .before .before .before .before .before .before .before .before .before .before .before .before .before .before .before .before .before .pre .0) (c .before .before .before .before .before .before .before .before .before .before .before .before .before .plan .ensures) (c .before .before .before .before .before .width .ensures) a b (c .before .before .bound .ensures) (c .if2 .taken) (c .before .before .before .if1 .taken), left-kept _ _ _ _ _ _ _ _ _ (c .before .before .before .before .before .before .before .before .before .before .before .before .before .before .before .before .before .before .before .before .args .cells .now) (c .before .before .before .before .before .before .before .before .before .before .before .before .before .before .before .before .before .before .before .before .pre .0) (c .before .before .before .before .before .before .before .before .before .before .before .before .before .plan .ensures) a (c .before .before .before .before .before .before .before .before .before .before .left-rows .ensures .1))
+returns c = let a = left-of-stream _ _ _ (c .before .before .before .before .before .before .before .before .before .before .before .before .scope .ensures) (c .before .before .before .before .before .before .before .before .before .before .left-rows .ensures .0) in let b = right-of-stream _ _ _ _ (c .before .before .before .before .before .before .before .right-scope .ensures) (c .before .before .before .before .before .before .right .ensures) in (route-bounded _ _ _ _ _ _ _ _ _ _ (c .before .before .before .before .before .before .before .before .before .before .before .before .before .before .before .before .before .before .before .before .pre .0) (c .before .before .before .before .before .before .before .before .before .before .before .before .before .plan .ensures) (c .before .before .before .before .before .width .ensures) a b (c .before .before .bound .ensures) (c .if2 .taken) (c .before .before .before .if1 .taken), left-kept _ _ _ _ _ _ _ _ _ (c .before .before .before .before .before .before .before .before .before .before .before .before .before .before .before .before .before .before .before .before .args .cells .now) (c .before .before .before .before .before .before .before .before .before .before .before .before .before .before .before .before .before .before .before .before .pre .0) (c .before .before .before .before .before .before .before .before .before .before .before .before .before .plan .ensures) a (c .before .before .before .before .before .before .before .before .before .before .left-rows .ensures .1))
 
 rows-requires : tie.Need-rows-requires
-rows-requires c κs = let a = left-of-stream _ _ _ (c .before .before .before .before .before .before .before .before .before .before .scope .ensures) (c .before .before .before .before .before .before .before .before .left-rows .ensures .0) in let b = right-of-stream _ _ _ (c .before .before .before .before .before .scope2 .ensures) (c .before .before .before .before .right .ensures) in let x = rows-ready _ _ _ _ _ _ _ _ _ (c .before .before .before .before .before .before .before .before .before .before .before .before .before .before .before .before .before .before .args .cells .now) (c .before .before .before .before .before .before .before .before .before .before .before .before .before .before .before .before .before .before .pre .0) (c .before .before .before .before .before .before .before .before .before .before .before .plan .ensures) a b in (x .0, x .1, c .before .before .before .width .ensures)
+rows-requires c κs = let a = left-of-stream _ _ _ (c .before .before .before .before .before .before .before .before .before .before .scope .ensures) (c .before .before .before .before .before .before .before .before .left-rows .ensures .0) in let b = right-of-stream _ _ _ _ (c .before .before .before .before .before .right-scope .ensures) (c .before .before .before .before .right .ensures) in let x = rows-ready _ _ _ _ _ _ _ _ _ (c .before .before .before .before .before .before .before .before .before .before .before .before .before .before .before .before .before .before .args .cells .now) (c .before .before .before .before .before .before .before .before .before .before .before .before .before .before .before .before .before .before .pre .0) (c .before .before .before .before .before .before .before .before .before .before .before .plan .ensures) a b in (x .0, x .1, c .before .before .before .width .ensures)
 
 after-requires : tie.Need-after-requires
 after-requires c κs = after-ready _ _ _ _ _ _ _ _ _ _ (c .before .before .before .before .before .before .before .before .before .before .before .before .before .before .before .before .before .before .before .before .before .before .pre .0) (c .before .before .before .before .before .before .before .before .before .before .before .before .before .before .before .plan .ensures) (c .before .before .before .before .before .before .before .width .ensures) (c .before .before .before .rows .ensures)
@@ -78,7 +78,7 @@ enter-spec =
     plan-requires
     scope-requires
     left-rows-requires
-    scope-requires-2
+    right-scope-requires
     right-requires
     width-requires
     add-result
