@@ -11,9 +11,8 @@ use borrow.Author.Tests.{ne-eqb}
 use Rattle.lists.proofs.Laws.{append-nil}
 use Rattle.syntax.specs.Grammar.{Bytes}
 use Rattle.calls.specs.Scripts.{Outcome}
-use Rattle.report.specs.Outcomes.{outcome-text}
+use Rattle.report.specs.Outcomes.{outcome-of, outcome-text}
 use Rattle.script.specs.States.{Saying}
-use Rattle.script.specs.Steps.{outcome-of}
 use Rattle.lines.specs.declared.Run.{Run}
 use Rattle.lines.specs.Lines.{line-end, Ends, Keeps, ended, begun}
 use Rattle.lines.specs.Output.{most-text, Writes, Adds}

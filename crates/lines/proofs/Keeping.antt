@@ -1,15 +1,13 @@
 -- A part of a line copied after what is kept of it.
 use mathlib.Core.Path.{_≡_, refl, sym, ap, ap₂, _∙_}
-use mathlib.Core.List.{List, [], _∷_, _++_, append-assoc}
-use mathlib.Core.Bool.{Bool, true, false}
+use mathlib.Core.List.{[], _∷_, _++_, append-assoc}
 use Prim.Native.Nat.{ℕ, suc, _+_, _-_, _≤_, _<_, min}
 use native.Mathlib.Omega.{arith}
-use lib.Dec.{leb}
 use lib.ListN.{length, getD, set, take, drop, length-take, length-set, take-append-drop}
-use lib.Seq.{take-suc, take-suc-set, take-append-seam, take-all, take-length}
-use borrow.Author.Tests.{leb-true, leb-false}
+use lib.Seq.{take-suc, take-suc-set, take-append-seam, take-all}
 use Rattle.lists.proofs.Laws.{append-nil}
 use Rattle.syntax.specs.Grammar.{Bytes}
+use Rattle.report.proofs.Printed.{take-min}
 use Rattle.lines.specs.Lines.{Keeps}
 
 -- after i bytes of the part, k bytes are kept in all
@@ -18,13 +16,6 @@ pub record Keeping (m₀ : Bytes) (kept : ℕ) (part m : Bytes) (k i : ℕ) : Ty
   pub inside : k ≤ length m
   pub all : i ≤ length part
   pub bytes : take k m ≡ take kept m₀ ++ take i part
-
-pub take-min : {A : Type 0} (m : List A) (k : ℕ) → take (min k (length m)) m ≡ take k m
-take-min m k = go (leb k (length m)) refl
-  where
-    go : (b : Bool) → leb k (length m) ≡ b → take (min k (length m)) m ≡ take k m
-    go true e = let h = leb-true k (length m) e in let f : min k (length m) ≡ k = omega arith in ap (λ (j : ℕ). take j m) f
-    go false e = let h = leb-false k (length m) e in let f : min k (length m) ≡ length m = omega arith in ap (λ (j : ℕ). take j m) f ∙ take-length m ∙ sym (take-all k m (omega arith))
 
 pub keep-start : (m part : Bytes) (kept : ℕ) {k : ℕ} → k ≡ min kept (length m) → Keeping m kept part m k 0
 keep-start m part kept {k} e =

@@ -7,10 +7,10 @@ use native.Mathlib.Omega.{arith}
 use lib.ListN.{length, take, set, length-set}
 use Rattle.lists.proofs.Laws.{append-nil}
 use Rattle.syntax.specs.Grammar.{Bytes}
+use Rattle.report.proofs.Printed.{take-min}
 use Rattle.lines.specs.declared.Got.{Got}
 use Rattle.lines.specs.Lines.{closer, Closes, Reads}
 use Rattle.lines.specs.Output.{most-text, Writes, Room, Tells}
-use Rattle.lines.proofs.Keeping.{take-min}
 
 -- ---- what stays, and what is written
 

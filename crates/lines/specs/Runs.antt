@@ -9,10 +9,10 @@ use lib.ListN.{length, take, drop}
 use Rattle.syntax.specs.Grammar.{Bytes}
 use Rattle.syntax.specs.Readers.{verb-of}
 use Rattle.calls.specs.Scripts.{Outcome, quiet, refusal, cells, text}
-use Rattle.report.specs.Outcomes.{outcome-text}
+use Rattle.report.specs.Outcomes.{outcome-of, outcome-text}
 use Rattle.script.specs.declared.State.{State}
 use Rattle.script.specs.States.{Saying}
-use Rattle.script.specs.Steps.{outcome-of, Does}
+use Rattle.script.specs.Steps.{Does}
 use Rattle.script.specs.Runs.{Held, store}
 use Rattle.lines.specs.declared.Run.{Run}
 use Rattle.lines.specs.declared.Said.{Said}

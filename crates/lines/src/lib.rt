@@ -4,9 +4,7 @@ ghost use mathlib.Core.Bool.{true, false, cond};
 ghost use Prim.Native.Nat.{_+_, _*_, _≤_, min};
 ghost use lib.Dec.{eqb};
 ghost use lib.ListN.{length, take};
-ghost use Rattle.report.specs.Outcomes.{outcome-text};
-ghost use Rattle.report.specs.Written.{Written};
-ghost use Rattle.script.specs.Steps.{outcome-of};
+ghost use Rattle.report.specs.Outcomes.{outcome-of, outcome-text};
 ghost use Rattle.lines.specs.Lines.{Ends, Keeps, Closes, Reads};
 ghost use Rattle.lines.specs.Output.{Room, Tells, Adds};
 ghost use Rattle.lines.specs.Runs.{point, Says, Done, Part};
@@ -57,15 +55,6 @@ pub struct Got {
     pub failed: bool,
 }
 
-fn least(a: usize, b: usize) -> usize
-    ensures { λ r. ⌜ r ≡ min a b ⌝ }
-{
-    if a < b {
-        return a;
-    }
-    b
-}
-
 // ---- lines
 
 // The place of the first line feed from a place on, or the end.
@@ -97,7 +86,7 @@ fn after(s: &[u8], e: usize) -> usize
 fn keep(line: &mut [u8], kept: usize, part: &[u8]) -> usize
     ensures { λ r. ⌜ Keeps (now (line .entry)) kept (now (part .entry)) (now (line .exit)) r ⌝ }
 {
-    let mut k = least(kept, line.len());
+    let mut k = report::least(kept, line.len());
     let mut i: usize = 0;
     while i < part.len() {
         if line.len() <= k {
@@ -125,7 +114,7 @@ fn write_out(part: &[u8]) -> bool {
 pub fn flush(out: &[u8], o: Output) -> Output
     ensures { λ r. ⌜ r .used ≡ 0 ⌝ }
 {
-    let n = least(o.used, out.len());
+    let n = report::least(o.used, out.len());
     if o.lost {
         return Output {
             used: 0,
@@ -142,7 +131,7 @@ pub fn flush(out: &[u8], o: Output) -> Output
 fn made_room(out: &[u8], o: Output) -> Output
     ensures { λ r. ⌜ Room (now (out .entry)) (o .used) (r .used) ⌝ }
 {
-    let n = least(o.used, out.len());
+    let n = report::least(o.used, out.len());
     if out.len() - n < MOST {
         return flush(out, o);
     }
@@ -152,33 +141,15 @@ fn made_room(out: &[u8], o: Output) -> Output
     }
 }
 
-// The text of an outcome, by its kind and number and the cells and bytes that it left. Returns how many bytes it has.
-fn print(out: &mut [u8], kind: u32, number: u32, cells: &[i64], bytes: &[u8]) -> usize
-    ensures { λ r. ⌜ Written (outcome-text (outcome-of kind number (now (cells .entry)) (now (bytes .entry)))) (28 * length (now (cells .entry)) + length (now (bytes .entry)) + 20) (now (out .entry)) (now (out .exit)) r ⌝ }
-{
-    if kind == Stepped::QUIET {
-        return 0;
-    }
-    if kind == Stepped::REFUSED {
-        return report::write_refusal(out, number) as usize;
-    }
-    if kind == Stepped::CELLS {
-        let n = least(number as usize, cells.len());
-        return report::write_cells(out, &cells[0..n]) as usize;
-    }
-    let n = least(number as usize, bytes.len());
-    report::write_text(out, &bytes[0..n]) as usize
-}
-
 // The text of an outcome after what is kept of the output.
 fn add(out: &mut [u8], o: Output, kind: u32, number: u32, cells: &[i64], bytes: &[u8]) -> Output
     ensures { λ r. ⌜ Adds (outcome-text (outcome-of kind number (now (cells .entry)) (now (bytes .entry)))) (28 * length (now (cells .entry)) + length (now (bytes .entry)) + 20) false (now (out .entry)) (o .used) (now (out .exit)) (r .used) ⌝ }
 {
     let room = made_room(out, o);
     let at = room.used;
-    let n = print(&mut out[at..], kind, number, cells, bytes);
+    let n = report::write_outcome(&mut out[at..], kind, number, cells, bytes);
     Output {
-        used: at + least(n, out.len() - at),
+        used: at + report::least(n, out.len() - at),
         lost: room.lost,
     }
 }
@@ -261,7 +232,7 @@ fn tell(out: &[u8], o: Output, explains: bool, line: u64, kind: u32, number: u32
     if !explains {
         return o;
     }
-    if kind == Stepped::REFUSED {
+    if kind == report::REFUSAL {
         let r = flush(out, o);
         explain(line, number);
         return r;
@@ -278,7 +249,7 @@ fn refused_by(refused: bool, kind: u32) -> bool
     if refused {
         return true;
     }
-    kind == Stepped::REFUSED
+    kind == report::REFUSAL
 }
 
 // After a line: the text of its outcome behind the output, the reason where refusals are explained, and what is counted.
@@ -317,7 +288,7 @@ fn do_line(
 ) -> Run
     ensures { λ r. ⌜ Done (take (run .kept) (now (line .entry))) run r (point (run .state) (now (names .entry)) (now (times .entry)) (now (values .entry)) (now (words .entry)) (now (cells .entry)) (now (bytes .entry))) (point (r .state) (now (names .exit)) (now (times .exit)) (now (values .exit)) (now (words .exit)) (now (cells .exit)) (now (bytes .exit))) (now (out .entry)) (now (out .exit)) ⌝ }
 {
-    let n = least(run.kept, line.len());
+    let n = report::least(run.kept, line.len());
     let r = script::step(
         run.state,
         names,

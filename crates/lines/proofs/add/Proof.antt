@@ -8,17 +8,17 @@ use Rattle.lines.proofs.add.Tie as tie
 made-room-requires : tie.Need-made-room-requires
 made-room-requires c κs = search needs
 
-sub-print : tie.Need-sub-print
-sub-print c = search needs
+sub-write-outcome : tie.Need-sub-write-outcome
+sub-write-outcome c = search needs
 
-part-print-start : tie.Need-part-print-start
-part-print-start c = search needs
+part-write-outcome-start : tie.Need-part-write-outcome-start
+part-write-outcome-start c = search needs
 
-part-print-end : tie.Need-part-print-end
-part-print-end c = search needs
+part-write-outcome-end : tie.Need-part-write-outcome-end
+part-write-outcome-end c = search needs
 
-print-requires : tie.Need-print-requires
-print-requires c κs = search needs
+write-outcome-requires : tie.Need-write-outcome-requires
+write-outcome-requires c κs = search needs
 
 sub-least : tie.Need-sub-least
 sub-least c = search needs
@@ -33,17 +33,17 @@ same-length : tie.Need-same-length
 same-length c = search needs
 
 returns : tie.Need-returns
-returns c = text-added _ _ (c .before .before .before .before .before .before .before .before .before .args .o .used) (c .before .before .before .before .before .before .before .before .before .args .out .now) (c .before .before .before .before .before .made-room .ensures) (length (c .before .before .before .before .before .before .before .before .before .args .out .now)) refl (c .before .before .before .print .ensures) (search needs)
+returns c = text-added _ _ (c .before .before .before .before .before .before .before .before .before .args .o .used) (c .before .before .before .before .before .before .before .before .before .args .out .now) (c .before .before .before .before .before .made-room .ensures) (length (c .before .before .before .before .before .before .before .before .before .args .out .now)) refl (c .before .before .before .write-outcome .ensures) (search needs)
 
 pub add-spec : {M : Type 1} → statement M
 add-spec =
     tie.close
     (tie.spec
     made-room-requires
-    sub-print
-    part-print-start
-    part-print-end
-    print-requires
+    sub-write-outcome
+    part-write-outcome-start
+    part-write-outcome-end
+    write-outcome-requires
     sub-least
     least-requires
     add-t18

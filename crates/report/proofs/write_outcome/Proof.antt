@@ -1,10 +1,10 @@
 use borrow.Author.Needs.{needs}
-use Rattle.lines.proofs.Printing.{print-ends}
-use Rattle.lines.proofs.print.Statement.{statement}
-use Rattle.lines.proofs.print.Tie as tie
+use Rattle.report.proofs.Printed.{print-ends}
+use Rattle.report.proofs.write_outcome.Statement.{statement}
+use Rattle.report.proofs.write_outcome.Tie as tie
 
-pub print-spec : {M : Type 1} → statement M
-print-spec =
+pub write-outcome-spec : {M : Type 1} → statement M
+write-outcome-spec =
     tie.close
     (tie.spec
     {-
