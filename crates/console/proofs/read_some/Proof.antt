@@ -1,7 +1,7 @@
-use Rattle.lines.proofs.Rooms.{read-ends}
+use Rattle.console.proofs.Rooms.{read-ends}
 use borrow.Author.Needs.{needs}
-use Rattle.lines.proofs.read_some.Statement.{statement}
-use Rattle.lines.proofs.read_some.Tie as tie
+use Rattle.console.proofs.read_some.Statement.{statement}
+use Rattle.console.proofs.read_some.Tie as tie
 
 read-requires : tie.Need-read-requires
 read-requires c κs = search needs

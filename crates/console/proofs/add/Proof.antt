@@ -1,9 +1,9 @@
 use mathlib.Core.Path.{refl}
 use lib.ListN.{length}
-use Rattle.lines.proofs.Printing.{text-added}
+use Rattle.console.proofs.Printing.{text-added}
 use borrow.Author.Needs.{needs}
-use Rattle.lines.proofs.add.Statement.{statement}
-use Rattle.lines.proofs.add.Tie as tie
+use Rattle.console.proofs.add.Statement.{statement}
+use Rattle.console.proofs.add.Tie as tie
 
 made-room-requires : tie.Need-made-room-requires
 made-room-requires c κs = search needs

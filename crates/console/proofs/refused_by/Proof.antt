@@ -1,7 +1,7 @@
-use Rattle.lines.proofs.Rooms.{or-so}
+use Rattle.console.proofs.Rooms.{or-so}
 use borrow.Author.Needs.{needs}
-use Rattle.lines.proofs.refused_by.Statement.{statement}
-use Rattle.lines.proofs.refused_by.Tie as tie
+use Rattle.console.proofs.refused_by.Statement.{statement}
+use Rattle.console.proofs.refused_by.Tie as tie
 
 returns : tie.Need-returns
 returns c = search needs

@@ -1,22 +1,14 @@
--- A text behind output that is kept, and the kept part of a line.
-use mathlib.Core.Path.{_≡_, refl, sym, ap, _∙_, subst}
-use mathlib.Core.List.{List, _++_, append-assoc}
+-- A text behind output that is kept.
+use mathlib.Core.Path.{_≡_, refl, sym, ap, _∙_}
+use mathlib.Core.List.{_++_, append-assoc}
 use mathlib.Core.Bool.{Bool, false}
 use Prim.Native.Nat.{ℕ, _+_, _-_, _≤_, min}
 use native.Mathlib.Omega.{arith}
-use lib.IntN.{ℤ}
 use lib.ListN.{length, take, drop, length-take, length-drop, length-append}
 use lib.Seq.{take-append-seam}
 use Rattle.syntax.specs.Grammar.{Bytes}
-use Rattle.syntax.specs.Readers.{verb-of}
 use Rattle.report.specs.Written.{Written}
-use Rattle.report.proofs.Printed.{take-min}
-use Rattle.history.specs.Fixtures.{Store}
-use Rattle.script.specs.States.{Saying}
-use Rattle.script.specs.Steps.{Does}
-use Rattle.lines.specs.Output.{most-text, Room, Tells, Adds}
-
--- ---- behind what is kept
+use Rattle.console.specs.Output.{most-text, Room, Tells, Adds}
 
 take-more : (a b : Bytes) (n : ℕ) → n ≡ length a + length b → (c : Bytes) → take n (a ++ (b ++ c)) ≡ a ++ b
 take-more a b n e c = ap (λ (w : Bytes). take n w) (sym (append-assoc a b c)) ∙ ap (λ (j : ℕ). take j ((a ++ b) ++ c)) (e ∙ sym (length-append a b)) ∙ take-append-seam (a ++ b) c
@@ -52,10 +44,3 @@ told-behind {t} {n} {used} {m} {m′} {r} {r′} explains x y =
       rest = λ h i. let z = x .rest h i in record { written = z .written ++ y .rest .written; all = append-assoc (z .written) (y .rest .written) (take r′ m′) ∙ ap (λ (w : Bytes). z .written ++ w) (y .rest .all) ∙ z .all };
       kept = λ e h i. ap (λ (j : ℕ). take j m′) (y .kept e) ∙ x .kept refl h i;
     }
-
--- ---- a line
-
--- a step by the kept part of a line
-pub step-kept : {zs zs′ : List ℤ} {ys ys′ : Bytes} {s t : Store} {y : Saying} (l : Bytes) (kept n : ℕ) → n ≡ min kept (length l) → Does (take (n - 0) l) zs ys (verb-of (take (n - 0) l)) s t zs′ ys′ y
-    → Does (take kept l) zs ys (verb-of (take kept l)) s t zs′ ys′ y
-step-kept {zs} {zs′} {ys} {ys′} {s} {t} {y} l kept n e d = let g : n - 0 ≡ n = omega arith in subst (λ (w : Bytes). Does w zs ys (verb-of w) s t zs′ ys′ y) (ap (λ (j : ℕ). take j l) (g ∙ e) ∙ take-min l kept) d

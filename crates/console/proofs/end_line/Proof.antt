@@ -1,7 +1,7 @@
-use Rattle.lines.proofs.Rooms.{close-ends}
+use Rattle.console.proofs.Rooms.{close-ends}
 use borrow.Author.Needs.{needs}
-use Rattle.lines.proofs.end_line.Statement.{statement}
-use Rattle.lines.proofs.end_line.Tie as tie
+use Rattle.console.proofs.end_line.Statement.{statement}
+use Rattle.console.proofs.end_line.Tie as tie
 
 returns : tie.Need-returns
 returns c = search (close-ends, needs)

@@ -1,9 +1,9 @@
 use borrow.Author.Needs.{needs}
 use mathlib.Core.Path.{refl}
 use native.Mathlib.Omega.{arith}
-use Rattle.program.proofs.Rounds.{rounds-so}
-use Rattle.program.proofs.rounds_left.Statement.{statement}
-use Rattle.program.proofs.rounds_left.Tie as tie
+use Rattle.console.proofs.Rooms.{rounds-so}
+use Rattle.console.proofs.rounds_left.Statement.{statement}
+use Rattle.console.proofs.rounds_left.Tie as tie
 
 returns : tie.Need-returns
 returns c = search needs

@@ -6,7 +6,7 @@ use Prim.Native.Nat.{ℕ, zero, suc, _+_, _≤_}
 use lib.Dec.{eqb}
 use lib.ListN.{length, take, drop}
 use Rattle.syntax.specs.Grammar.{Bytes}
-use Rattle.lines.specs.declared.Got.{Got}
+use Rattle.console.specs.declared.Got.{Got}
 
 -- a byte in front of the first line
 unfoldable pub in-front : ℕ → List Bytes → List Bytes

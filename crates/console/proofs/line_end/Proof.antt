@@ -1,9 +1,9 @@
 use borrow.Author.Needs.{needs}
 use Prim.Native.Nat.{_-_}
 use lib.ListN.{length}
-use Rattle.lines.proofs.Lines.{Ahead, ahead-ends}
-use Rattle.lines.proofs.line_end.Statement.{statement}
-use Rattle.lines.proofs.line_end.Tie as tie
+use Rattle.console.proofs.Lines.{Ahead, ahead-ends}
+use Rattle.console.proofs.line_end.Statement.{statement}
+use Rattle.console.proofs.line_end.Tie as tie
 
 abbrev Inv-loop : tie.InvT-loop
 Inv-loop s at i₀ i = Ahead s at i

@@ -1,9 +1,9 @@
 use borrow.Author.Needs.{needs}
 use Prim.Native.Nat.{_-_}
 use lib.ListN.{length}
-use Rattle.lines.proofs.Keeping.{Keeping, keep-ends}
-use Rattle.lines.proofs.keep.Statement.{statement}
-use Rattle.lines.proofs.keep.Tie as tie
+use Rattle.console.proofs.Keeping.{Keeping, keep-ends}
+use Rattle.console.proofs.keep.Statement.{statement}
+use Rattle.console.proofs.keep.Tie as tie
 
 abbrev Inv-loop : tie.InvT-loop
 Inv-loop line₀ kept part k₀ i₀ line k i = Keeping line₀ kept part line k i

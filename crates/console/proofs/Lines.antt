@@ -10,7 +10,7 @@ use lib.Seq.{drop-cons}
 use borrow.Author.Tests.{eq-eqb, ne-eqb}
 use Rattle.lists.proofs.Laws.{append-nil}
 use Rattle.syntax.specs.Grammar.{Bytes}
-use Rattle.lines.specs.Lines.{in-front, lines-of, line-end, Ends, ended, begun, closing}
+use Rattle.console.specs.Lines.{in-front, lines-of, line-end, Ends, ended, begun, closing}
 
 -- ---- a loop that looks for it
 

@@ -8,7 +8,7 @@ use lib.Seq.{take-suc, take-suc-set, take-append-seam, take-all}
 use Rattle.lists.proofs.Laws.{append-nil}
 use Rattle.syntax.specs.Grammar.{Bytes}
 use Rattle.report.proofs.Printed.{take-min}
-use Rattle.lines.specs.Lines.{Keeps}
+use Rattle.console.specs.Lines.{Keeps}
 
 -- after i bytes of the part, k bytes are kept in all
 pub record Keeping (m₀ : Bytes) (kept : ℕ) (part m : Bytes) (k i : ℕ) : Type 0 where

@@ -1,7 +1,7 @@
-use Rattle.lines.proofs.Rooms.{tell-ends}
+use Rattle.console.proofs.Rooms.{tell-ends}
 use borrow.Author.Needs.{needs}
-use Rattle.lines.proofs.tell.Statement.{statement}
-use Rattle.lines.proofs.tell.Tie as tie
+use Rattle.console.proofs.tell.Statement.{statement}
+use Rattle.console.proofs.tell.Tie as tie
 
 returns : tie.Need-returns
 returns c = search (tell-ends, needs)

@@ -1,7 +1,7 @@
-use Rattle.lines.proofs.Rooms.{room-ends}
+use Rattle.console.proofs.Rooms.{room-ends}
 use borrow.Author.Needs.{needs}
-use Rattle.lines.proofs.made_room.Statement.{statement}
-use Rattle.lines.proofs.made_room.Tie as tie
+use Rattle.console.proofs.made_room.Statement.{statement}
+use Rattle.console.proofs.made_room.Tie as tie
 
 least-requires : tie.Need-least-requires
 least-requires c κs = search needs

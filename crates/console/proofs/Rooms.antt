@@ -8,9 +8,9 @@ use lib.ListN.{length, take, set, length-set}
 use Rattle.lists.proofs.Laws.{append-nil}
 use Rattle.syntax.specs.Grammar.{Bytes}
 use Rattle.report.proofs.Printed.{take-min}
-use Rattle.lines.specs.declared.Got.{Got}
-use Rattle.lines.specs.Lines.{closer, Closes, Reads}
-use Rattle.lines.specs.Output.{most-text, Writes, Room, Tells}
+use Rattle.console.specs.declared.Got.{Got}
+use Rattle.console.specs.Lines.{closer, Closes, Reads}
+use Rattle.console.specs.Output.{most-text, Writes, Room, Tells}
 
 -- ---- what stays, and what is written
 
@@ -41,6 +41,9 @@ pub ruleset tell-ends = (tells-nothing, tells-behind)
 
 pub or-so : {a x y : Bool} → a ≡ false → x ≡ y → x ≡ cond a true y
 or-so e f = f ∙ rw e refl
+
+pub rounds-so : {a : Bool} {x y : ℕ} → a ≡ false → x ≡ y → x ≡ cond a 0 y
+rounds-so e f = f ∙ rw e refl
 
 -- ---- what is read
 

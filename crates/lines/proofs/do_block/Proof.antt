@@ -4,10 +4,10 @@ use mathlib.Core.List.{List}
 use Prim.Native.Nat.{ℕ, _-_, _≤_}
 use native.Mathlib.Omega.{arith}
 use lib.ListN.{length, take}
 use Rattle.lines.specs.Runs.{point, Advances, Known}
 use Rattle.lines.proofs.Advancing.{block-start, block-more, block-end}
-use Rattle.program.proofs.do_block.Statement.{statement}
-use Rattle.program.proofs.do_block.Tie as tie
+use Rattle.lines.proofs.do_block.Statement.{statement}
+use Rattle.lines.proofs.do_block.Tie as tie
 
 abbrev Inv-loop : tie.InvT-loop
 Inv-loop block names₀ times₀ values₀ words₀ line₀ cells₀ bytes₀ out₀ r₀ names times values words line cells bytes out r =
