@@ -4,21 +4,25 @@ use mathlib.Core.List.{List, [], _∷_, _++_, map, map-append, append-assoc}
 use mathlib.Core.Bool.{Bool, true, cond}
 use Prim.Native.Nat.{ℕ, zero, suc, _+_, _*_, _-_, _^_, _%_, _≤_, _<_, min}
 use native.Mathlib.Omega.{arith}
+use lib.IntN.{ℤ}
 use lib.Dec.{eqb}
 use lib.ListN.{length, take, drop, length-drop}
 use lib.Seq.{take-all, take-nil, take-add}
 use borrow.Author.Tests.{ne-eqb}
 use Rattle.lists.proofs.Laws.{append-nil}
 use Rattle.syntax.specs.Grammar.{Bytes}
+use Rattle.syntax.specs.Readers.{verb-of}
 use Rattle.calls.specs.Scripts.{Outcome}
-use Rattle.report.specs.Outcomes.{outcome-text}
+use Rattle.report.specs.Outcomes.{outcome-of, outcome-text}
+use Rattle.report.proofs.Printed.{take-min}
+use Rattle.history.specs.Fixtures.{Store}
+use Rattle.console.specs.Lines.{line-end, Ends, Keeps, ended, begun}
+use Rattle.console.specs.Output.{most-text, Writes, Adds}
+use Rattle.console.proofs.Lines.{ended-append, begun-append, ended-line, begun-line, ended-none, begun-none}
 use Rattle.script.specs.States.{Saying}
-use Rattle.script.specs.Steps.{outcome-of}
+use Rattle.script.specs.Steps.{Does}
 use Rattle.lines.specs.declared.Run.{Run}
-use Rattle.lines.specs.Lines.{line-end, Ends, Keeps, ended, begun}
-use Rattle.lines.specs.Output.{most-text, Writes, Adds}
 use Rattle.lines.specs.Runs.{Point, outcome-at, Runs, stop, then, text-room, texts, Follows, Done, lines-after, is-refusal, refused-after, Counts, Sized, Advances, Known, Part, Block}
-use Rattle.lines.proofs.Lines.{ended-append, begun-append, ended-line, begun-line, ended-none, begun-none}
 
 -- ---- runs, texts and counts of two parts
 
@@ -67,6 +71,13 @@ advances-then {w} {a} {b} {run} {r} {s} {p} {q} {t} {l} {l₁} {l₂} {m} {m₁}
   where
     cut : map (take (length l)) (ended w (a ++ b)) ≡ map (take (length l)) (ended w a) ++ map (take (length l)) (ended (begun w a) b)
     cut = ap (map (take (length l))) (ended-append w a b) ∙ map-append (take (length l)) (ended w a) (ended (begun w a) b)
+
+-- ---- a line
+
+-- a step by the kept part of a line
+pub step-kept : {zs zs′ : List ℤ} {ys ys′ : Bytes} {s t : Store} {y : Saying} (l : Bytes) (kept n : ℕ) → n ≡ min kept (length l) → Does (take (n - 0) l) zs ys (verb-of (take (n - 0) l)) s t zs′ ys′ y
+    → Does (take kept l) zs ys (verb-of (take kept l)) s t zs′ ys′ y
+step-kept {zs} {zs′} {ys} {ys′} {s} {t} {y} l kept n e d = let g : n - 0 ≡ n = omega arith in subst (λ (w : Bytes). Does w zs ys (verb-of w) s t zs′ ys′ y) (ap (λ (j : ℕ). take j l) (g ∙ e) ∙ take-min l kept) d
 
 -- ---- up to the next line feed
 

@@ -1,5 +1,1 @@
-pub mod Lines
-pub mod Keeping
-pub mod Rooms
-pub mod Printing
 pub mod Advancing

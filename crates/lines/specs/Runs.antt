@@ -9,15 +9,15 @@ use lib.ListN.{length, take, drop}
 use Rattle.syntax.specs.Grammar.{Bytes}
 use Rattle.syntax.specs.Readers.{verb-of}
 use Rattle.calls.specs.Scripts.{Outcome, quiet, refusal, cells, text}
-use Rattle.report.specs.Outcomes.{outcome-text}
+use Rattle.report.specs.Outcomes.{outcome-of, outcome-text}
+use Rattle.console.specs.Lines.{ended, begun}
+use Rattle.console.specs.Output.{most-text, Writes, Adds}
 use Rattle.script.specs.declared.State.{State}
 use Rattle.script.specs.States.{Saying}
-use Rattle.script.specs.Steps.{outcome-of, Does}
+use Rattle.script.specs.Steps.{Does}
 use Rattle.script.specs.Runs.{Held, store}
 use Rattle.lines.specs.declared.Run.{Run}
 use Rattle.lines.specs.declared.Said.{Said}
-use Rattle.lines.specs.Lines.{ended, begun}
-use Rattle.lines.specs.Output.{most-text, Writes, Adds}
 
 -- where a run stands: the state, the memory lent with it, and the cells and bytes that are lent to a line
 pub record Point : Type 0 where

@@ -1,34 +1,15 @@
-// Lines of a script as they come in parts of its input: what is kept of one, how it is done, and how what it prints goes behind the output.
-ghost use mathlib.Core.Path.{_≡_};
-ghost use mathlib.Core.Bool.{true, false, cond};
-ghost use Prim.Native.Nat.{_+_, _*_, _≤_, min};
-ghost use lib.Dec.{eqb};
+// Lines of a script as they come in parts of its input: each is kept until it ends and is done then, and what it prints goes behind the output.
+ghost use Prim.Native.Nat.{_≤_};
 ghost use lib.ListN.{length, take};
-ghost use Rattle.report.specs.Outcomes.{outcome-text};
-ghost use Rattle.report.specs.Written.{Written};
-ghost use Rattle.script.specs.Steps.{outcome-of};
-ghost use Rattle.lines.specs.Lines.{Ends, Keeps, Closes, Reads};
-ghost use Rattle.lines.specs.Output.{Room, Tells, Adds};
-ghost use Rattle.lines.specs.Runs.{point, Says, Done, Part};
+ghost use Rattle.lines.specs.Runs.{point, Says, Done, Part, Block};
+use console::Output;
 // Named since a State holds one: the checker knows the types of the crates that are named here alone.
 use caller::Caller;
 use grant::Grant;
 use ledger::Ledger;
-use libc::STDERR_FILENO;
-use libc::STDIN_FILENO;
-use libc::STDOUT_FILENO;
 use schema::Stream;
 use script::State;
 use script::Stepped;
-
-// Bytes that any text of a line fits in: 28 a cell, and more than a line has.
-const MOST: usize = 131072;
-
-// Where the output stands: how many bytes of it are kept until they are written, and whether some could not be written.
-pub struct Output {
-    pub used: usize,
-    pub lost: bool,
-}
 
 // What goes from line to line: the state of the script, how many lines were done, how many bytes of the next one are kept, how far the block is done, where the output stands, whether refusals are explained, and whether a line was refused, input could not be read, and the input ended.
 pub struct Run {
@@ -50,237 +31,6 @@ pub struct Said {
     pub refused: bool,
 }
 
-// What was read: how many bytes of the block, whether the input ended, and whether that is because it could not be read.
-pub struct Got {
-    pub count: usize,
-    pub ended: bool,
-    pub failed: bool,
-}
-
-fn least(a: usize, b: usize) -> usize
-    ensures { λ r. ⌜ r ≡ min a b ⌝ }
-{
-    if a < b {
-        return a;
-    }
-    b
-}
-
-// ---- lines
-
-// The place of the first line feed from a place on, or the end.
-fn line_end(s: &[u8], at: usize) -> usize
-    requires { ⌜ at ≤ length (now s) ⌝ }
-    ensures { λ r. ⌜ Ends (now (s .entry)) at r ⌝ }
-{
-    let mut i = at;
-    while i < s.len() {
-        if s[i] == b'\n' {
-            return i;
-        }
-        i += 1;
-    }
-    i
-}
-
-// The place after a line feed, or the end.
-fn after(s: &[u8], e: usize) -> usize
-    ensures { λ r. ⌜ r ≡ min (e + 1) (length (now (s .entry))) ⌝ }
-{
-    if e < s.len() {
-        return e + 1;
-    }
-    s.len()
-}
-
-// A part of a line after what is kept of it. Returns how much of both is kept.
-fn keep(line: &mut [u8], kept: usize, part: &[u8]) -> usize
-    ensures { λ r. ⌜ Keeps (now (line .entry)) kept (now (part .entry)) (now (line .exit)) r ⌝ }
-{
-    let mut k = least(kept, line.len());
-    let mut i: usize = 0;
-    while i < part.len() {
-        if line.len() <= k {
-            return k;
-        }
-        line[k] = part[i];
-        k += 1;
-        i += 1;
-    }
-    k
-}
-
-// ---- output
-
-// Writes a part of the output. Returns whether it could not be written, which is said.
-fn write_out(part: &[u8]) -> bool {
-    if io::write_all(STDOUT_FILENO, part) {
-        return false;
-    }
-    os::fail(b"maltziru: standard output");
-    true
-}
-
-// Writes what is kept of the output; once some is lost, no more is tried.
-pub fn flush(out: &[u8], o: Output) -> Output
-    ensures { λ r. ⌜ r .used ≡ 0 ⌝ }
-{
-    let n = least(o.used, out.len());
-    if o.lost {
-        return Output {
-            used: 0,
-            lost: true,
-        };
-    }
-    Output {
-        used: 0,
-        lost: write_out(&out[0..n]),
-    }
-}
-
-// Writes what is kept of the output where less room is left than any text takes.
-fn made_room(out: &[u8], o: Output) -> Output
-    ensures { λ r. ⌜ Room (now (out .entry)) (o .used) (r .used) ⌝ }
-{
-    let n = least(o.used, out.len());
-    if out.len() - n < MOST {
-        return flush(out, o);
-    }
-    Output {
-        used: n,
-        lost: o.lost,
-    }
-}
-
-// The text of an outcome, by its kind and number and the cells and bytes that it left. Returns how many bytes it has.
-fn print(out: &mut [u8], kind: u32, number: u32, cells: &[i64], bytes: &[u8]) -> usize
-    ensures { λ r. ⌜ Written (outcome-text (outcome-of kind number (now (cells .entry)) (now (bytes .entry)))) (28 * length (now (cells .entry)) + length (now (bytes .entry)) + 20) (now (out .entry)) (now (out .exit)) r ⌝ }
-{
-    if kind == Stepped::QUIET {
-        return 0;
-    }
-    if kind == Stepped::REFUSED {
-        return report::write_refusal(out, number) as usize;
-    }
-    if kind == Stepped::CELLS {
-        let n = least(number as usize, cells.len());
-        return report::write_cells(out, &cells[0..n]) as usize;
-    }
-    let n = least(number as usize, bytes.len());
-    report::write_text(out, &bytes[0..n]) as usize
-}
-
-// The text of an outcome after what is kept of the output.
-fn add(out: &mut [u8], o: Output, kind: u32, number: u32, cells: &[i64], bytes: &[u8]) -> Output
-    ensures { λ r. ⌜ Adds (outcome-text (outcome-of kind number (now (cells .entry)) (now (bytes .entry)))) (28 * length (now (cells .entry)) + length (now (bytes .entry)) + 20) false (now (out .entry)) (o .used) (now (out .exit)) (r .used) ⌝ }
-{
-    let room = made_room(out, o);
-    let at = room.used;
-    let n = print(&mut out[at..], kind, number, cells, bytes);
-    Output {
-        used: at + least(n, out.len() - at),
-        lost: room.lost,
-    }
-}
-
-// ---- refusals in words
-
-fn say_first(number: u32) {
-    if number == 1 {
-        io::write_all(STDERR_FILENO, b"not a line of a known form");
-    }
-    if number == 2 {
-        io::write_all(STDERR_FILENO, b"a stream or column that is not declared");
-    }
-    if number == 3 {
-        io::write_all(
-            STDERR_FILENO,
-            b"too long, too many, too deep, or a number out of its range",
-        );
-    }
-    if number == 4 {
-        io::write_all(
-            STDERR_FILENO,
-            b"a part, a column or a number of values that does not fit its place",
-        );
-    }
-    if number == 5 {
-        io::write_all(
-            STDERR_FILENO,
-            b"a window's size or offset is below 1, or its size above 64 offsets",
-        );
-    }
-    if number == 6 {
-        io::write_all(STDERR_FILENO, b"a name is there twice");
-    }
-}
-
-fn say_last(number: u32) {
-    if number == 7 {
-        io::write_all(STDERR_FILENO, b"the time is before the clock");
-    }
-    if number == 8 {
-        io::write_all(STDERR_FILENO, b"the stream has all its rows");
-    }
-    if number == 9 {
-        io::write_all(
-            STDERR_FILENO,
-            b"no grant opens this for the caller, or no route has that number",
-        );
-    }
-    if number == 10 {
-        io::write_all(STDERR_FILENO, b"too many routes");
-    }
-    if number == 11 {
-        io::write_all(
-            STDERR_FILENO,
-            b"the answer or line is longer than the room for it",
-        );
-    }
-    if number == 12 {
-        io::write_all(STDERR_FILENO, b"what was lent is not what calls made");
-    }
-}
-
-// `line N: refused R: WORDS`
-fn explain(line: u64, number: u32) {
-    io::write_all(STDERR_FILENO, b"line ");
-    io::print_decimal(STDERR_FILENO, line);
-    io::write_all(STDERR_FILENO, b": refused ");
-    io::print_decimal(STDERR_FILENO, number as u64);
-    io::write_all(STDERR_FILENO, b": ");
-    say_first(number);
-    say_last(number);
-    io::write_all(STDERR_FILENO, b"\n");
-}
-
-// Explains a refusal where that is asked for, once the output up to it is written.
-fn tell(out: &[u8], o: Output, explains: bool, line: u64, kind: u32, number: u32) -> Output
-    ensures { λ r. ⌜ Tells (now (out .entry)) (o .used) explains (r .used) ⌝ }
-{
-    if !explains {
-        return o;
-    }
-    if kind == Stepped::REFUSED {
-        let r = flush(out, o);
-        explain(line, number);
-        return r;
-    }
-    o
-}
-
-// ---- the script
-
-// Whether a line was refused so far.
-fn refused_by(refused: bool, kind: u32) -> bool
-    ensures { λ r. ⌜ r ≡ cond refused true (eqb kind 1) ⌝ }
-{
-    if refused {
-        return true;
-    }
-    kind == Stepped::REFUSED
-}
-
 // After a line: the text of its outcome behind the output, the reason where refusals are explained, and what is counted.
 fn say(
     before: Said,
@@ -294,12 +44,12 @@ fn say(
     ensures { λ r. ⌜ Says explains (record { kind = kind; number = number }) (now (cells .entry)) (now (bytes .entry)) before r (now (out .entry)) (now (out .exit)) ⌝ }
 {
     let lines = std::num::wrapping_add_u64(before.lines, 1);
-    let added = add(out, before.output, kind, number, cells, bytes);
-    let told = tell(out, added, explains, lines, kind, number);
+    let added = console::add(out, before.output, kind, number, cells, bytes);
+    let told = console::tell(out, added, explains, lines, kind, number);
     Said {
         lines: lines,
         output: told,
-        refused: refused_by(before.refused, kind),
+        refused: console::refused_by(before.refused, kind),
     }
 }
 
@@ -317,7 +67,7 @@ fn do_line(
 ) -> Run
     ensures { λ r. ⌜ Done (take (run .kept) (now (line .entry))) run r (point (run .state) (now (names .entry)) (now (times .entry)) (now (values .entry)) (now (words .entry)) (now (cells .entry)) (now (bytes .entry))) (point (r .state) (now (names .exit)) (now (times .exit)) (now (values .exit)) (now (words .exit)) (now (cells .exit)) (now (bytes .exit))) (now (out .entry)) (now (out .exit)) ⌝ }
 {
-    let n = least(run.kept, line.len());
+    let n = report::least(run.kept, line.len());
     let r = script::step(
         run.state,
         names,
@@ -351,7 +101,7 @@ fn do_line(
 }
 
 // From where the block is done, keeps what comes before the next line feed, and does the line where there is one.
-pub fn do_part(
+fn do_part(
     run: Run,
     block: &[u8],
     names: &mut [u64],
@@ -367,54 +117,46 @@ pub fn do_part(
     ensures { λ r. ⌜ Part (now (block .entry)) run r (point (run .state) (now (names .entry)) (now (times .entry)) (now (values .entry)) (now (words .entry)) (now (cells .entry)) (now (bytes .entry))) (point (r .state) (now (names .exit)) (now (times .exit)) (now (values .exit)) (now (words .exit)) (now (cells .exit)) (now (bytes .exit))) (now (line .entry)) (now (line .exit)) (now (out .entry)) (now (out .exit)) ⌝ }
 {
     let from = run.at;
-    let e = line_end(block, from);
+    let e = console::line_end(block, from);
     let mut r = run;
-    r.kept = keep(line, run.kept, &block[from..e]);
-    r.at = after(block, e);
+    r.kept = console::keep(line, run.kept, &block[from..e]);
+    r.at = console::after(block, e);
     if block.len() <= e {
         return r;
     }
     do_line(r, names, times, values, words, line, cells, bytes, out)
 }
 
-// Reads what is there of the input, and waits where nothing is. At its end, a line feed ends a line that has none.
-pub fn read_some(block: &mut [u8], kept: usize) -> Got
-    ensures { λ r. ⌜ Reads kept (now (block .exit)) r ⌝ }
+// Does the lines that end in a block, and keeps what comes after the last of them.
+pub fn do_block(
+    run: Run,
+    block: &[u8],
+    names: &mut [u64],
+    times: &mut [u32],
+    values: &mut [i32],
+    words: &mut [u32],
+    line: &mut [u8],
+    cells: &mut [i64],
+    bytes: &mut [u8],
+    out: &mut [u8],
+) -> Run
+    ensures { λ r. ⌜ Block (now (block .entry)) run r (point (run .state) (now (names .entry)) (now (times .entry)) (now (values .entry)) (now (words .entry)) (now (cells .entry)) (now (bytes .entry))) (point (r .state) (now (names .exit)) (now (times .exit)) (now (values .exit)) (now (words .exit)) (now (cells .exit)) (now (bytes .exit))) (now (line .entry)) (now (line .exit)) (now (out .entry)) (now (out .exit)) ⌝ }
 {
-    let got = libc::read(STDIN_FILENO, block);
-    let n = io::count(got, block);
-    if 0 < n {
-        return Got {
-            count: n,
-            ended: false,
-            failed: false,
-        };
+    let mut r = run;
+    r.at = 0;
+    while r.at < block.len() {
+        r = do_part(
+            r,
+            block,
+            names,
+            times,
+            values,
+            words,
+            line,
+            cells,
+            bytes,
+            out,
+        );
     }
-    if got < 0 {
-        os::fail(b"maltziru: standard input");
-        return Got {
-            count: 0,
-            ended: true,
-            failed: true,
-        };
-    }
-    Got {
-        count: end_line(block, kept),
-        ended: true,
-        failed: false,
-    }
-}
-
-// A line feed for a line of which something is kept. Returns how many bytes that is.
-fn end_line(block: &mut [u8], kept: usize) -> usize
-    ensures { λ r. ⌜ Closes kept (now (block .exit)) r ⌝ }
-{
-    if kept == 0 {
-        return 0;
-    }
-    if block.len() == 0 {
-        return 0;
-    }
-    block[0] = b'\n';
-    1
+    r
 }

@@ -1,5 +1,5 @@
 -- What is read at once, and how many times.
-use mathlib.Core.Path.{_≡_, refl, ap, _∙_, subst}
+use mathlib.Core.Path.{_≡_, ap, _∙_, subst}
 use mathlib.Core.List.{_++_}
 use mathlib.Core.Bool.{Bool, true, false, cond}
 use Prim.Native.Nat.{ℕ, _-_, _<_}
@@ -7,9 +7,9 @@ use native.Mathlib.Omega.{arith}
 use lib.ListN.{take, drop}
 use Rattle.lists.proofs.Laws.{append-nil}
 use Rattle.syntax.specs.Grammar.{Bytes}
+use Rattle.console.specs.declared.Got.{Got}
+use Rattle.console.specs.Lines.{Reads}
 use Rattle.lines.specs.declared.Run.{Run}
-use Rattle.lines.specs.declared.Got.{Got}
-use Rattle.lines.specs.Lines.{Reads}
 use Rattle.lines.specs.Runs.{Point, Advances, Block}
 use Rattle.program.specs.Rounds.{Round}
 
@@ -18,9 +18,6 @@ use Rattle.program.specs.Rounds.{Round}
 pub rounds-less : (b : Bool) {n t : ℕ} → n ≡ cond b 0 (t - 1) → 0 < t → n < t
 rounds-less true e h = omega arith
 rounds-less false e h = omega arith
-
-pub rounds-so : {a : Bool} {x y : ℕ} → a ≡ false → x ≡ y → x ≡ cond a 0 y
-rounds-so e f = f ∙ rw e refl
 
 -- ---- a part of the input that is read
 

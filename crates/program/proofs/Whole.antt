@@ -13,18 +13,18 @@ use Rattle.lists.proofs.Laws.{append-nil}
 use Rattle.syntax.specs.Grammar.{Bytes}
 use Rattle.calls.specs.Scripts.{Outcome, script}
 use Rattle.history.specs.States as M
+use Rattle.console.specs.Lines.{lines-of, ended, begun, closing, closer}
+use Rattle.console.specs.Output.{Writes}
+use Rattle.console.proofs.Lines.{lines-whole}
 use Rattle.script.specs.declared.State.{State}
 use Rattle.script.specs.Runs as S
 use Rattle.script.specs.Runs.{store}
 use Rattle.script.specs.States.{new-state}
 use Rattle.script.proofs.Running.{script-runs, new-fresh}
 use Rattle.lines.specs.declared.Run.{Run}
-use Rattle.lines.specs.Lines.{lines-of, ended, begun, closing, closer}
-use Rattle.lines.specs.Output.{Writes}
 use Rattle.lines.specs.Runs.{Point, point, Runs, stop, then, texts, Advances, refused-after, Known}
 use Rattle.program.specs.Rounds.{Round, joined, Closed, Lent, Blocks, Prints, All}
 use Rattle.lines.proofs.Advancing.{advances-then, advances-none}
-use Rattle.lines.proofs.Lines.{lines-whole}
 use Rattle.program.proofs.Cut.{script-cut}
 
 joined-append : (bs cs : List Bytes) → joined (bs ++ cs) ≡ joined bs ++ joined cs

@@ -8,11 +8,11 @@ use lib.ListN.{length, take}
 use Rattle.syntax.specs.Grammar.{Bytes}
 use Rattle.calls.specs.Scripts.{script}
 use Rattle.history.specs.Fixtures.{Fresh}
+use Rattle.console.specs.declared.Got.{Got}
+use Rattle.console.specs.Lines.{lines-of, begun, closing, Reads}
+use Rattle.console.specs.Output.{most-text, Writes}
 use Rattle.script.specs.Runs.{store}
 use Rattle.lines.specs.declared.Run.{Run}
-use Rattle.lines.specs.declared.Got.{Got}
-use Rattle.lines.specs.Lines.{lines-of, begun, closing, Reads}
-use Rattle.lines.specs.Output.{most-text, Writes}
 use Rattle.lines.specs.Runs.{Point, text-room, texts, refused-after, Advances, Known}
 
 -- A part of the input is read, and stands at the start of s; it is done, and all that its lines print is written. The run is over where the input ended or output is lost.

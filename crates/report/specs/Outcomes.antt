@@ -2,7 +2,7 @@
 use mathlib.Core.List.{List, [], _∷_, _++_}
 use Prim.Native.Nat.{ℕ, zero, suc}
 use lib.IntN.{ℤ, natAbs}
-use lib.ListN.{length}
+use lib.ListN.{length, take}
 use Rattle.lists.specs.Lists.{nth}
 use Rattle.syntax.specs.Grammar.{Bytes, bytes, put-nat, put-int, put-items, grammar-computes}
 use Rattle.model.specs.Queries.{Row, Table, Record, Caller}
@@ -66,6 +66,13 @@ put-cells d (z ∷ zs) rest = put-cell d z (put-cells (due-after d z) zs rest)
 
 -- ---- outcomes
 
+-- what a line prints, by the kind and the number that it says, of the cells and bytes that it leaves
+unfoldable pub outcome-of : ℕ → ℕ → List ℤ → Bytes → Outcome
+outcome-of zero n zs ys = quiet
+outcome-of (suc zero) n zs ys = refusal n
+outcome-of (suc (suc zero)) n zs ys = cells (take n zs)
+outcome-of (suc (suc (suc k))) n zs ys = text (take n ys)
+
 unfoldable pub put-refusal : ℕ → Bytes → Bytes
 put-refusal n rest = bytes "refused " ++ put-nat n (10 ∷ rest)
 
@@ -109,5 +116,5 @@ put-answer x who rs rest = put-header (bytes "routes") (length rs ∷ []) (put-e
 
 -- To unfold this is to unfold every definition above.
 unfoldable pub outcomes-compute : Unit {0}
-unfolding grammar-computes rows-due row-due due-after front-of cell-end end-of put-cell put-cells put-refusal put-text put-outcome outcome-text put-outcomes put-each put-header put-row put-table put-answer
+unfolding grammar-computes rows-due row-due due-after front-of cell-end end-of put-cell put-cells outcome-of put-refusal put-text put-outcome outcome-text put-outcomes put-each put-header put-row put-table put-answer
 outcomes-compute = tt

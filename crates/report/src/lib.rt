@@ -1,13 +1,13 @@
 // The text that an outcome of a script's line prints, written into lent bytes from the first on.
 ghost use mathlib.Core.Path.{_≡_};
-ghost use Prim.Native.Nat.{_+_, _*_, _≤_};
+ghost use Prim.Native.Nat.{_+_, _*_, _≤_, min};
 ghost use lib.IntN.{natAbs};
 ghost use lib.ListN.{length};
 ghost use Rattle.syntax.specs.Grammar.{put-int};
 ghost use Rattle.text.specs.Words.{name-of};
 ghost use Rattle.calls.specs.Scripts.{refusal, cells, text};
 ghost use Rattle.print.specs.Writing.{Put};
-ghost use Rattle.report.specs.Outcomes.{rows-due, row-due, due-after, front-of, cell-end, end-of, put-cell, outcome-text};
+ghost use Rattle.report.specs.Outcomes.{rows-due, row-due, due-after, front-of, cell-end, end-of, put-cell, outcome-of, outcome-text};
 ghost use Rattle.report.specs.Written.{Written};
 
 // What a cell of an answer is: the number of routes; a route's two grants, its width and its row count (with the width); a cell of a row, with how many follow it in the row, the width, and how many rows
@@ -20,6 +20,15 @@ pub enum Due {
     Rows(u64),
     Cell(u64, u64, u64),
 }
+
+// What a line says, by kind: nothing, a refusal, that cells were written, or bytes of a line.
+pub const QUIET: u32 = 0;
+
+pub const REFUSAL: u32 = 1;
+
+pub const CELLS: u32 = 2;
+
+pub const TEXT: u32 = 3;
 
 // Words with the space after them.
 const ROUTES: u64 = 0x726f7574657320;
@@ -179,4 +188,32 @@ pub fn write_text(out: &mut [u8], bs: &[u8]) -> u32
         i += 1;
     }
     print::put(out, p, b'\n')
+}
+
+pub fn least(a: usize, b: usize) -> usize
+    ensures { λ r. ⌜ r ≡ min a b ⌝ }
+{
+    if a < b {
+        return a;
+    }
+    b
+}
+
+// Returns how many bytes the text of an outcome takes, by its kind and number and the cells and bytes that it left.
+// Leaves the text in front and all else as it was; the text's start where there is no room.
+pub fn write_outcome(out: &mut [u8], kind: u32, number: u32, cells: &[i64], bytes: &[u8]) -> usize
+    ensures { λ r. ⌜ Written (outcome-text (outcome-of kind number (now (cells .entry)) (now (bytes .entry)))) (28 * length (now (cells .entry)) + length (now (bytes .entry)) + 20) (now (out .entry)) (now (out .exit)) r ⌝ }
+{
+    if kind == QUIET {
+        return 0;
+    }
+    if kind == REFUSAL {
+        return write_refusal(out, number) as usize;
+    }
+    if kind == CELLS {
+        let n = least(number as usize, cells.len());
+        return write_cells(out, &cells[0..n]) as usize;
+    }
+    let n = least(number as usize, bytes.len());
+    write_text(out, &bytes[0..n]) as usize
 }

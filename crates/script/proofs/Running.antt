@@ -31,6 +31,7 @@ use Rattle.calls.specs.Asking as Q
 use Rattle.calls.specs.Asking.{lent-valid, query-routes, answer, answer-checks, ask-table, no-line, line-given, printed-line, line-checks, line-table}
 use Rattle.calls.specs.Events.{Fixture, caller, happen, happened-from}
 use Rattle.calls.specs.Scripts.{Outcome, cells, text, changed, told, on-record, act, perform, step, run-from, script}
+use Rattle.report.specs.Outcomes.{outcome-of}
 use Rattle.claims.proofs.Running.{events-of, step-runs}
 use Rattle.schema.specs.Schemas.{schema-of}
 use Rattle.schema.proofs.Valid as N
@@ -58,7 +59,7 @@ use Rattle.ask.specs.Asking.{lent-sound}
 use Rattle.demands.proofs.Defined.{asked-is, lined-is}
 use Rattle.script.specs.declared.State as S
 use Rattle.script.specs.States.{Saying, new-state}
-use Rattle.script.specs.Steps.{verdict-said, reply-said, unread-said, outcome-of, lending, Does, unread-does, stream-does, grant-does, clock-does, row-does, clear-does, caller-does, ask-does, line-does}
+use Rattle.script.specs.Steps.{verdict-said, reply-said, unread-said, lending, Does, unread-does, stream-does, grant-does, clock-does, row-does, clear-does, caller-does, ask-does, line-does}
 use Rattle.script.specs.Runs.{Held, store, Runs, stop, then}
 
 -- ---- what it leaves

@@ -9,10 +9,11 @@ use Rattle.syntax.specs.Grammar.{Bytes, Verb}
 use Rattle.syntax.specs.Readers.{verb-of}
 use Rattle.calls.specs.Calls.{Call, stream, clock-line, row-line, clear-line}
 use Rattle.calls.specs.Scripts.{Outcome}
+use Rattle.report.specs.Outcomes.{outcome-of}
 use Rattle.history.specs.Fixtures.{Store}
 use Rattle.script.specs.declared.State.{State}
 use Rattle.script.specs.States.{Saying, store-of}
-use Rattle.script.specs.Steps.{outcome-of, Does}
+use Rattle.script.specs.Steps.{Does}
 
 -- a state, and the memory that is lent with it
 pub record Held : Type 0 where

@@ -3,7 +3,7 @@ use mathlib.Core.Path.{_≡_}
 use mathlib.Core.List.{List}
 use mathlib.Core.Bool.{cond}
 use mathlib.Core.Option.{Option, none, some}
-use Prim.Native.Nat.{ℕ, zero, suc}
+use Prim.Native.Nat.{ℕ}
 use lib.IntN.{ℤ}
 use lib.Dec.{eqb, ltb}
 use lib.ListN.{length, take}
@@ -15,7 +15,6 @@ use Rattle.syntax.specs.Grammar as G
 use Rattle.syntax.specs.Grammar.{Bytes}
 use Rattle.syntax.specs.Limits.{max-line}
 use Rattle.syntax.specs.Readers.{parse-as}
-use Rattle.calls.specs.Scripts.{Outcome, quiet, refusal, cells, text}
 use Rattle.stream_line.specs.Declaring.{Declares}
 use Rattle.ledger.specs.declared.Entered.{Entered}
 use Rattle.ledger.specs.Records.{Memory, with-ledger, with-names}
@@ -59,13 +58,6 @@ reply-said kind r = cond (eqb (r .refusal) 0) (record { kind = kind; number = r 
 -- a text of no verb, by its length
 unfoldable pub unread-said : ℕ → Saying
 unread-said n = verdict-said (Refused (cond (ltb max-line n) Bound Malformed))
-
--- what it prints, of the cells and bytes that it leaves
-unfoldable pub outcome-of : ℕ → ℕ → List ℤ → Bytes → Outcome
-outcome-of zero n zs ys = quiet
-outcome-of (suc zero) n zs ys = refusal n
-outcome-of (suc (suc zero)) n zs ys = cells (take n zs)
-outcome-of (suc (suc (suc k))) n zs ys = text (take n ys)
 
 -- ---- what it leaves
 

@@ -34,7 +34,7 @@ pub struct State {
     pub caller: Caller,
 }
 
-// What a line says, and the state that it leaves: the number is that of the refusal, or how many cells or bytes were written.
+// What a line says, and the state that it leaves: the kind is one of `report`, the number is that of the refusal, or how many cells or bytes were written.
 pub struct Stepped {
     pub state: State,
     pub kind: u32,
@@ -52,17 +52,6 @@ pub enum Verb {
     Ask,
     Line,
     Other,
-}
-
-impl Stepped {
-    // Nothing is said.
-    pub const QUIET: u32 = 0;
-
-    pub const REFUSED: u32 = 1;
-    // Cells were written.
-    pub const CELLS: u32 = 2;
-    // Bytes of a line were written.
-    pub const TEXT: u32 = 3;
 }
 
 // ---- states
@@ -165,12 +154,12 @@ fn said(s: State, v: Verdict) -> Stepped
     match v {
         Verdict::Accepted => Stepped {
             state: s,
-            kind: Stepped::QUIET,
+            kind: report::QUIET,
             number: 0,
         },
         Verdict::Refused(f) => Stepped {
             state: s,
-            kind: Stepped::REFUSED,
+            kind: report::REFUSAL,
             number: f.number(),
         },
     }
@@ -182,7 +171,7 @@ fn replied(s: State, kind: u32, r: Reply) -> Stepped
     if r.refusal != 0 {
         return Stepped {
             state: s,
-            kind: Stepped::REFUSED,
+            kind: report::REFUSAL,
             number: r.refusal,
         };
     }
@@ -356,13 +345,13 @@ pub fn step(
             let grants = state.grants;
             let n = state.held();
             let r = asked(grants, n, words, l, names, times, values, who, line, cells);
-            replied(state, Stepped::CELLS, r)
+            replied(state, report::CELLS, r)
         }
         Verb::Line => {
             let grants = state.grants;
             let n = state.held();
             let r = lined(grants, n, words, l, names, times, values, who, line, bytes);
-            replied(state, Stepped::TEXT, r)
+            replied(state, report::TEXT, r)
         }
         Verb::Other => unread(state, line.len()),
     }

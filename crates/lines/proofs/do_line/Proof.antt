@@ -1,5 +1,5 @@
 use mathlib.Core.Path.{refl}
-use Rattle.lines.proofs.Printing.{step-kept}
+use Rattle.lines.proofs.Advancing.{step-kept}
 use borrow.Author.Needs.{needs}
 use Rattle.lines.proofs.do_line.Statement.{statement}
 use Rattle.lines.proofs.do_line.Tie as tie

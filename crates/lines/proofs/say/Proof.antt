@@ -1,4 +1,4 @@
-use Rattle.lines.proofs.Printing.{told-behind}
+use Rattle.console.proofs.Printing.{told-behind}
 use borrow.Author.Needs.{needs}
 use Rattle.lines.proofs.say.Statement.{statement}
 use Rattle.lines.proofs.say.Tie as tie
