@@ -10,7 +10,7 @@ use Rattle.syntax.specs.Grammar.{Bytes}
 use Rattle.report.proofs.Printed.{take-min}
 use Rattle.console.specs.declared.Got.{Got}
 use Rattle.console.specs.Lines.{closer, Closes, Reads}
-use Rattle.console.specs.Output.{most-text, Writes, Room, Tells}
+use Rattle.console.specs.Output.{most-text, Writes, Lasts, Room, Tells}
 
 -- ---- what stays, and what is written
 
@@ -36,6 +36,11 @@ pub tells-behind : (m : Bytes) (used : ℕ) (explains : Bool) {r : ℕ} → not 
 tells-behind m used explains {r} e f = record { rest = all-written m used r f; kept = λ k. absurd (true≢false (sym (ap not k) ∙ e)) }
 
 pub ruleset tell-ends = (tells-nothing, tells-behind)
+
+-- ---- what is lost
+
+pub not-lost : {a b : Bool} → a ≡ false → Lasts a b
+not-lost e h = absurd (true≢false (sym h ∙ e))
 
 -- ---- what holds unless something else does
 

@@ -1,7 +1,7 @@
 -- Output that is kept until it is written.
 use mathlib.Core.Path.{_≡_}
 use mathlib.Core.List.{_++_}
-use mathlib.Core.Bool.{Bool, false}
+use mathlib.Core.Bool.{Bool, true, false}
 use Prim.Native.Nat.{ℕ, _+_, _≤_}
 use lib.ListN.{length, take}
 use Rattle.syntax.specs.Grammar.{Bytes}
@@ -14,6 +14,10 @@ most-text = 131072
 pub record Writes (o o′ : Bytes) : Type 0 where
   pub written : Bytes
   pub all : written ++ o′ ≡ o
+
+-- Once some output is lost, it stays so.
+abbrev pub Lasts : Bool → Bool → Type 0
+Lasts lost lost′ = lost ≡ true → lost′ ≡ true
 
 -- Of the bytes kept in m, r stay: all of them while there is room for any text behind them. Where m is large enough, there is then.
 pub record Room (m : Bytes) (used r : ℕ) : Type 0 where

@@ -6,7 +6,7 @@ ghost use lib.Dec.{eqb};
 ghost use lib.ListN.{length};
 ghost use Rattle.report.specs.Outcomes.{outcome-of, outcome-text};
 ghost use Rattle.console.specs.Lines.{Ends, Keeps, Closes, Reads};
-ghost use Rattle.console.specs.Output.{Room, Tells, Adds};
+ghost use Rattle.console.specs.Output.{Lasts, Room, Tells, Adds};
 use libc::STDERR_FILENO;
 use libc::STDIN_FILENO;
 use libc::STDOUT_FILENO;
@@ -84,7 +84,7 @@ fn write_out(part: &[u8]) -> bool {
 
 // Writes what is kept of the output; once some is lost, no more is tried.
 pub fn flush(out: &[u8], o: Output) -> Output
-    ensures { λ r. ⌜ r .used ≡ 0 ⌝ }
+    ensures { λ r. ⌜ (r .used ≡ 0) × Lasts (o .lost) (r .lost) ⌝ }
 {
     let n = report::least(o.used, out.len());
     if o.lost {
@@ -101,7 +101,7 @@ pub fn flush(out: &[u8], o: Output) -> Output
 
 // Writes what is kept of the output where less room is left than any text takes.
 fn made_room(out: &[u8], o: Output) -> Output
-    ensures { λ r. ⌜ Room (now (out .entry)) (o .used) (r .used) ⌝ }
+    ensures { λ r. ⌜ Room (now (out .entry)) (o .used) (r .used) × Lasts (o .lost) (r .lost) ⌝ }
 {
     let n = report::least(o.used, out.len());
     if out.len() - n < MOST {
@@ -115,7 +115,7 @@ fn made_room(out: &[u8], o: Output) -> Output
 
 // The text of an outcome after what is kept of the output.
 pub fn add(out: &mut [u8], o: Output, kind: u32, number: u32, cells: &[i64], bytes: &[u8]) -> Output
-    ensures { λ r. ⌜ Adds (outcome-text (outcome-of kind number (now (cells .entry)) (now (bytes .entry)))) (28 * length (now (cells .entry)) + length (now (bytes .entry)) + 20) false (now (out .entry)) (o .used) (now (out .exit)) (r .used) ⌝ }
+    ensures { λ r. ⌜ Adds (outcome-text (outcome-of kind number (now (cells .entry)) (now (bytes .entry)))) (28 * length (now (cells .entry)) + length (now (bytes .entry)) + 20) false (now (out .entry)) (o .used) (now (out .exit)) (r .used) × Lasts (o .lost) (r .lost) ⌝ }
 {
     let room = made_room(out, o);
     let at = room.used;
@@ -199,7 +199,7 @@ fn explain(line: u64, number: u32) {
 
 // Explains a refusal where that is asked for, once the output up to it is written.
 pub fn tell(out: &[u8], o: Output, explains: bool, line: u64, kind: u32, number: u32) -> Output
-    ensures { λ r. ⌜ Tells (now (out .entry)) (o .used) explains (r .used) ⌝ }
+    ensures { λ r. ⌜ Tells (now (out .entry)) (o .used) explains (r .used) × Lasts (o .lost) (r .lost) ⌝ }
 {
     if !explains {
         return o;

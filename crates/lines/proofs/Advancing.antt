@@ -65,6 +65,7 @@ advances-then {w} {a} {b} {run} {r} {s} {p} {q} {t} {l} {l₁} {l₂} {m} {m₁}
         lines = y .counts .lines ∙ ap (λ (n : ℕ). lines-after n (y .outcomes)) (x .counts .lines) ∙ sym (lines-append (run .lines) (x .outcomes) (y .outcomes));
         refused = y .counts .refused ∙ ap (λ (z : Bool). refused-after z (y .outcomes)) (x .counts .refused) ∙ sym (refused-append (run .refused) (x .outcomes) (y .outcomes));
         explains = y .counts .explains ∙ x .counts .explains;
+        lost = λ h. y .counts .lost (x .counts .lost h);
       };
       sized = record { cells = y .sized .cells ∙ x .sized .cells; bytes = y .sized .bytes ∙ x .sized .bytes; line = y .sized .line ∙ x .sized .line; out = y .sized .out ∙ x .sized .out };
     }
@@ -111,7 +112,7 @@ module _ (s : Bytes) (run mid : Run) {e : ℕ} {l l′ : Bytes} (x : Ends s (run
       y .bytes ∙ ap (λ (v : Bytes). take (length l) (v ++ take (e - run .at) d)) k ∙ take-front (length l) w (take (e - run .at) d) ∙ ap (λ (n : ℕ). take (length l) (w ++ take n d)) f
 
   module _ (at : mid .at ≡ min (e + 1) (length s)) (lines : mid .lines ≡ run .lines) (refused : mid .refused ≡ run .refused) (explains : mid .explains ≡ run .explains) (used : mid .output .used ≡ run .output .used)
-      (failed : mid .failed ≡ run .failed) (over : mid .ended ≡ run .ended) where
+      (lost : mid .output .lost ≡ run .output .lost) (failed : mid .failed ≡ run .failed) (over : mid .ended ≡ run .ended) where
     -- no line ends
     pub part-kept : {p : Point} {m : Bytes} → length s ≤ e → Part s run mid p p l l′ m m
     part-kept {p} {m} h =
@@ -125,7 +126,7 @@ module _ (s : Bytes) (run mid : Run) {e : ℕ} {l l′ : Bytes} (x : Ends s (run
             runs = subst (λ (v : List Bytes). Runs p (map (take (length l)) v) [] p) (sym (ap (ended w) whole ∙ ended-none w d far)) stop;
             rest = kept-then w k ∙ ap (λ (v : Bytes). take (length l) (w ++ v)) (take-all (line-end d) d far) ∙ sym (ap (λ (v : Bytes). take (length l) v) (ap (begun w) whole ∙ begun-none w d far));
             output = λ i j. record { written = []; all = ap (λ (n : ℕ). take n m) used ∙ sym (append-nil (take (run .output .used) m)) ∙ ap (λ (v : Bytes). take (run .output .used) m ++ v) (unfold texts in refl) };
-            counts = record { lines = lines ∙ (unfold lines-after in refl); refused = refused ∙ (unfold refused-after in refl); explains = explains };
+            counts = record { lines = lines ∙ (unfold lines-after in refl); refused = refused ∙ (unfold refused-after in refl); explains = explains; lost = λ h. lost ∙ h };
             sized = record { cells = refl; bytes = refl; line = wide; out = refl };
           };
         }
@@ -153,7 +154,7 @@ module _ (s : Bytes) (run mid : Run) {e : ℕ} {l l′ : Bytes} (x : Ends s (run
             rest = ap (λ (n : ℕ). take n l′) (z .follows .kept) ∙ sym (take-nil (length l)) ∙ ap (λ (v : Bytes). take (length l) v) (sym (ap (begun w) piece ∙ begun-line w d near));
             output = λ i j. subst (λ (n : ℕ). Writes (take n m ++ texts (outcome-at q (z .said) ∷ [])) (take (r .output .used) m′)) used
                 (subst (λ (v : Bytes). Writes (take (mid .output .used) m ++ v) (take (r .output .used) m′)) (one-text (outcome-at q (z .said))) (z .adds .rest (omega arith) (omega arith)));
-            counts = record { lines = z .follows .lines ∙ ap (λ (n : ℕ). (n + 1) % 2 ^ 64) lines ∙ (unfold lines-after in refl); refused = z .follows .refused ∙ ap₂ (λ (a b : Bool). cond a true b) refused (same-refusal (z .said .kind) (z .said .number) q) ∙ (unfold refused-after in refl); explains = z .follows .explains ∙ explains };
+            counts = record { lines = z .follows .lines ∙ ap (λ (n : ℕ). (n + 1) % 2 ^ 64) lines ∙ (unfold lines-after in refl); refused = z .follows .refused ∙ ap₂ (λ (a b : Bool). cond a true b) refused (same-refusal (z .said .kind) (z .said .number) q) ∙ (unfold refused-after in refl); explains = z .follows .explains ∙ explains; lost = λ h. z .follows .lost (lost ∙ h) };
             sized = record { cells = cs; bytes = bs; line = wide; out = os };
           };
         }
@@ -186,7 +187,7 @@ advances-none start {p} {l} {m} w k =
       runs = subst (λ (v : List Bytes). Runs p (map (take (length l)) v) [] p) (sym (ended-none w [] (omega arith))) stop;
       rest = k ∙ ap (λ (v : Bytes). take (length l) v) (sym (begun-none w [] (omega arith) ∙ append-nil w));
       output = λ i j. record { written = []; all = sym (append-nil (take (start .output .used) m)) ∙ ap (λ (v : Bytes). take (start .output .used) m ++ v) (unfold texts in refl) };
-      counts = record { lines = unfold lines-after in refl; refused = unfold refused-after in refl; explains = refl };
+      counts = record { lines = unfold lines-after in refl; refused = unfold refused-after in refl; explains = refl; lost = λ h. h };
       sized = record { cells = refl; bytes = refl; line = refl; out = refl };
     }
 
@@ -195,8 +196,8 @@ block-start s start {p} {l} {m} e w k = subst (λ (v : Bytes). Advances w v star
 
 -- all of it; a run starts a block from its first byte
 pub block-end : (s : Bytes) (start run : Run) {r : Run} {p q : Point} {l l₁ m m₁ : Bytes} → start .kept ≡ run .kept → start .lines ≡ run .lines → start .refused ≡ run .refused → start .explains ≡ run .explains
-    → start .output .used ≡ run .output .used → ((w : Bytes) → Known w start l → Advances w (take (r .at) s) start r p q l l₁ m m₁) → length s ≤ r .at → (w : Bytes) → Known w run l → Advances w s run r p q l l₁ m m₁
-block-end s start run {r} {p} {q} {l} {l₁} {m} {m₁} kept lines refused explains used x h w k =
+    → start .output .used ≡ run .output .used → start .output .lost ≡ run .output .lost → ((w : Bytes) → Known w start l → Advances w (take (r .at) s) start r p q l l₁ m m₁) → length s ≤ r .at → (w : Bytes) → Known w run l → Advances w s run r p q l l₁ m m₁
+block-end s start run {r} {p} {q} {l} {l₁} {m} {m₁} kept lines refused explains used lost x h w k =
     let a = x w (ap (λ (n : ℕ). take n l) kept ∙ k) in
     record {
       outcomes = a .outcomes;
@@ -207,6 +208,7 @@ block-end s start run {r} {p} {q} {l} {l₁} {m} {m₁} kept lines refused expla
         lines = a .counts .lines ∙ ap (λ (n : ℕ). lines-after n (a .outcomes)) lines;
         refused = a .counts .refused ∙ ap (λ (b : Bool). refused-after b (a .outcomes)) refused;
         explains = a .counts .explains ∙ explains;
+        lost = λ h. a .counts .lost (lost ∙ h);
       };
       sized = a .sized;
     }

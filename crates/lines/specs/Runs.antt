@@ -11,7 +11,7 @@ use Rattle.syntax.specs.Readers.{verb-of}
 use Rattle.calls.specs.Scripts.{Outcome, quiet, refusal, cells, text}
 use Rattle.report.specs.Outcomes.{outcome-of, outcome-text}
 use Rattle.console.specs.Lines.{ended, begun}
-use Rattle.console.specs.Output.{most-text, Writes, Adds}
+use Rattle.console.specs.Output.{most-text, Writes, Lasts, Adds}
 use Rattle.script.specs.declared.State.{State}
 use Rattle.script.specs.States.{Saying}
 use Rattle.script.specs.Steps.{Does}
@@ -56,6 +56,7 @@ pub record Says (explains : Bool) (y : Saying) (zs : List ℤ) (ys : Bytes) (s r
   pub lines : r .lines ≡ (s .lines + 1) % 2 ^ 64
   pub refused : r .refused ≡ cond (s .refused) true (eqb (y .kind) 1)
   pub adds : Adds (outcome-text (outcome-of (y .kind) (y .number) zs ys)) (28 * length zs + length ys + 20) explains m (s .output .used) m′ (r .output .used)
+  pub lost : Lasts (s .output .lost) (r .output .lost)
 
 -- what goes on as it was, and one line more is counted
 pub record Follows (run r : Run) (y : Saying) : Type 0 where
@@ -66,6 +67,7 @@ pub record Follows (run r : Run) (y : Saying) : Type 0 where
   pub refused : r .refused ≡ cond (run .refused) true (eqb (y .kind) 1)
   pub failed : r .failed ≡ run .failed
   pub ended : r .ended ≡ run .ended
+  pub lost : Lasts (run .output .lost) (r .output .lost)
 
 -- A line is done by what the script's step does of its text, and the text of its outcome goes behind the output.
 pub record Done (bs : Bytes) (run r : Run) (p q : Point) (m m′ : Bytes) : Type 0 where
@@ -96,6 +98,7 @@ pub record Counts (run r : Run) (os : List Outcome) : Type 0 where
   pub lines : r .lines ≡ lines-after (run .lines) os
   pub refused : r .refused ≡ refused-after (run .refused) os
   pub explains : r .explains ≡ run .explains
+  pub lost : Lasts (run .output .lost) (r .output .lost)
 
 -- what is lent stays as large as it was
 pub record Sized (p q : Point) (l l′ m m′ : Bytes) : Type 0 where

@@ -33,7 +33,7 @@ same-length : tie.Need-same-length
 same-length c = search needs
 
 returns : tie.Need-returns
-returns c = text-added _ _ (c .before .before .before .before .before .before .before .before .before .args .o .used) (c .before .before .before .before .before .before .before .before .before .args .out .now) (c .before .before .before .before .before .made-room .ensures) (length (c .before .before .before .before .before .before .before .before .before .args .out .now)) refl (c .before .before .before .write-outcome .ensures) (search needs)
+returns c = (text-added _ _ (c .before .before .before .before .before .before .before .before .before .args .o .used) (c .before .before .before .before .before .before .before .before .before .args .out .now) (c .before .before .before .before .before .made-room .ensures .0) (length (c .before .before .before .before .before .before .before .before .before .args .out .now)) refl (c .before .before .before .write-outcome .ensures) (search needs), c .before .before .before .before .before .made-room .ensures .1)
 
 pub add-spec : {M : Type 1} → statement M
 add-spec =

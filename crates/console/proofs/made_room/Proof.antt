@@ -13,10 +13,10 @@ flush-requires : tie.Need-flush-requires
 flush-requires c κs = search needs
 
 returns : tie.Need-returns
-returns c = search (room-ends, needs)
+returns c = (search (c .flush .ensures .0, room-ends, needs), c .flush .ensures .1)
 
 returns-2 : tie.Need-returns-2
-returns-2 c = search (room-ends, needs)
+returns-2 c = (search (room-ends, needs), λ h. h)
 
 pub made-room-spec : {M : Type 1} → statement M
 made-room-spec = tie.close (tie.spec least-requires sub-if1 flush-requires returns returns-2)

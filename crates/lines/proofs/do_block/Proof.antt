@@ -54,7 +54,7 @@ same-length-8 : tie.Need-same-length-8 Inv-loop μ-loop
 same-length-8 c = search needs
 
 returns : tie.Need-returns Inv-loop μ-loop
-returns c = record { failed = (c .before .before .loop .inv) .9; ended = (c .before .before .loop .inv) .10; advances = block-end _ _ _ refl refl refl refl refl ((c .before .before .loop .inv) .11) (c .if1 .left) }
+returns c = record { failed = (c .before .before .loop .inv) .9; ended = (c .before .before .loop .inv) .10; advances = block-end _ _ _ refl refl refl refl refl refl ((c .before .before .loop .inv) .11) (c .if1 .left) }
 
 pub do-block-spec : {M : Type 1} → statement M
 do-block-spec =

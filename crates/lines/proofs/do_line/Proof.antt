@@ -44,7 +44,7 @@ same-length-7 : tie.Need-same-length-7
 same-length-7 c = search needs
 
 returns : tie.Need-returns
-returns c = record { said = record { kind = c .before .before .before .before .before .before .before .before .before .before .before .before .before .before .before .before .before .before .before .step .result .kind; number = c .before .before .before .before .before .before .before .before .before .before .before .before .before .before .before .before .before .before .before .step .result .number }; does = step-kept _ _ _ (c .before .before .before .before .before .before .before .before .before .before .before .before .before .before .before .before .before .before .before .before .before .before .before .before .before .before .before .least .ensures) (c .before .before .before .before .before .before .before .before .before .before .before .before .before .before .before .before .before .before .before .step .ensures); adds = c .before .before .before .before .say .ensures .adds; follows = record { lines = c .before .before .before .before .say .ensures .lines; kept = refl; at = refl; explains = refl; refused = c .before .before .before .before .say .ensures .refused; failed = refl; ended = refl } }
+returns c = record { said = record { kind = c .before .before .before .before .before .before .before .before .before .before .before .before .before .before .before .before .before .before .before .step .result .kind; number = c .before .before .before .before .before .before .before .before .before .before .before .before .before .before .before .before .before .before .before .step .result .number }; does = step-kept _ _ _ (c .before .before .before .before .before .before .before .before .before .before .before .before .before .before .before .before .before .before .before .before .before .before .before .before .before .before .before .least .ensures) (c .before .before .before .before .before .before .before .before .before .before .before .before .before .before .before .before .before .before .before .step .ensures); adds = c .before .before .before .before .say .ensures .adds; follows = record { lines = c .before .before .before .before .say .ensures .lines; kept = refl; at = refl; explains = refl; refused = c .before .before .before .before .say .ensures .refused; failed = refl; ended = refl; lost = c .before .before .before .before .say .ensures .lost } }
 
 pub do-line-spec : {M : Type 1} → statement M
 do-line-spec =

@@ -26,7 +26,7 @@ same-length : tie.Need-same-length
 same-length c = search needs
 
 returns : tie.Need-returns
-returns c = part-kept _ _ _ (c .before .before .before .before .before .before .before .line-end .ensures) (c .before .before .before .before .keep .ensures) (search needs) (c .before .after .ensures) refl refl refl refl refl refl (c .if1 .taken)
+returns c = part-kept _ _ _ (c .before .before .before .before .before .before .before .line-end .ensures) (c .before .before .before .before .keep .ensures) (search needs) (c .before .after .ensures) refl refl refl refl refl refl refl (c .if1 .taken)
 
 do-line-requires : tie.Need-do-line-requires
 do-line-requires c κs = search needs
@@ -56,7 +56,7 @@ same-length-9 : tie.Need-same-length-9
 same-length-9 c = search needs
 
 returns-2 : tie.Need-returns-2
-returns-2 c = part-done _ _ _ (c .before .before .before .before .before .before .before .before .before .before .before .before .before .before .before .before .before .before .before .before .before .before .before .before .before .before .before .before .line-end .ensures) (c .before .before .before .before .before .before .before .before .before .before .before .before .before .before .before .before .before .before .before .before .before .before .before .before .before .keep .ensures) (c .before .before .before .before .before .before .before .before .before .before .before .before .before .before .before .before .before .before .before .before .before .before .before .before .before .keep .kept .0) (c .before .before .before .before .before .before .before .before .before .before .before .before .before .before .before .before .before .before .before .before .before .before .after .ensures) refl refl refl refl refl refl (c .before .before .before .before .before .before .before .before .before .before .before .before .before .before .before .before .before .before .before .before .before .if1 .left) (c .before .before .before .before .before .before .before .before .before .before .before .before .do-line .ensures) (c .before .before .before .before .before .before .before .before .before .before .before .before .do-line .kept .1 .1 .1 .1 .1 .1 .0) (c .before .before .before .before .before .before .before .before .before .before .before .before .do-line .kept .1 .1 .1 .1 .1 .1 .1 .0) (c .before .before .before .before .before .before .before .before .before .before .before .before .do-line .kept .1 .1 .1 .1 .1 .1 .1 .1 .0)
+returns-2 c = part-done _ _ _ (c .before .before .before .before .before .before .before .before .before .before .before .before .before .before .before .before .before .before .before .before .before .before .before .before .before .before .before .before .line-end .ensures) (c .before .before .before .before .before .before .before .before .before .before .before .before .before .before .before .before .before .before .before .before .before .before .before .before .before .keep .ensures) (c .before .before .before .before .before .before .before .before .before .before .before .before .before .before .before .before .before .before .before .before .before .before .before .before .before .keep .kept .0) (c .before .before .before .before .before .before .before .before .before .before .before .before .before .before .before .before .before .before .before .before .before .before .after .ensures) refl refl refl refl refl refl refl (c .before .before .before .before .before .before .before .before .before .before .before .before .before .before .before .before .before .before .before .before .before .if1 .left) (c .before .before .before .before .before .before .before .before .before .before .before .before .do-line .ensures) (c .before .before .before .before .before .before .before .before .before .before .before .before .do-line .kept .1 .1 .1 .1 .1 .1 .0) (c .before .before .before .before .before .before .before .before .before .before .before .before .do-line .kept .1 .1 .1 .1 .1 .1 .1 .0) (c .before .before .before .before .before .before .before .before .before .before .before .before .do-line .kept .1 .1 .1 .1 .1 .1 .1 .1 .0)
 
 pub do-part-spec : {M : Type 1} → statement M
 do-part-spec =

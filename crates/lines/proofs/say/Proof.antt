@@ -19,7 +19,7 @@ same-length : tie.Need-same-length
 same-length c = search needs
 
 returns : tie.Need-returns
-returns c = record { lines = search needs; refused = c .refused-by .ensures; adds = told-behind _ (c .before .before .before .before .before .add .ensures) (c .before .tell .ensures) }
+returns c = record { lines = search needs; refused = c .refused-by .ensures; adds = told-behind _ (c .before .before .before .before .before .add .ensures .0) (c .before .tell .ensures .0); lost = λ h. c .before .tell .ensures .1 (c .before .before .before .before .before .add .ensures .1 h) }
 
 pub say-spec : {M : Type 1} → statement M
 say-spec = tie.close (tie.spec wrapping-add-u64-requires add-requires tell-requires refused-by-requires same-length returns)
