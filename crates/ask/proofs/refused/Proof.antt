@@ -6,11 +6,9 @@ use Rattle.ask.proofs.refused.Reads as reads
 use Rattle.ask.proofs.refused.Lts as lts
 use Rattle.refusal.proofs.Refusal.number.Reads as number-reads
 
--- src/lib.rt:34:18
 number-requires : tie.Need-number-requires
 number-requires c κs = search needs
 
--- src/lib.rt:30:1
 returns : tie.Need-returns
 returns c = search (refused-made, needs)
 

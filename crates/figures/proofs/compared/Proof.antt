@@ -3,67 +3,51 @@ use borrow.Author.Needs.{needs}
 use Rattle.figures.proofs.compared.Statement.{statement}
 use Rattle.figures.proofs.compared.Tie as tie
 
--- src/lib.rt:71:9
 below-requires : tie.Need-below-requires
 below-requires c κs = search needs
 
--- src/lib.rt:71:9
 returns : tie.Need-returns
 returns c = search op-ends
 
--- src/lib.rt:74:9
 within-requires : tie.Need-within-requires
 within-requires c κs = search needs
 
--- src/lib.rt:74:9
 returns-2 : tie.Need-returns-2
 returns-2 c = search op-ends
 
--- src/lib.rt:77:9
 below-requires-2 : tie.Need-below-requires-2
 below-requires-2 c κs = search needs
 
--- src/lib.rt:77:9
 returns-3 : tie.Need-returns-3
 returns-3 c = search op-ends
 
--- src/lib.rt:80:13
 within-requires-2 : tie.Need-within-requires-2
 within-requires-2 c κs = search needs
 
--- src/lib.rt:81:13
 returns-4 : tie.Need-returns-4
 returns-4 c = search op-ends
 
--- src/lib.rt:83:9
 within-requires-3 : tie.Need-within-requires-3
 within-requires-3 c κs = search needs
 
--- src/lib.rt:83:9
 returns-5 : tie.Need-returns-5
 returns-5 c = search op-ends
 
--- src/lib.rt:86:12
 below-requires-3 : tie.Need-below-requires-3
 below-requires-3 c κs = search needs
 
--- src/lib.rt:87:13
 returns-6 : tie.Need-returns-6
 returns-6 c = search op-ends
 
--- src/lib.rt:89:9
 below-requires-4 : tie.Need-below-requires-4
 below-requires-4 c κs = search needs
 
--- src/lib.rt:89:9
 returns-7 : tie.Need-returns-7
 returns-7 c = search op-ends
 
--- src/lib.rt:91:5
 within-requires-4 : tie.Need-within-requires-4
 within-requires-4 c κs = search needs
 
--- src/lib.rt:67:1
 returns-8 : tie.Need-returns-8
 returns-8 c = search op-ends
 

@@ -2,11 +2,9 @@ use Rattle.figures.proofs.Evaluating.{decide-ends}
 use Rattle.figures.proofs.decides.Statement.{statement}
 use Rattle.figures.proofs.decides.Tie as tie
 
--- src/lib.rt:145:9
 returns : tie.Need-returns
 returns c = search decide-ends
 
--- src/lib.rt:141:1
 returns-2 : tie.Need-returns-2
 returns-2 c = search decide-ends
 

@@ -3,9 +3,6 @@ use Rattle.record_lines.proofs.Rows.{row-made}
 use Rattle.record_lines.proofs.row_of.Statement.{statement}
 use Rattle.record_lines.proofs.row_of.Tie as tie
 
--- src/lib.rt:105:9
--- src/lib.rt:107:9
--- src/lib.rt:102:1
 pub row-of-spec : {M : Type 1} → statement M
 row-of-spec =
     tie.close

@@ -3,8 +3,6 @@ use Rattle.record_lines.proofs.Rows.{row-blank}
 use Rattle.record_lines.proofs.unread_row.Statement.{statement}
 use Rattle.record_lines.proofs.unread_row.Tie as tie
 
--- src/lib.rt:92:9
--- src/lib.rt:89:1
 pub unread-row-spec : {M : Type 1} → statement M
 unread-row-spec =
     tie.close

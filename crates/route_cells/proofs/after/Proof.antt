@@ -5,31 +5,24 @@ use Rattle.route_cells.proofs.after.Tie as tie
 use Rattle.route_cells.proofs.after.Reads as reads
 use Rattle.route_cells.proofs.after.Lts as lts
 
--- src/lib.rt:268:8
 div-if1 : tie.Need-div-if1
 div-if1 c = search needs
 
--- src/lib.rt:269:16
 add-result : tie.Need-add-result
 add-result c = search needs
 
--- src/lib.rt:269:9
 returns : tie.Need-returns
 returns c = search (after-ends, needs)
 
--- src/lib.rt:271:5
 add-result-2 : tie.Need-add-result-2
 add-result-2 c = search needs
 
--- src/lib.rt:271:19
 mul-result : tie.Need-mul-result
 mul-result c = search (product-fits, needs)
 
--- src/lib.rt:271:5
 add-result-3 : tie.Need-add-result-3
 add-result-3 c = search (after-fits, needs)
 
--- src/lib.rt:264:1
 returns-2 : tie.Need-returns-2
 returns-2 c = search (after-ends, needs)
 

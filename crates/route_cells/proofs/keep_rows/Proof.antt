@@ -5,59 +5,45 @@ use Rattle.route_cells.proofs.keep_rows.Tie as tie
 use Rattle.route_cells.proofs.keep_rows.Reads as reads
 use Rattle.route_cells.proofs.keep_rows.Lts as lts
 
--- src/lib.rt:591:13
 mul-k : tie.Need-mul-k
 mul-k c = search needs
 
--- src/lib.rt:592:5
 mul-kept : tie.Need-mul-kept
 mul-kept c = search needs
 
--- src/lib.rt:592:5
 slice-write-kept : tie.Need-slice-write-kept
 slice-write-kept c = search needs
 
--- src/lib.rt:593:10
 add-kept : tie.Need-add-kept
 add-kept c = search needs
 
--- src/lib.rt:593:5
 mul-kept-2 : tie.Need-mul-kept-2
 mul-kept-2 c = search needs
 
--- src/lib.rt:593:5
 slice-write-kept-2 : tie.Need-slice-write-kept-2
 slice-write-kept-2 c = there-second (c .args .kept .now) (c .args .i) (c .args .m) (c .pre .0) (c .pre .1)
 
--- src/lib.rt:594:10
 add-kept-2 : tie.Need-add-kept-2
 add-kept-2 c = search needs
 
--- src/lib.rt:594:5
 mul-kept-3 : tie.Need-mul-kept-3
 mul-kept-3 c = search needs
 
--- src/lib.rt:594:5
 slice-write-kept-3 : tie.Need-slice-write-kept-3
 slice-write-kept-3 c = there-third (c .args .kept .now) (c .args .i) (c .args .m) (c .pre .0) (c .pre .1)
 
--- src/lib.rt:595:10
 add-kept-3 : tie.Need-add-kept-3
 add-kept-3 c = search needs
 
--- src/lib.rt:595:5
 mul-kept-4 : tie.Need-mul-kept-4
 mul-kept-4 c = search needs
 
--- src/lib.rt:595:5
 slice-write-kept-4 : tie.Need-slice-write-kept-4
 slice-write-kept-4 c = there-fourth (c .args .kept .now) (c .args .i) (c .args .m) (c .pre .0) (c .pre .1)
 
--- src/lib.rt:587:1
 same-length : tie.Need-same-length
 same-length c = search needs
 
--- src/lib.rt:587:1
 returns : tie.Need-returns
 returns c = kept-words (c .args .kept .now) (c .args .i) (c .args .m)
 

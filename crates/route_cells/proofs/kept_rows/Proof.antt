@@ -5,55 +5,42 @@ use Rattle.route_cells.proofs.kept_rows.Tie as tie
 use Rattle.route_cells.proofs.kept_rows.Reads as reads
 use Rattle.route_cells.proofs.kept_rows.Lts as lts
 
--- src/lib.rt:577:13
 mul-k : tie.Need-mul-k
 mul-k c = search needs
 
--- src/lib.rt:579:12
 mul-t4 : tie.Need-mul-t4
 mul-t4 c = search needs
 
--- src/lib.rt:579:12
 shared-slice-read-t6 : tie.Need-shared-slice-read-t6
 shared-slice-read-t6 c = search needs
 
--- src/lib.rt:580:17
 add-t7 : tie.Need-add-t7
 add-t7 c = search needs
 
--- src/lib.rt:580:12
 mul-t8 : tie.Need-mul-t8
 mul-t8 c = search needs
 
--- src/lib.rt:580:12
 shared-slice-read-t10 : tie.Need-shared-slice-read-t10
 shared-slice-read-t10 c = search needs
 
--- src/lib.rt:581:17
 add-t11 : tie.Need-add-t11
 add-t11 c = search needs
 
--- src/lib.rt:581:12
 mul-t12 : tie.Need-mul-t12
 mul-t12 c = search needs
 
--- src/lib.rt:581:12
 shared-slice-read-t14 : tie.Need-shared-slice-read-t14
 shared-slice-read-t14 c = search needs
 
--- src/lib.rt:582:17
 add-t15 : tie.Need-add-t15
 add-t15 c = search needs
 
--- src/lib.rt:582:12
 mul-t16 : tie.Need-mul-t16
 mul-t16 c = search needs
 
--- src/lib.rt:582:12
 shared-slice-read-t18 : tie.Need-shared-slice-read-t18
 shared-slice-read-t18 c = search needs
 
--- src/lib.rt:573:1
 returns : tie.Need-returns
 returns c = kept-is _ _
 

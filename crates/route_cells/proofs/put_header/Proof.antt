@@ -7,51 +7,39 @@ use Rattle.route_cells.proofs.put_header.Lts as lts
 use Rattle.route_cells.proofs.put_number.Reads as put-number-reads
 use Rattle.route_cells.proofs.second.Reads as second-reads
 
--- src/lib.rt:257:27
 cast-put-number : tie.Need-cast-put-number
 cast-put-number c = search needs
 
--- src/lib.rt:257:27
 add-put-number : tie.Need-add-put-number
 add-put-number c = search needs
 
--- src/lib.rt:257:5
 put-number-requires : tie.Need-put-number-requires
 put-number-requires c κs = search needs
 
--- src/lib.rt:258:23
 add-put-number-2 : tie.Need-add-put-number-2
 add-put-number-2 c = search needs
 
--- src/lib.rt:258:31
 second-requires : tie.Need-second-requires
 second-requires c κs = search needs
 
--- src/lib.rt:258:5
 put-number-requires-2 : tie.Need-put-number-requires-2
 put-number-requires-2 c κs = search needs
 
--- src/lib.rt:259:23
 add-put-number-3 : tie.Need-add-put-number-3
 add-put-number-3 c = search needs
 
--- src/lib.rt:259:5
 put-number-requires-3 : tie.Need-put-number-requires-3
 put-number-requires-3 c κs = search needs
 
--- src/lib.rt:260:23
 add-put-number-4 : tie.Need-add-put-number-4
 add-put-number-4 c = search needs
 
--- src/lib.rt:260:5
 put-number-requires-4 : tie.Need-put-number-requires-4
 put-number-requires-4 c κs = search needs
 
--- src/lib.rt:252:1
 same-length : tie.Need-same-length
 same-length c = search needs
 
--- src/lib.rt:252:1
 returns : tie.Need-returns
 returns c = search (header-put, needs)
 

@@ -5,23 +5,18 @@ use Rattle.route_cells.proofs.put_number.Tie as tie
 use Rattle.route_cells.proofs.put_number.Reads as reads
 use Rattle.route_cells.proofs.put_number.Lts as lts
 
--- src/lib.rt:234:25
 cast-cells : tie.Need-cast-cells
 cast-cells c = search needs
 
--- src/lib.rt:234:5
 mul-t6 : tie.Need-mul-t6
 mul-t6 c = search needs
 
--- src/lib.rt:234:5
 slice-set-from-cells : tie.Need-slice-set-from-cells
 slice-set-from-cells c = search needs
 
--- src/lib.rt:230:1
 same-length : tie.Need-same-length
 same-length c = search needs
 
--- src/lib.rt:230:1
 returns : tie.Need-returns
 returns c = search (cell-put, needs)
 

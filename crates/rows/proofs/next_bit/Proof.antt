@@ -9,26 +9,21 @@ use Rattle.rows.proofs.next_bit.Tie as tie
 use Rattle.rows.proofs.next_bit.Reads as reads
 use Rattle.rows.proofs.next_bit.Lts as lts
 
--- src/lib.rt:18:9
 returns : tie.Need-returns
 returns c = search (next-ends, needs)
 
--- src/lib.rt:20:13
 shr-m : tie.Need-shr-m
 shr-m c = search needs
 
--- src/lib.rt:22:9
 returns-2 : tie.Need-returns-2
 returns-2 c = search (next-ends, needs)
 
 found : (c : lts.Else2 reads.Pre reads.Post) → Next (c .before .before .args .w) (c .before .before .args .i) (c .before .before .args .i + trailingZeros 32 (c .before .before .args .w / 2 ^ c .before .before .args .i))
 found c = next-some (c .before .before .args .w) (c .before .before .args .i) (omega arith) (omega arith) (c .if2 .left)
 
--- src/lib.rt:24:5
 add-result : tie.Need-add-result
 add-result c = let n = (found c) .within in record { fits = omega arith }
 
--- src/lib.rt:13:1
 returns-3 : tie.Need-returns-3
 returns-3 c = next-is (found c)
 

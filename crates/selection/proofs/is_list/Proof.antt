@@ -6,15 +6,12 @@ use Rattle.selection.proofs.is_list.Reads as reads
 use Rattle.selection.proofs.is_list.Lts as lts
 use Rattle.selection.proofs.head_of.Reads as head-of-reads
 
--- src/lib.rt:730:9
 head-of-requires : tie.Need-head-of-requires
 head-of-requires c κs = search (list-tests, needs)
 
--- src/lib.rt:732:9
 returns : tie.Need-returns
 returns c = search (list-tests, needs)
 
--- src/lib.rt:727:1
 returns-2 : tie.Need-returns-2
 returns-2 c = search (list-tests, needs)
 

@@ -6,19 +6,15 @@ use Rattle.time_masks.proofs.clock.Reads as reads
 use Rattle.time_masks.proofs.clock.Lts as lts
 use Rattle.time_masks.proofs.capped.Reads as capped-reads
 
--- src/lib.rt:191:9
 capped-requires : tie.Need-capped-requires
 capped-requires c κs = search (later-ends, needs)
 
--- src/lib.rt:192:23
 cast-t5 : tie.Need-cast-t5
 cast-t5 c = search (later-ends, needs)
 
--- src/lib.rt:194:9
 returns : tie.Need-returns
 returns c = search (later-ends, needs)
 
--- src/lib.rt:188:1
 returns-2 : tie.Need-returns-2
 returns-2 c = search (later-ends, needs)
 

@@ -5,15 +5,12 @@ use Rattle.time_masks.proofs.time_weight.Tie as tie
 use Rattle.time_masks.proofs.time_weight.Reads as reads
 use Rattle.time_masks.proofs.time_weight.Lts as lts
 
--- src/lib.rt:816:9
 returns : tie.Need-returns
 returns c = search (time-ends, needs)
 
--- src/lib.rt:819:9
 returns-2 : tie.Need-returns-2
 returns-2 c = search (time-ends, needs)
 
--- src/lib.rt:812:1
 returns-3 : tie.Need-returns-3
 returns-3 c = search (time-ends, needs)
 

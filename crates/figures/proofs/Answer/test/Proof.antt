@@ -3,23 +3,18 @@ use borrow.Author.Needs.{needs}
 use Rattle.figures.proofs.Answer.test.Statement.{statement}
 use Rattle.figures.proofs.Answer.test.Tie as tie
 
--- src/lib.rt:120:13
 number-at-requires : tie.Need-number-at-requires
 number-at-requires c κs = search needs
 
--- src/lib.rt:121:13
 term-requires : tie.Need-term-requires
 term-requires c κs = search needs
 
--- src/lib.rt:122:13
 term-requires-2 : tie.Need-term-requires-2
 term-requires-2 c κs = search needs
 
--- src/lib.rt:123:9
 compared-requires : tie.Need-compared-requires
 compared-requires c κs = search needs
 
--- src/lib.rt:116:5
 returns : tie.Need-returns
 returns c = search test-made
 

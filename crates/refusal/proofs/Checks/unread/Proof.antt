@@ -5,11 +5,9 @@ use Rattle.refusal.proofs.Checks.unread.Reads as reads
 use Rattle.refusal.proofs.Checks.unread.Lts as lts
 use Rattle.refusal.proofs.Checks.new.Reads as new-reads
 
--- src/lib.rt:92:13
 new-requires : tie.Need-new-requires
 new-requires c κs = search needs
 
--- src/lib.rt:89:5
 returns : tie.Need-returns
 returns c = rw (c .new .ensures)
 

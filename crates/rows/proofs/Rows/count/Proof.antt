@@ -6,19 +6,15 @@ use Rattle.rows.proofs.Rows.count.Tie as tie
 use Rattle.rows.proofs.Rows.count.Reads as reads
 use Rattle.rows.proofs.Rows.count.Lts as lts
 
--- src/lib.rt:118:9
 add-result : tie.Need-add-result
 add-result c = let m = c .before .before .args .self in two-fit (m .a) (m .b) (omega arith) (omega arith)
 
--- src/lib.rt:118:62
 add-result-2 : tie.Need-add-result-2
 add-result-2 c = let m = c .before .before .before .before .args .self in two-fit (m .c) (m .d) (omega arith) (omega arith)
 
--- src/lib.rt:118:9
 add-result-3 : tie.Need-add-result-3
 add-result-3 c = let m = c .before .before .before .before .args .self in four-fit (m .a) (m .b) (m .c) (m .d) (omega arith) (omega arith) (omega arith) (omega arith)
 
--- src/lib.rt:115:5
 returns : tie.Need-returns
 returns c = search needs
 

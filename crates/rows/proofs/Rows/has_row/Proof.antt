@@ -6,35 +6,27 @@ use Rattle.rows.proofs.Rows.has_row.Reads as reads
 use Rattle.rows.proofs.Rows.has_row.Lts as lts
 use Rattle.masks.proofs.shows.Reads as shows-reads
 
--- src/lib.rt:103:13
 shows-requires : tie.Need-shows-requires
 shows-requires c κs = search needs
 
--- src/lib.rt:103:13
 returns : tie.Need-returns
 returns c = search (bit-ends, needs)
 
--- src/lib.rt:106:13
 shows-requires-2 : tie.Need-shows-requires-2
 shows-requires-2 c κs = search needs
 
--- src/lib.rt:106:13
 returns-2 : tie.Need-returns-2
 returns-2 c = search (bit-ends, needs)
 
--- src/lib.rt:109:13
 shows-requires-3 : tie.Need-shows-requires-3
 shows-requires-3 c κs = search needs
 
--- src/lib.rt:109:13
 returns-3 : tie.Need-returns-3
 returns-3 c = search (bit-ends, needs)
 
--- src/lib.rt:111:9
 shows-requires-4 : tie.Need-shows-requires-4
 shows-requires-4 c κs = search needs
 
--- src/lib.rt:99:5
 returns-4 : tie.Need-returns-4
 returns-4 c = search (bit-ends, needs)
 
