@@ -50,10 +50,10 @@ pub fn next_bit(w: u32, i: u32) -> u32
 }
 
 impl Rows {
-    // How many rows a mask has bits for, and how many a word of it.
-    pub const MOST: u32 = 128;
-
+    // How many rows a word of a mask has bits for, and how many its four words.
     pub const WORD: u32 = 32;
+
+    pub const MOST: u32 = 4 * Rows::WORD;
 
     // Returns the mask of no row.
     pub fn none() -> Rows

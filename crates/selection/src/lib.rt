@@ -24,6 +24,7 @@ use grant::Grant;
 use ledger::Ledger;
 use nodes::Node;
 use rows::Rows;
+use schema::Stream;
 use terms::Term;
 use text::Time;
 
@@ -43,13 +44,13 @@ impl Scope {
     pub const NONE: u32 = 4294967295;
 
     // Streams, columns of a stream, rows of a stream, and places for rows.
-    const STREAMS: u32 = 4;
+    const STREAMS: u32 = Stream::MOST as u32;
 
-    const COLUMNS: u32 = 6;
+    const COLUMNS: u32 = Stream::COLUMNS as u32;
 
-    const ROWS: u32 = 128;
+    const ROWS: u32 = Rows::MOST;
 
-    const PLACES: u32 = 512;
+    const PLACES: u32 = Ledger::PLACES as u32;
 }
 
 // Where a side of a comparison takes its values from: a column that begins at a place of the values, the time, or a value.
