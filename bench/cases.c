@@ -13,18 +13,6 @@ static void full_record(void) {
     for (int i = 0; i < PLACES; i++) times[i] = i % 128 / 16;
 }
 
-/* a block of n rows of a stream's width, after n0 rows of it */
-enum { WIDTH = 3, MOST = 6 };
-static int64_t rows[MOST * 128];
-static unsigned block_stream, block_size;
-static void block_after(unsigned stream, unsigned width, unsigned n0, unsigned n) {
-    full_record();
-    ledger.rows[stream] = n0;
-    block_stream = stream;
-    block_size = width * n;
-    for (unsigned i = 0; i < block_size; i++) rows[i] = i;
-}
-
 static void deep(void) {
     int k = 0;
     set("(grant a min (of a) (show *) (when ");
@@ -47,7 +35,7 @@ static void entries(void) {
 }
 
 struct sample { const char *label; void (*make)(void); int call; };
-enum { NONE, GRANT, DECLARE, ROW, BLOCK, ROW_LINE, CLOCK, CLOCK_LINE, CLEAR, CLEAR_LINE, CALLER, FRESH, NOBODY };
+enum { NONE, GRANT, DECLARE, ROW, ROW_LINE, CLOCK, CLOCK_LINE, CLEAR, CLEAR_LINE, CALLER, FRESH, NOBODY };
 static void typical(void) { set("(grant fitter read (of test) (show test.unit test.volts) (when (= test.lot self.lot)))"); }
 static void no_line(void) { set(""); }
 static void wide(void) { fill("(grant a min (of a) (show *) (when", " (= a.a 1)", "))"); }
@@ -62,9 +50,6 @@ static void stream_columns(void) { fill("(stream last", " a", ")"); }
 static void row_line(void) { full_record(); set("(row test 7 1 30)"); }
 static void row_values(void) { full_record(); fill("(row test", " 1", ")"); }
 static void row_call(void) { full_record(); }
-static void block_call(void) { block_after(0, WIDTH, 116, 8); }
-static void block_whole(void) { block_after(2, MOST, 0, 128); }
-static void block_refused(void) { block_after(0, WIDTH, 116, 8); rows[0] = INT64_MIN; }
 static void clock_line(void) { set("(clock 12345)"); }
 static void clock_digits(void) { fill("(clock ", "9", ")"); }
 static void clear_line(void) { set("(clear)"); }
@@ -89,9 +74,6 @@ static const struct sample samples[] = {
     { "stream line", stream_line, DECLARE },
     { "stream line, many columns (refused)", stream_columns, DECLARE },
     { "row call, 511 rows", row_call, ROW },
-    { "block call, eight rows, 500 rows before", block_call, BLOCK },
-    { "block call, 128 rows of six columns, 383 in other streams", block_whole, BLOCK },
-    { "block call, eight rows, the first refused", block_refused, BLOCK },
     { "row line, 511 rows", row_line, ROW_LINE },
     { "row line, many values (refused)", row_values, ROW_LINE },
     { "clock call", no_line, CLOCK },
@@ -116,18 +98,12 @@ static void prepare(int k) {
     if (samples[k].call != DECLARE) declare("(stream ready lot unit ms)");
     samples[k].make();
 }
-/* apart, so that its reply is no part of the other calls' frame */
-__attribute__((noinline)) static uint32_t block(void) {
-    struct maltziru_block_reply r = maltziru_block(ledger, names, NAMES, block_stream, rows, block_size, times, PLACES, values, VALUES);
-    return r.refusal ? r.refusal : r.kept;
-}
 __attribute__((noinline)) uint32_t measured(int k) {
-    static const int64_t three[WIDTH] = { 7, 1, 30 };
+    static const int32_t three[3] = { 7, 1, 30 };
     switch (samples[k].call) {
     case GRANT: return maltziru_grant(names, NAMES, 23, text(), size, words, WORDS).refusal;
     case DECLARE: return maltziru_stream(names, NAMES, text(), size);
-    case ROW: return maltziru_row(ledger, names, NAMES, 0, three, WIDTH, times, PLACES, values, VALUES).refusal;
-    case BLOCK: return block();
+    case ROW: return maltziru_row(ledger, names, NAMES, 0, three, 3, times, PLACES, values, VALUES).refusal;
     case ROW_LINE: return maltziru_row_line(ledger, names, NAMES, text(), size, times, PLACES, values, VALUES).refusal;
     case CLOCK: return maltziru_clock(ledger, 5).refusal;
     case CLOCK_LINE: return maltziru_clock_line(ledger, text(), size).refusal;

@@ -9,7 +9,7 @@
  *
  * What every call does, for any text, numbers and contents of lent memory:
  *   - it returns 0 or one of the twelve refusals below, the first in their fixed order whose condition holds;
- *   - refused, it leaves every lent place as it was, and returns the ledger or caller as it was given; but of a block (maltziru_block) the rows before the refused one stay;
+ *   - refused, it leaves every lent place as it was, and returns the ledger or caller as it was given;
  *   - accepted, it changes exactly the lent places that its comment names.
  * This is proved of the library's code (docs/READING.md). What the program must see to, as the proof cannot:
  *   - a pointer with a length n points to n items, is aligned for them, and is not written by others during the call; with length 0 it may be any pointer, null too;
@@ -27,8 +27,8 @@ extern "C" {
 #endif
 
 /* The version of this header and its library: the first number moves when a program that uses them has to be changed, the second when there is something new. */
-#define MALTZIRU_VERSION_MAJOR 1
-#define MALTZIRU_VERSION_MINOR 0
+#define MALTZIRU_VERSION_MAJOR 0
+#define MALTZIRU_VERSION_MINOR 9
 #define MALTZIRU_VERSION (MALTZIRU_VERSION_MAJOR * 1000 + MALTZIRU_VERSION_MINOR)
 
 /* How much to lend. */
@@ -92,8 +92,6 @@ struct maltziru_caller {
 };
 
 struct maltziru_ledger_reply { uint32_t refusal; struct maltziru_ledger ledger; };
-/* How many rows of a block were kept; the refusal is that of the row after them, or 0 where there is none. */
-struct maltziru_block_reply { uint32_t refusal; uint32_t kept; struct maltziru_ledger ledger; };
 struct maltziru_grant_reply { uint32_t refusal; struct maltziru_grant grant; };
 struct maltziru_caller_reply { uint32_t refusal; struct maltziru_caller caller; };
 /* Either the refusal, with count 0, or 0 and how many cells or bytes were written. */
@@ -116,17 +114,10 @@ struct maltziru_ledger maltziru_fresh(void);
 /* Sets the clock to a time, any number. Refusals 12, 3, 7. Returns the ledger with the new clock, or as it was. */
 struct maltziru_ledger_reply maltziru_clock(struct maltziru_ledger ledger, int64_t time);
 
-/* Adds a row to the stream of a number (from 0, in the order of the stream lines), stamped with the clock. Refusals 12, 3, 2, 4, 8: a value beyond 32 bits is 3.
+/* Adds a row to the stream of a number (from 0, in the order of the stream lines), stamped with the clock. Refusals 12, 2, 4, 8.
  * Accepted: the ledger with one row more; the row's time and its values stand in the next place of that stream, all other places are as they were. Refused: all are. */
-struct maltziru_ledger_reply maltziru_row(struct maltziru_ledger ledger, const uint64_t *names, maltziru_len names_len, maltziru_len stream, const int64_t *row,
+struct maltziru_ledger_reply maltziru_row(struct maltziru_ledger ledger, const uint64_t *names, maltziru_len names_len, maltziru_len stream, const int32_t *row,
     maltziru_len row_len, uint32_t *times, maltziru_len times_len, int32_t *values, maltziru_len values_len);
-
-/* Adds the rows of a block to the stream of a number: does what maltziru_row does of one row after the other, and stops at the first that it refuses. The values stand row after row, as many for each as
- * the stream has columns; a shorter rest is one more row, which is refused (4, or 3 before it), and for a stream that is not declared all values are one row (2, or 3 before it). Any number of rows.
- * Returns how many were kept, and the refusal of the row after them, or 0 where all were kept. This is the one call whose refusal may follow a change: the kept rows stay, each as maltziru_row leaves it,
- * and all other places are as they were. An empty block returns 0 and 0 rows kept, whatever else is lent, and changes nothing. */
-struct maltziru_block_reply maltziru_block(struct maltziru_ledger ledger, const uint64_t *names, maltziru_len names_len, maltziru_len stream, const int64_t *rows,
-    maltziru_len rows_len, uint32_t *times, maltziru_len times_len, int32_t *values, maltziru_len values_len);
 
 /* Drops all rows and keeps the clock. Refusal 12. Times and values stay where they are. What stands past a stream's count may still be read, as rows are compared many at once and those past the
  * count masked off; but no result of any call hangs on it. */

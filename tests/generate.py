@@ -1,7 +1,6 @@
 """Random scripts, made from a seed to hit much of what the script program does.
 
-    python3 tests/generate.py SEED           prints the script of a seed
-    python3 tests/generate.py --desk SEED    prints it with the desk's calls among the lines
+    python3 tests/generate.py SEED      prints the script of a seed
 
 Most lines are accepted, so that the queries at the end have rows to answer
 from; some are damaged, so that every refusal occurs.
@@ -11,7 +10,6 @@ import random
 import re
 import sys
 
-import reference
 from reference_forms import AGGREGATES, COMPARE, TOP
 
 STREAM_NAMES = ['a', 'b', 'test', 'in', 'and', 'abcdefgh', 'k9', 'read', 'show']
@@ -20,8 +18,6 @@ ROLES = ['r', 's', 'time', 'fitter']
 ENTRIES = ['lot', 'n', 'self']
 WORDS = ['self.lot', 'time', 'figure', 'self', 'abcdefghi', 'a.abcdefghi', 'zz.x', 'test.zz', 'a.x',
          '-0', '007', '+1', '*', '=', 'self.abcdefghi', 'time.x', 'zz', 'abcdefgh', '1']
-BEYOND_VALUES = [TOP + 1, -TOP - 2, 2**63 - 1, -2**63]
-NO_STREAMS = ['zz', '', '4', '-1', '00', 'abcdefghi', str(2**63 - 1), str(2**64)]
 NUMBERS_AT_BOUNDS = [TOP, TOP + 1, -TOP - 1, -TOP - 2, 10**30, -10**30, 0, -1]
 
 # Lines that meet or nearly meet a check; Maker.words tells what stands in the places.
@@ -381,65 +377,6 @@ class Maker:
         return form('pick', form('and', *[form('=', ref, number) for number in numbers]), base)
 
 
-class CallMaker:
-    """Makes the desk's calls, over the streams and the clock of a desk."""
-
-    def __init__(self, seed):
-        self.random = random.Random('desk %d' % seed)
-        self.desk = reference.Desk(0, 0)
-        self.filling = seed % 5 == 3
-
-    def chance(self, share):
-        return self.random.random() < share
-
-    def call(self):
-        if self.chance(0.03):
-            return '%clear'
-        parts = self.random.choice([self.time, self.row, self.row] + [self.block] * 3)()
-        line = '\t'.join(parts)
-        if self.chance(0.03):
-            place = self.random.randrange(len(line))
-            byte = self.random.choice(['', ',', ';', '-', '0', 'x', '\t', ' ', '\x80'])
-            return line[:place] + byte + line[place + 1:]
-        return line
-
-    def time(self):
-        time = self.desk.clock + self.random.choice([0, 0, 1, 2])
-        if self.chance(0.2):
-            time = self.random.choice([self.desk.clock - 1, -1, TOP + 1, 2**63 - 1, -2**63, 2**63])
-        return '%clock', str(time)
-
-    def stream(self):
-        """A stream by name or by number, and how many columns it has."""
-        names = list(self.desk.streams)
-        if not names or self.chance(0.08):
-            return self.random.choice(NO_STREAMS), 2
-        place = self.random.randrange(len(names))
-        width = len(self.desk.streams[names[place]])
-        return self.random.choice([names[place], str(place)]), width
-
-    def numbers(self, count, share):
-        """Values, one of them beyond 32 bits in a share of the lists."""
-        values = [self.random.choice([-1, 0, 0, 1, 1, 2, 3, TOP, -TOP - 1]) for _ in range(count)]
-        if values and self.chance(share):
-            values[self.random.randrange(count)] = self.random.choice(BEYOND_VALUES)
-        return [str(value) for value in values]
-
-    def row(self):
-        stream, width = self.stream()
-        width += self.random.choice([-1, 1]) if self.chance(0.1) else 0
-        return '%row', stream, ','.join(self.numbers(width, 0.1))
-
-    def block(self):
-        stream, width = self.stream()
-        count = self.random.choice([0, 1, 2, 3, 8, 8] + [60, 127, 128, 129, 140] * self.filling)
-        values = self.numbers(count * width, 0.2)
-        if self.chance(0.15):
-            values = values[:len(values) - self.random.randrange(width)]
-        rows = [values[start:start + width] for start in range(0, len(values), width)]
-        return '%block', stream, ';'.join(','.join(row) for row in rows)
-
-
 def mixed(maker):
     """The usual script."""
     count = maker.choice([1, 2, 2, 2, 2, 2, 3, 3, 4, 5])
@@ -578,21 +515,6 @@ def script(seed):
     return [line.encode('latin-1') for line in lines]
 
 
-def desk_script(seed):
-    """The same with the desk's calls among the lines, most of them before the queries."""
-    maker, lines = CallMaker(seed), []
-    for line in script(seed):
-        asks = line.startswith((b'(ask', b'(line'))
-        if maker.chance(0.1 if asks or not maker.desk.streams else 0.4):
-            lines.append(maker.call().encode('latin-1'))
-            maker.desk.run(lines[-1])
-        lines.append(line)
-        if not asks:
-            maker.desk.run(line)
-    return lines
-
-
 if __name__ == '__main__':
-    made = desk_script if sys.argv[1] == '--desk' else script
-    for line in made(int(sys.argv[-1])):
+    for line in script(int(sys.argv[1])):
         sys.stdout.buffer.write(line + b'\n')

@@ -18,7 +18,6 @@ MAX_ROLES, MAX_ENTRIES, MAX_ROUTES = 4, 4, 16
 TOP = 2**31 - 1
 INFINITY = float('inf')
 VALUES = (-2**31, TOP)
-CALL_NUMBERS = (-2**63, 2**63 - 1)
 TIMES = (0, TOP)
 SIZES = (-INFINITY, TOP)
 ROUTE_NUMBERS = (-INFINITY, INFINITY)
@@ -41,10 +40,6 @@ class Refused(Exception):
 def refuse_if(condition, number):
     if condition:
         raise Refused(number)
-
-
-def within(bounds, number):
-    return bounds[0] <= number <= bounds[1]
 
 
 def repeated(items):
@@ -89,11 +84,6 @@ def head(tree):
     return tree[0]
 
 
-def number_of(item):
-    """The number that a word is, None where it is none."""
-    return int(item) if isinstance(item, str) and NUMBER.fullmatch(item) else None
-
-
 class Grant:
     """A grant as written; `shown`, its columns in stream order, is added later."""
 
@@ -113,10 +103,9 @@ class Reader:
         return item
 
     def number(self, item, bounds):
-        number = number_of(item)
-        refuse_if(number is None, 1)
-        self.over |= not within(bounds, number)
-        return number
+        refuse_if(not isinstance(item, str) or not NUMBER.fullmatch(item), 1)
+        self.over |= not bounds[0] <= int(item) <= bounds[1]
+        return int(item)
 
     def ref(self, item):
         refuse_if(not isinstance(item, str), 1)
@@ -127,7 +116,9 @@ class Reader:
         return (self.name(parts[0]), self.name(parts[1]))
 
     def term(self, item):
-        return self.ref(item) if number_of(item) is None else self.number(item, VALUES)
+        if isinstance(item, str) and NUMBER.fullmatch(item):
+            return self.number(item, VALUES)
+        return self.ref(item)
 
     def condition(self, tree):
         word, rest = head(tree), tree[1:]

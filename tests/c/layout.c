@@ -6,7 +6,7 @@
 static int checks, failures;
 #define CHECK(x) do { checks++; if (!(x)) { printf("layout.c:%d: %s\n", __LINE__, #x); failures++; } } while (0)
 
-#if MALTZIRU_VERSION < 1000 || MALTZIRU_VERSION / 1000 != MALTZIRU_VERSION_MAJOR || MALTZIRU_VERSION % 1000 != MALTZIRU_VERSION_MINOR
+#if MALTZIRU_VERSION < 9 || MALTZIRU_VERSION / 1000 != MALTZIRU_VERSION_MAJOR || MALTZIRU_VERSION % 1000 != MALTZIRU_VERSION_MINOR
 #error "a program cannot tell the version"
 #endif
 
@@ -14,7 +14,6 @@ _Static_assert(sizeof(struct maltziru_ledger) == 20, "ledger");
 _Static_assert(sizeof(struct maltziru_grant) == 56, "grant");
 _Static_assert(sizeof(struct maltziru_caller) == 96, "caller");
 _Static_assert(sizeof(struct maltziru_ledger_reply) == 24, "ledger reply");
-_Static_assert(sizeof(struct maltziru_block_reply) == 28, "block reply");
 _Static_assert(sizeof(struct maltziru_grant_reply) == 64, "grant reply");
 _Static_assert(sizeof(struct maltziru_caller_reply) == 104, "caller reply");
 _Static_assert(sizeof(struct maltziru_reply) == 8, "reply");
@@ -45,7 +44,7 @@ static void fields(void) {
     CHECK(r.refusal == 0 && r.ledger.clock == 77);
     l = r.ledger;
     for (unsigned s = 0; s < 4; s++) {
-        static const int64_t row[3] = { -1, 2, 3 };
+        static const int32_t row[3] = { -1, 2, 3 };
         const unsigned width[4] = { 2, 3, 1, 1 };
         for (unsigned k = 0; k <= s; k++) {
             r = maltziru_row(l, names, MALTZIRU_NAMES, s, row, width[s], times, MALTZIRU_TIMES, values, MALTZIRU_VALUES);
@@ -62,40 +61,6 @@ static void fields(void) {
     CHECK(c.refusal == 0 && c.caller.roles == 3 && c.caller.role[0] == name("one") && c.caller.role[2] == name("three") && c.caller.entries == 2);
     CHECK(c.caller.name[0] == name("p") && c.caller.value[0] == -5 && c.caller.name[1] == name("q") && c.caller.value[1] == 6);
     CHECK(maltziru_clear(l).ledger.clock == 77 && maltziru_clear(l).ledger.rows[3] == 0);
-}
-
-static struct maltziru_block_reply block(struct maltziru_ledger l, maltziru_len s, const int64_t *rows, maltziru_len n) {
-    return maltziru_block(l, names, MALTZIRU_NAMES, s, rows, n, times, MALTZIRU_TIMES, values, MALTZIRU_VALUES);
-}
-/* a block's reply stands where the header has it, and values of 64 bits are seen whole */
-static void blocks(void) {
-    static const int64_t rows[9] = { INT32_MIN, 0, INT32_MAX, 4, 5, 6, 7, 8, (int64_t)INT32_MAX + 1 }, far[4] = { INT64_MIN, INT64_MAX, (int64_t)1 << 32, (int64_t)INT32_MIN - 1 };
-    struct maltziru_ledger l = maltziru_clock(maltziru_fresh(), 77).ledger;
-    memset(names, 0, sizeof names);
-    memset(values, 0, sizeof values);
-    CHECK(stream("(stream a x)") == 0 && stream("(stream b x y z)") == 0);
-    struct maltziru_block_reply r = block(l, 1, rows, 9);
-    CHECK(r.refusal == MALTZIRU_BOUND && r.kept == 2 && r.ledger.clock == 77 && r.ledger.rows[0] == 0 && r.ledger.rows[1] == 2 && r.ledger.rows[2] == 0 && r.ledger.rows[3] == 0);
-    const int32_t *left = values + MALTZIRU_ROWS * MALTZIRU_COLUMNS;
-    CHECK(times[MALTZIRU_ROWS] == 77 && times[MALTZIRU_ROWS + 1] == 77 && left[0] == INT32_MIN && left[2] == INT32_MAX && left[MALTZIRU_COLUMNS + 2] == 6 && left[2 * MALTZIRU_COLUMNS] == 0);
-    r = block(l, 1, rows, 6);
-    CHECK(r.refusal == 0 && r.kept == 2 && r.ledger.rows[1] == 2);
-    CHECK(block(l, 1, rows, 5).refusal == MALTZIRU_MISPLACED && block(l, 1, rows, 5).kept == 1 && block(l, 2, rows, 6).refusal == MALTZIRU_UNDECLARED && block(l, 2, rows, 9).refusal == MALTZIRU_BOUND);
-    for (int i = 0; i < 4; i++) {
-        CHECK(maltziru_row(l, names, MALTZIRU_NAMES, 0, far + i, 1, times, MALTZIRU_TIMES, values, MALTZIRU_VALUES).refusal == MALTZIRU_BOUND);
-        CHECK(block(l, 0, far + i, 1).refusal == MALTZIRU_BOUND);
-    }
-    /* an empty block says 0 and 0, whatever else is lent, and any other 12 where that is damaged or too little */
-    l.rows[0] = MALTZIRU_ROWS + 1;
-    CHECK(block(l, 1, rows, 6).refusal == MALTZIRU_LENT && block(l, 1, rows, 6).kept == 0);
-    r = maltziru_block(l, NULL, 0, 99, NULL, 0, NULL, 0, NULL, 0);
-    CHECK(r.refusal == 0 && r.kept == 0 && r.ledger.clock == 77 && r.ledger.rows[0] == MALTZIRU_ROWS + 1);
-    l.rows[0] = MALTZIRU_ROWS;
-    CHECK(block(l, 0, rows, 0).refusal == 0);
-    l.rows[0] = 0;
-    CHECK(maltziru_block(l, names, MALTZIRU_NAMES - 1, 1, rows, 6, times, MALTZIRU_TIMES, values, MALTZIRU_VALUES).refusal == MALTZIRU_LENT);
-    CHECK(maltziru_block(l, names, MALTZIRU_NAMES, 1, rows, 6, times, MALTZIRU_TIMES - 1, values, MALTZIRU_VALUES).refusal == MALTZIRU_LENT);
-    CHECK(maltziru_block(l, names, MALTZIRU_NAMES, 1, rows, 6, times, MALTZIRU_TIMES, values, MALTZIRU_VALUES - 1).refusal == MALTZIRU_LENT);
 }
 
 static struct maltziru_reply ask(maltziru_len g, maltziru_len w, struct maltziru_ledger l, maltziru_len n, maltziru_len t, maltziru_len v, struct maltziru_caller who, const char *q, maltziru_len c) {
@@ -154,7 +119,7 @@ static void answers(void) {
     struct maltziru_ledger l = maltziru_fresh();
     CHECK(has_cells(2, l, who, "(in a)", MALTZIRU_ANSWER_CELLS(1, 7, 0)));
     for (unsigned i = 0; i < MALTZIRU_ROWS; i++) {
-        const int64_t row[6] = { i };
+        const int32_t row[6] = { (int32_t)i };
         l = maltziru_clock(l, i).ledger;
         l = maltziru_row(l, names, MALTZIRU_NAMES, 0, row, 6, times, MALTZIRU_TIMES, values, MALTZIRU_VALUES).ledger;
         if (i < 3) l = maltziru_row(l, names, MALTZIRU_NAMES, 1, row, 1, times, MALTZIRU_TIMES, values, MALTZIRU_VALUES).ledger;
@@ -221,7 +186,6 @@ static void long_line(void) {
 
 int main(void) {
     fields();
-    blocks();
     amounts();
     answers();
     ends();

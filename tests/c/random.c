@@ -162,32 +162,14 @@ static void spoil(void) {
     else text[at] = "() .a1-=\n"[any(9)];
 }
 
-/* ---- blocks */
-
-enum { MOST = 2 * 136 };
-static int64_t block[MOST];
-static unsigned block_size;
-/* rows of two columns: at times none or more than fit, with a value beyond 32 bits, or with a short last row */
-static void put_block(void) {
-    const uint32_t rows = any(one_in(9) ? MOST / 2 + 1 : 10);
-    block_size = 2 * rows;
-    for (unsigned i = 0; i < block_size; i++) block[i] = (int64_t)any(9) - 4;
-    if (!block_size) return;
-    const uint32_t at = any(block_size);
-    if (one_in(9)) block[at] = (int64_t)INT32_MAX + 1;
-    if (one_in(9)) block[at] = INT64_MIN;
-    if (one_in(9)) block_size--;
-}
-
 /* ---- calls */
 
-enum kind { STREAM, CLOCK, ROW, BLOCK, ROW_LINE, CLOCK_LINE, CLEAR, CLEAR_LINE, GRANT, CALLER, ASK, LINE };
+enum kind { STREAM, CLOCK, ROW, ROW_LINE, CLOCK_LINE, CLEAR, CLEAR_LINE, GRANT, CALLER, ASK, LINE };
 static void counted(uint32_t refusal) {
     if (refusal < 13) refused[refusal]++;
     said(refusal);
 }
 static void ledger_is(struct maltziru_ledger_reply r) { counted(r.refusal); it.ledger = r.ledger; }
-static void block_is(struct maltziru_block_reply r) { counted(r.refusal); said(r.kept); it.ledger = r.ledger; }
 static void granted_is(struct maltziru_grant_reply r) {
     counted(r.refusal);
     if (!r.refusal) it.grants[it.granted++] = r.grant;
@@ -197,12 +179,11 @@ static void replied(struct maltziru_reply r) { counted(r.refusal); said(r.count)
 static void call(enum kind kind) {
     const uint8_t *t = (const uint8_t *)text;
     const uint32_t n = any(12), m = any(3), v = any(6);
-    const int64_t row[3] = { n == 11 ? (int64_t)v << 31 : v, (int64_t)n - 4, 1 };
+    const int32_t row[3] = { (int32_t)v, (int32_t)n - 4, 1 };
     switch (kind) {
     case STREAM: counted(maltziru_stream(it.names, MALTZIRU_NAMES, t, size)); break;
     case CLOCK: ledger_is(maltziru_clock(it.ledger, (int64_t)it.ledger.clock + n - 1)); break;
     case ROW: ledger_is(maltziru_row(it.ledger, it.names, MALTZIRU_NAMES, v ? m : v + n, row, 2 + (n == 0), it.times, MALTZIRU_TIMES, it.values, MALTZIRU_VALUES)); break;
-    case BLOCK: block_is(maltziru_block(it.ledger, it.names, MALTZIRU_NAMES, v ? m : v + n, block, block_size, it.times, MALTZIRU_TIMES, it.values, MALTZIRU_VALUES)); break;
     case ROW_LINE: ledger_is(maltziru_row_line(it.ledger, it.names, MALTZIRU_NAMES, t, size, it.times, MALTZIRU_TIMES, it.values, MALTZIRU_VALUES)); break;
     case CLOCK_LINE: ledger_is(maltziru_clock_line(it.ledger, t, size)); break;
     case CLEAR: ledger_is(maltziru_clear(it.ledger)); break;
@@ -222,7 +203,6 @@ static void put_text(enum kind kind) {
     size = 0;
     switch (kind) {
     case STREAM: put_stream_line(); break;
-    case BLOCK: put_block(); return;
     case ROW_LINE: put_row(); break;
     case CLOCK_LINE: put("(clock "); put_number(); put(")"); break;
     case CLEAR_LINE: put("(clear)"); break;
@@ -265,7 +245,7 @@ static void damaged_call(enum kind kind) {
 }
 
 int main(void) {
-    static const enum kind kinds[] = { STREAM, CLOCK, CLOCK, ROW, ROW, ROW, BLOCK, ROW_LINE, CLOCK_LINE, GRANT, GRANT, CALLER, ASK, ASK, ASK, ASK, ASK, ASK, LINE, LINE, LINE };
+    static const enum kind kinds[] = { STREAM, CLOCK, CLOCK, ROW, ROW, ROW, ROW, ROW_LINE, CLOCK_LINE, GRANT, GRANT, CALLER, ASK, ASK, ASK, ASK, ASK, ASK, LINE, LINE, LINE };
     for (unsigned n = 0; n < THOUSANDS * 1000; n++) {
         enum kind kind = kinds[any(sizeof kinds / sizeof *kinds)];
         if (one_in(300)) kind = one_in(2) ? CLEAR : CLEAR_LINE;

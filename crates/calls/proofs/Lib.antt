@@ -1,6 +1,5 @@
 pub mod Examples
 pub mod Written
-pub mod Blocks
 pub mod Order
 pub mod Accepted
 pub mod Steps

@@ -1,4 +1,4 @@
--- The table of every call stands in the order of the refusals.
+-- The table of every call stands in the order of the refusals, and only its first check gives 12.
 use mathlib.Core.List.{List, []}
 use mathlib.Core.Bool.{not}
 use mathlib.Core.Option.{Option, none, some}
@@ -15,10 +15,8 @@ use Rattle.syntax.specs.Readers.{parse_as}
 use Rattle.model.specs.Queries.{Schema, Record, Grant, Caller}
 use Rattle.calls.specs.Replies.{written}
 use Rattle.calls.specs.Tables.{stream_checks, clock_checks, row_checks, row_line_checks, grant_checks, caller_checks, query_checks}
-use Rattle.calls.specs.Blocks.{refused_table}
-use Rattle.calls.specs.Calls.{Call, stream, clock, row, block, clear, clock_line, row_line, clear_line, lent_first, row_table, block_run, call_table, grant_table, caller_table}
+use Rattle.calls.specs.Calls.{Call, stream, clock, row, clear, clock_line, row_line, clear_line, call_checks, call_table, grant_table, caller_table}
 use Rattle.calls.specs.Asking.{answer_checks, ask_table, line_checks, line_table}
-use Rattle.calls.proofs.Blocks.{next_has}
 
 -- a written line: its length, its form, its brackets, and then what was read from 3 on
 pub written_ordered : {A : Type 0} (spare : ℕ) (bs : Bytes) (o : Option A) (checks : A → List Check) → ((a : A) → T (ordered 2 (checks a))) → Ordered (written spare bs o checks)
@@ -27,11 +25,10 @@ written_ordered spare bs none checks h = tt
 written_ordered spare bs (some a) checks h = h a
 
 pub call_ordered : (x : Record) (c : Call) → Ordered (call_table x c)
-unfolding call_table lent_first row_table stream_checks clock_checks row_checks row_line_checks checks_compute
+unfolding call_table call_checks stream_checks clock_checks row_checks row_line_checks checks_compute
 call_ordered x (stream bs) = written_ordered 0 bs (parse_as G.stream bs) _ (λ s. tt)
 call_ordered x (clock n) = tt
 call_ordered x (row s vs) = tt
-call_ordered x (block s vs) = unfold refused_table in next_has (λ y row. row_table y s row) Ordered tt _ (λ row. tt) (block_run x s vs).rest
 call_ordered x clear = tt
 call_ordered x (clock_line bs) = written_ordered 0 bs (parse_as G.clock bs) _ (λ n. tt)
 call_ordered x (row_line bs) = written_ordered 0 bs (parse_as G.row bs) _ (λ w. tt)
@@ -54,10 +51,20 @@ module _ (x : Record) (gs : List Grant) (who : Caller) (spare : ℕ) (bs : Bytes
   unfolding line_table query_checks line_checks checks_compute
   line_ordered l lent = written_ordered spare bs l _ (λ m. tt)
 
--- ---- a number that a line does not give
+-- ---- after the first check, no call on the record gives 12
 
 -- a line is refused for its text by 1 and 3 alone
 pub never_written : {A : Type 0} (n spare : ℕ) (bs : Bytes) (o : Option A) (checks : A → List Check) → T (not (eqb 1 n)) → T (not (eqb 3 n)) → ((a : A) → T (never n (checks a))) → T (never n (written spare bs o checks))
 unfolding every written refuse
 never_written n spare bs none checks a b k = and_both (not (eqb 3 n)) _ b (and_both (not (eqb 1 n)) _ a tt)
 never_written n spare bs (some l) checks a b k = and_both (not (eqb 3 n)) _ b (and_both (not (eqb 1 n)) _ a (and_both (not (eqb 3 n)) _ b (k l)))
+
+pub call_never : (x : Record) (c : Call) → T (never 12 (call_checks x c))
+unfolding call_checks stream_checks clock_checks row_checks row_line_checks refuse every
+call_never x (stream bs) = never_written 12 0 bs (parse_as G.stream bs) _ tt tt (λ s. tt)
+call_never x (clock n) = tt
+call_never x (row s vs) = tt
+call_never x clear = tt
+call_never x (clock_line bs) = never_written 12 0 bs (parse_as G.clock bs) _ tt tt (λ n. tt)
+call_never x (row_line bs) = never_written 12 0 bs (parse_as G.row bs) _ tt tt (λ w. tt)
+call_never x (clear_line bs) = never_written 12 0 bs (parse_as G.clear bs) (λ u. []) tt tt (λ u. tt)

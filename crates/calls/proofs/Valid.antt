@@ -1,21 +1,16 @@
 -- Calls from a fresh record keep it valid: 12 never comes of them. Times do not fall and are not past the clock.
-use mathlib.Core.Path.{◌≡◌, refl, sym, ap, ◌∙◌}
+use mathlib.Core.Path.{◌≡◌, refl, ap}
 use mathlib.Core.List.{List, [], ◌∷◌, ◌++◌, map}
-use mathlib.Core.Bool.{Bool, true, false, ◌&&◌, ◌||◌, not}
-use mathlib.Core.Option.{some, none-ne-some}
+use mathlib.Core.Bool.{Bool, true, false, ◌&&◌, ◌||◌, not, cond}
 use Prim.Native.Nat.{ℕ, zero, suc, ◌≤◌, ◌<◌}
 use native.Mathlib.Omega.{arith}
 use lib.IntN.{ℤ, pos, negsuc}
 use lib.Dec.{T, leb, ltb, eqb, leb→le, le→leb, ltb→lt, nltb→le, nleb→lt, eqb→eq, eqb_refl, not_T, T_not}
 use lib.ListN.{length, length-append}
-use Rattle.refusal.specs.Numbers.{number_of}
-use Rattle.refusal.specs.Checks.{Check, refuse, first, passes}
-use Rattle.refusal.specs.declared.Refusal.{Refusal}
-use Rattle.refusal.specs.declared.Refusal.TheVariants.{Lent}
-use Rattle.refusal.proofs.Passing.{pass_first, pass_rest, pass_test, first_skip}
-use Rattle.refusal.proofs.Verdicts.{never, never_first}
+use Rattle.refusal.specs.Checks.{passes}
+use Rattle.refusal.proofs.Passing.{pass_first, pass_rest, pass_test}
 use Rattle.lists.specs.Lists.{every, some?, empty?, nth, distinct, same_list}
-use Rattle.lists.proofs.Laws.{parts, by_test, and_both, or_cases, not_not, not_or_l, not_or_r, every_append, same_list→eq, same_list_refl}
+use Rattle.lists.proofs.Laws.{parts, and_both, or_cases, not_not, not_or_l, not_or_r, every_append, same_list→eq, same_list_refl}
 use Rattle.syntax.specs.Grammar as G
 use Rattle.syntax.specs.Grammar.{Bytes, name?, body?, some_all}
 use Rattle.syntax.specs.Limits.{is_value, is_time, natural, top, max_streams, max_columns, max_rows, short}
@@ -26,11 +21,8 @@ use Rattle.calls.specs.Names.{stream_names, columns_named, stream_number}
 use Rattle.calls.specs.Bounds.{stream_bounded}
 use Rattle.calls.specs.Validity.{valid_name, reserved, free_name, valid_stream, valid_schema, steady, valid_row, valid_rows, rows_match, valid_record}
 use Rattle.calls.specs.Tables.{declared, stream_checks, clock_checks, row_checks, row_line_checks}
-use Rattle.calls.specs.Blocks.{refused_table}
-use Rattle.calls.specs.Calls.{Call, stream, clock, row, block, clear, clock_line, row_line, clear_line, with_stream, with_clock, add_row, with_row, with_row_line, cleared, lent_first, row_table, block_run, call_table, effect, refused_left, next, replay, fresh, after}
+use Rattle.calls.specs.Calls.{Call, stream, clock, row, clear, clock_line, row_line, clear_line, call_checks, call_table, with_stream, with_clock, add_row, with_row, with_row_line, cleared, effect, next, replay, fresh, after}
 use Rattle.calls.proofs.Written.{written_passes}
-use Rattle.calls.proofs.Blocks.{left_has, next_has}
-use Rattle.calls.proofs.Order.{never_written}
 
 -- ---- rows
 
@@ -194,37 +186,25 @@ module _ (x : Record) (v : T (valid_record x)) where
   unfolding valid_record cleared
   clear_valid = valid_made x.clock x.schema _ (search parts) (search parts) (rows_gone x.clock x.schema x.rows (search parts))
 
-pub block_valid : (x : Record) → T (valid_record x) → (s : ℕ) (vs : List ℤ) → T (valid_record (block_run x s vs).left)
-unfolding block_run row_table lent_first
-block_valid x v s vs = left_has (λ y row. row_table y s row) (λ y row. with_row y s row) (λ y. T (valid_record y)) (λ y row w t. row_valid y w s row (pass_rest _ _ _ t)) x _ v
-
 pub valid_effect : (x : Record) (c : Call) → T (valid_record x) → T (passes (call_table x c)) → T (valid_record (effect x c))
-unfolding call_table lent_first row_table effect with_stream with_clock with_row_line row_line_checks
+unfolding call_table call_checks effect with_stream with_clock with_row_line row_line_checks
 valid_effect x (stream bs) v t =
     written_passes 0 bs (parse_as G.stream bs) _ (pass_rest _ _ _ t) (λ s e u. rw e (stream_valid x v s (parsed_printed G.stream bs s e).0 u))
 valid_effect x (clock n) v t = clock_valid x v n (pass_rest _ _ _ t)
 valid_effect x (row s vs) v t = row_valid x v s vs (pass_rest _ _ _ t)
-valid_effect x (block s vs) v t = block_valid x v s vs
 valid_effect x clear v t = clear_valid x v
 valid_effect x (clock_line bs) v t = written_passes 0 bs (parse_as G.clock bs) _ (pass_rest _ _ _ t) (λ n e u. rw e (clock_valid x v n u))
 valid_effect x (row_line bs) v t =
     written_passes 0 bs (parse_as G.row bs) _ (pass_rest _ _ _ t) (λ w e u. rw e (row_valid x v (stream_number x.schema w.name) w.values (pass_rest _ _ _ u)))
 valid_effect x (clear_line bs) v t = clear_valid x v
 
-valid_stays : (x : Record) (c : Call) → T (valid_record x) → T (valid_record (refused_left x c))
-unfolding refused_left
-valid_stays x (stream bs) v = v
-valid_stays x (clock n) v = v
-valid_stays x (row s vs) v = v
-valid_stays x (block s vs) v = block_valid x v s vs
-valid_stays x clear v = v
-valid_stays x (clock_line bs) v = v
-valid_stays x (row_line bs) v = v
-valid_stays x (clear_line bs) v = v
-
-pub valid_next : (x : Record) (c : Call) → T (valid_record x) → T (valid_record (next x c))
+valid_next : (x : Record) (c : Call) → T (valid_record x) → T (valid_record (next x c))
 unfolding next
-valid_next x c v = by_test (passes (call_table x c)) (λ e. rw e (valid_effect x c v (rw e tt))) (λ e. rw e (valid_stays x c v))
+valid_next x c v = go (passes (call_table x c)) refl
+  where
+    go : (b : Bool) → passes (call_table x c) ≡ b → T (valid_record (cond b (effect x c) x))
+    go true e = valid_effect x c v (rw e tt)
+    go false e = v
 
 valid_replay : (x : Record) (cs : List Call) → T (valid_record x) → T (valid_record (replay x cs))
 unfolding replay
@@ -235,26 +215,3 @@ valid_replay x (c ∷ cs) v = valid_replay (next x c) cs (valid_next x c v)
 pub valid_after : (cs : List Call) → T (valid_record (after cs))
 unfolding after fresh valid_record valid_schema rows_match every distinct stream_names
 valid_after cs = valid_replay fresh cs tt
-
--- ---- a call on a valid record is never refused by 12
-
-module _ (x : Record) (v : T (valid_record x)) (r : Refusal) where
-  checks_never : (cs : List Check) → T (never 12 cs) → first (lent_first x cs) ≡ some r → number_of r ≡ 12 → ⊥
-  unfolding lent_first
-  checks_never cs n e h = never_first 12 cs r n (sym (first_skip Lent (valid_record x) cs v) ∙ e) h
-
-  row_never : (s : ℕ) (vs : List ℤ) → first (row_table x s vs) ≡ some r → number_of r ≡ 12 → ⊥
-  unfolding row_table row_checks refuse every
-  row_never s vs = checks_never _ tt
-
-pub call_never : (x : Record) (c : Call) (r : Refusal) → T (valid_record x) → first (call_table x c) ≡ some r → number_of r ≡ 12 → ⊥
-unfolding call_table stream_checks clock_checks row_line_checks row_checks refuse every
-call_never x (stream bs) r v = checks_never x v r _ (never_written 12 0 bs (parse_as G.stream bs) _ tt tt (λ s. tt))
-call_never x (clock n) r v = checks_never x v r _ tt
-call_never x (row s vs) r v = row_never x v r s vs
-call_never x (block s vs) r v =
-    unfold refused_table in next_has (λ y row. row_table y s row) (λ cs. first cs ≡ some r → number_of r ≡ 12 → ⊥) (λ e h. unfold first in none-ne-some r e) _ (row_never (block_run x s vs).left (block_valid x v s vs) r s) (block_run x s vs).rest
-call_never x clear r v = checks_never x v r _ tt
-call_never x (clock_line bs) r v = checks_never x v r _ (never_written 12 0 bs (parse_as G.clock bs) _ tt tt (λ n. tt))
-call_never x (row_line bs) r v = checks_never x v r _ (never_written 12 0 bs (parse_as G.row bs) _ tt tt (λ w. tt))
-call_never x (clear_line bs) r v = checks_never x v r _ (never_written 12 0 bs (parse_as G.clear bs) (λ u. []) tt tt (λ u. tt))

@@ -1,5 +1,5 @@
 -- The calls that change the record, and those that add a grant or give a caller: the whole table of each, and what it does.
-use Rattle.std.specs.Prelude.{List, [], ◌∷◌, ◌++◌, map, not, cond, ℕ, ℤ, length, set}
+use Rattle.std.specs.Prelude.{List, [], ◌∷◌, ◌++◌, map, not, cond, ℕ, ℤ, set}
 use Rattle.std.proofs.Math.Option.{Option, none, some}
 use Rattle.refusal.specs.declared.Refusal.TheVariants.{Lent}
 use Rattle.refusal.specs.Checks.{Check, refuse, passes}
@@ -9,24 +9,35 @@ use Rattle.syntax.specs.Grammar.{Bytes, Stream, RowLine, Caller, GrantLine}
 use Rattle.syntax.specs.Limits.{natural}
 use Rattle.syntax.specs.Readers.{parse_as, readers_compute}
 use Rattle.model.specs.Queries.{Schema, Row, Record, Grant}
-use Rattle.calls.specs.Names.{columns_named, stream_number, resolve_grant}
+use Rattle.calls.specs.Names.{stream_number, resolve_grant}
 use Rattle.calls.specs.Validity.{valid_record, valid_schema, valid_catalogue}
 use Rattle.calls.specs.Replies.{written}
 use Rattle.calls.specs.Tables.{stream_checks, clock_checks, row_checks, row_line_checks, grant_checks, caller_checks, tables_compute}
-use Rattle.calls.specs.Blocks.{block_rows, Run, enter_rows, refused_table, blocks_compute}
 
 -- ---- calls on the record
 
--- a `stream` line as text; a time; a stream's number and a row's values; a stream's number and the values of a block of rows; clear; and the `clock`, `row` and `clear` lines as texts
+-- a `stream` line as text; a time; a stream's number and a row's values; clear; and the `clock`, `row` and `clear` lines as texts
 pub data Call : Type 0 where
   stream : Bytes → Call
   clock : ℤ → Call
   row : ℕ → List ℤ → Call
-  block : ℕ → List ℤ → Call
   clear : Call
   clock_line : Bytes → Call
   row_line : Bytes → Call
   clear_line : Bytes → Call
+
+-- what a call is tried for after 12
+unfoldable pub call_checks : Record → Call → List Check
+call_checks x (stream bs) = written 0 bs (parse_as G.stream bs) (stream_checks x.schema)
+call_checks x (clock n) = clock_checks x.clock n
+call_checks x (row s vs) = row_checks x s vs
+call_checks x clear = []
+call_checks x (clock_line bs) = written 0 bs (parse_as G.clock bs) (clock_checks x.clock)
+call_checks x (row_line bs) = written 0 bs (parse_as G.row bs) (row_line_checks x)
+call_checks x (clear_line bs) = written 0 bs (parse_as G.clear bs) (λ u. [])
+
+unfoldable pub call_table : Record → Call → List Check
+call_table x c = refuse Lent (not (valid_record x)) ∷ call_checks x c
 
 -- ---- what an accepted call does
 
@@ -53,54 +64,18 @@ with_row_line x (some w) = with_row x (stream_number x.schema w.name) w.values
 unfoldable pub cleared : Record → Record
 cleared x = record { clock = x.clock; schema = x.schema; rows = map (λ rs. []) x.rows }
 
--- ---- the table of a call
-
--- 12, and what is tried after it
-unfoldable pub lent_first : Record → List Check → List Check
-lent_first x cs = refuse Lent (not (valid_record x)) ∷ cs
-
-unfoldable pub row_table : Record → ℕ → List ℤ → List Check
-row_table x s vs = lent_first x (row_checks x s vs)
-
--- a block: row calls, one for each of its rows, up to the first refused one. Its table is that of the refused row
-unfoldable pub block_run : Record → ℕ → List ℤ → Run Record
-block_run x s vs = enter_rows (λ y row. row_table y s row) (λ y row. with_row y s row) x (block_rows (length (columns_named x.schema s)) vs)
-
-unfoldable pub call_table : Record → Call → List Check
-call_table x (stream bs) = lent_first x (written 0 bs (parse_as G.stream bs) (stream_checks x.schema))
-call_table x (clock n) = lent_first x (clock_checks x.clock n)
-call_table x (row s vs) = row_table x s vs
-call_table x (block s vs) = refused_table (λ y row. row_table y s row) (block_run x s vs)
-call_table x clear = lent_first x []
-call_table x (clock_line bs) = lent_first x (written 0 bs (parse_as G.clock bs) (clock_checks x.clock))
-call_table x (row_line bs) = lent_first x (written 0 bs (parse_as G.row bs) (row_line_checks x))
-call_table x (clear_line bs) = lent_first x (written 0 bs (parse_as G.clear bs) (λ u. []))
-
--- ---- what a call leaves
-
 unfoldable pub effect : Record → Call → Record
 effect x (stream bs) = with_stream x (parse_as G.stream bs)
 effect x (clock n) = with_clock x (some n)
 effect x (row s vs) = with_row x s vs
-effect x (block s vs) = (block_run x s vs).left
 effect x clear = cleared x
 effect x (clock_line bs) = with_clock x (parse_as G.clock bs)
 effect x (row_line bs) = with_row_line x (parse_as G.row bs)
 effect x (clear_line bs) = cleared x
 
--- a refused call changes nothing, but for a block: the rows before the refused one stay
-unfoldable pub refused_left : Record → Call → Record
-refused_left x (stream bs) = x
-refused_left x (clock n) = x
-refused_left x (row s vs) = x
-refused_left x (block s vs) = (block_run x s vs).left
-refused_left x clear = x
-refused_left x (clock_line bs) = x
-refused_left x (row_line bs) = x
-refused_left x (clear_line bs) = x
-
+-- a refused call changes nothing
 unfoldable pub next : Record → Call → Record
-next x c = cond (passes (call_table x c)) (effect x c) (refused_left x c)
+next x c = cond (passes (call_table x c)) (effect x c) x
 
 unfoldable pub replay : Record → List Call → Record
 replay x [] = x
@@ -140,5 +115,5 @@ nobody = record { roles = []; profile = [] }
 
 -- To unfold this is to unfold every definition above.
 unfoldable pub calls_compute : Unit {0}
-unfolding readers_compute tables_compute blocks_compute with_stream with_clock add_row with_row with_row_line cleared lent_first row_table block_run call_table effect refused_left next replay fresh after grant_table with_grant next_catalogue caller_table with_caller nobody
+unfolding readers_compute tables_compute call_checks call_table with_stream with_clock add_row with_row with_row_line cleared effect next replay fresh after grant_table with_grant next_catalogue caller_table with_caller nobody
 calls_compute = tt

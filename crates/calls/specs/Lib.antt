@@ -3,7 +3,6 @@ pub mod Bounds
 pub mod Validity
 pub mod Replies
 pub mod Tables
-pub mod Blocks
 pub mod Calls
 pub mod Events
 pub mod Asking

@@ -15,7 +15,7 @@ use Rattle.refusal.specs.declared.Refusal.TheVariants.{Lent, Malformed, Bound, N
 use Rattle.refusal.proofs.Passing.{pass_first, pass_rest, passes_first, first_skip, passes_left}
 use Rattle.refusal.proofs.Verdicts.{stops, never, never_first, first_last}
 use Rattle.lists.specs.Lists.{every, distinct, gather}
-use Rattle.lists.proofs.Laws.{parts, by_test, and_both, T_true, All, all_nil, all_cons, all_append, all_weaken, every_weaken}
+use Rattle.lists.proofs.Laws.{parts, and_both, T_true, All, all_nil, all_cons, all_append, all_weaken, every_weaken}
 use Rattle.syntax.specs.Grammar as G
 use Rattle.syntax.specs.Grammar.{Bytes, Verb, GrantLine, RouteLine, body?, query_text}
 use Rattle.syntax.specs.Limits.{max_grants, max_line, max_printed, max_routes, shallow}
@@ -28,15 +28,14 @@ use Rattle.calls.specs.Names.{stream_names, resolve_grant, map_option}
 use Rattle.calls.specs.Validity.{valid_schema, rows_match, valid_record, valid_grant, valid_catalogue, entry_names, valid_caller}
 use Rattle.calls.specs.Replies.{written, Reply, refused, filled}
 use Rattle.calls.specs.Tables.{grant_checks, caller_checks, query_checks}
-use Rattle.calls.specs.Calls.{Call, stream, clock, row, block, clear, clock_line, row_line, clear_line, with_stream, with_clock, with_row, with_row_line, cleared, row_table, block_run, call_table, effect, refused_left, next, fresh, grant_table, next_catalogue, with_grant, caller_table, with_caller, nobody}
+use Rattle.calls.specs.Calls.{Call, stream, clock, row, clear, clock_line, row_line, clear_line, call_table, with_stream, with_clock, with_row, with_row_line, cleared, effect, next, fresh, grant_table, next_catalogue, with_grant, caller_table, with_caller, nobody}
 use Rattle.calls.specs.Asking.{lent_valid, query_routes, answer_checks, ask_table, route_line, numbered_line, some_bytes, no_line, line_given, printed_line, line_checks, line_table, with_route}
 use Rattle.calls.specs.Events.{Fixture, new_fixture, Event, call, grant, caller, query, happen, happened_from, happened}
 use Rattle.calls.specs.Scripts.{Outcome, quiet, refusal, cells, text, changed, told, Act, on_record, act, perform, step, run_from, script}
-use Rattle.calls.proofs.Order.{never_written}
+use Rattle.calls.proofs.Order.{never_written, call_never}
 use Rattle.calls.proofs.Written.{written_passes, written_short}
 use Rattle.calls.proofs.Accepted.{Granted, grant_accepted, grant_passes}
-use Rattle.calls.proofs.Blocks.{left_has}
-use Rattle.calls.proofs.Valid.{valid_effect, valid_next, call_never, every_add}
+use Rattle.calls.proofs.Valid.{valid_effect, every_add}
 use Rattle.calls.proofs.Stored.{grant_stored, caller_stored}
 use Rattle.calls.proofs.Steps.{act_table, refused_first}
 use Rattle.claims.proofs.Fitting.{Written, line_fits}
@@ -91,35 +90,15 @@ unfolding with_row_line with_row
 grown_row x none = same
 grown_row x (some w) = same
 
-grown_block : (x : Record) (s : ℕ) (vs : List ℤ) → Grown x.schema (block_run x s vs).left.schema
-unfolding block_run with_row
-grown_block x s vs = left_has (λ y r. row_table y s r) (λ y r. with_row y s r) (λ y. Grown x.schema y.schema) (λ y r g t. g) x _ same
-
 grown_by : (x : Record) (c : Call) → Grown x.schema (effect x c).schema
 unfolding effect with_row cleared
 grown_by x (stream bs) = grown_stream x (parse_as G.stream bs)
 grown_by x (clock n) = grown_clock x (some n)
 grown_by x (row s vs) = same
-grown_by x (block s vs) = grown_block x s vs
 grown_by x clear = same
 grown_by x (clock_line bs) = grown_clock x (parse_as G.clock bs)
 grown_by x (row_line bs) = grown_row x (parse_as G.row bs)
 grown_by x (clear_line bs) = same
-
-grown_refused : (x : Record) (c : Call) → Grown x.schema (refused_left x c).schema
-unfolding refused_left
-grown_refused x (stream bs) = same
-grown_refused x (clock n) = same
-grown_refused x (row s vs) = same
-grown_refused x (block s vs) = grown_block x s vs
-grown_refused x clear = same
-grown_refused x (clock_line bs) = same
-grown_refused x (row_line bs) = same
-grown_refused x (clear_line bs) = same
-
-grown_next : (x : Record) (c : Call) → Grown x.schema (next x c).schema
-unfolding next
-grown_next x c = by_test (passes (call_table x c)) (λ e. rw e (grown_by x c)) (λ e. rw e (grown_refused x c))
 
 grown_catalogue : {d e : Schema} (gs : List Grant) → Grown d e → T (valid_catalogue d gs) → T (valid_catalogue e gs)
 unfolding valid_catalogue
@@ -195,7 +174,8 @@ twelve_skipped b cs r t u e h = never_first 12 cs r u (sym (first_skip Lent b cs
 
 module _ (f : Fixture) (s : Sound f) where
   call_twelve : (c : Call) (r : Refusal) → first (call_table f.record_kept c) ≡ some r → number_of r ≡ 12 → ⊥
-  call_twelve c r = call_never f.record_kept c r s.kept
+  unfolding call_table
+  call_twelve c r = twelve_skipped (valid_record f.record_kept) _ r s.kept (call_never f.record_kept c)
 
   lent_kept : T (lent_valid f.record_kept f.catalogue f.caller)
   unfolding lent_valid
@@ -324,10 +304,9 @@ changed_is f g h cs p q = go (first cs) refl
     go none e = unfold changed in p (T_true (passes cs) (passes_first cs e))
     go (some r) e = unfold changed in q (stops cs r e)
 
--- a call that leaves the record where it is refused: each but a block, which no line is
-call_leaves : (f : Fixture) (c : Call) → refused_left f.record_kept c ≡ f.record_kept → (perform f (on_record f c)).left ≡ happen f (call c)
+call_leaves : (f : Fixture) (c : Call) → (perform f (on_record f c)).left ≡ happen f (call c)
 unfolding on_record perform happen next
-call_leaves f c h = changed_is f _ _ (call_table f.record_kept c) (λ e. rw e) (λ e. rw (e, h))
+call_leaves f c = changed_is f _ _ (call_table f.record_kept c) (λ e. rw e) (λ e. rw e)
 
 grant_leaves : (zs : List ℤ) (ys : Bytes) (f : Fixture) (bs : Bytes) → (perform f (act zs ys f bs (some G.grant))).left ≡ happen f (grant bs)
 unfolding act perform happen next_catalogue
@@ -359,18 +338,18 @@ record Runs (f : Fixture) (bs : Bytes) (v : Option Verb) (a : Act) : Type 0 wher
   pub leaves : (perform f a).left ≡ happened_from f (events_of bs v)
   pub prints_as : (w : Verb) → printed_by (perform f a).outcome ≡ some w → v ≡ some w
 
-runs_call : (f : Fixture) (bs : Bytes) (v : Option Verb) (c : Call) → refused_left f.record_kept c ≡ f.record_kept → events_of bs v ≡ call c ∷ [] → Runs f bs v (on_record f c)
+runs_call : (f : Fixture) (bs : Bytes) (v : Option Verb) (c : Call) → events_of bs v ≡ call c ∷ [] → Runs f bs v (on_record f c)
 unfolding happened_from on_record perform printed_by
-runs_call f bs v c h e = record { leaves = call_leaves f c h ∙ sym (ap (happened_from f) e); prints_as = λ w. changed_prints f _ _ w }
+runs_call f bs v c e = record { leaves = call_leaves f c ∙ sym (ap (happened_from f) e); prints_as = λ w. changed_prints f _ _ w }
 
 runs : (zs : List ℤ) (ys : Bytes) (f : Fixture) (bs : Bytes) (v : Option Verb) → Runs f bs v (act zs ys f bs v)
-unfolding act perform events_of happened_from happen printed_by refused_left
+unfolding act perform events_of happened_from happen printed_by
 runs zs ys f bs none = record { leaves = changed_is f f f _ (λ e. refl) (λ e. refl); prints_as = λ w. changed_prints f _ _ w }
-runs zs ys f bs (some G.stream) = runs_call f bs _ (stream bs) refl refl
+runs zs ys f bs (some G.stream) = runs_call f bs _ (stream bs) refl
 runs zs ys f bs (some G.grant) = record { leaves = grant_leaves zs ys f bs; prints_as = λ w. changed_prints f _ _ w }
-runs zs ys f bs (some G.clock) = runs_call f bs _ (clock_line bs) refl refl
-runs zs ys f bs (some G.row) = runs_call f bs _ (row_line bs) refl refl
-runs zs ys f bs (some G.clear) = runs_call f bs _ (clear_line bs) refl refl
+runs zs ys f bs (some G.clock) = runs_call f bs _ (clock_line bs) refl
+runs zs ys f bs (some G.row) = runs_call f bs _ (row_line bs) refl
+runs zs ys f bs (some G.clear) = runs_call f bs _ (clear_line bs) refl
 runs zs ys f bs (some G.caller) = record { leaves = caller_leaves zs ys f bs; prints_as = λ w. changed_prints f _ _ w }
 runs zs ys f bs (some G.ask) = record { leaves = told_left f cells _; prints_as = told_prints f cells G.ask (λ l. refl) _ }
 runs zs ys f bs (some G.line) = record { leaves = told_left f text _; prints_as = told_prints f text G.line (λ l. refl) _ }
@@ -418,10 +397,12 @@ only_lines_print zs ys f bs out e = (runs zs ys f bs (verb_of bs)).prints_as G.l
 
 -- what any list of calls and lines leaves is sound: each of its grants was made by an accepted line
 sound_happen : (f : Fixture) → Sound f → (e : Event) → Sound (happen f e)
-unfolding happen next_catalogue
-sound_happen f s (call c) =
-    let g = grown_next f.record_kept c in
-    record { kept = valid_next f.record_kept c s.kept; granted = grown_catalogue f.catalogue g s.granted; lines = grown_lines g s.lines; asking = s.asking }
+unfolding happen next next_catalogue
+sound_happen f s (call c) = go (passes (call_table f.record_kept c)) (sound_call f s c)
+  where
+    go : (b : Bool) → (T b → Sound (record { record_kept = effect f.record_kept c; catalogue = f.catalogue; caller = f.caller })) → Sound (record { record_kept = cond b (effect f.record_kept c) f.record_kept; catalogue = f.catalogue; caller = f.caller })
+    go true k = k tt
+    go false k = s
 sound_happen f s (grant bs) = go (passes (grant_table f.record_kept.schema f.catalogue bs)) (sound_grant f s bs)
   where
     go : (b : Bool) → (T b → Sound (record { record_kept = f.record_kept; catalogue = with_grant f.record_kept.schema f.catalogue (parse_as G.grant bs); caller = f.caller }))

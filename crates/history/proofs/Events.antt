@@ -17,10 +17,9 @@ use Rattle.syntax.specs.Readers.{parse_as}
 use Rattle.model.specs.Queries as M
 use Rattle.calls.specs.Replies.{written}
 use Rattle.calls.specs.Tables.{grant_checks}
-use Rattle.calls.specs.Calls.{Call, call_table}
+use Rattle.calls.specs.Calls.{Call, call_checks}
 use Rattle.calls.specs.Events.{Fixture, new_fixture, Event, call, grant, caller, happen, happened_from, happened, events_compute}
-use Rattle.calls.proofs.Order.{never_written}
-use Rattle.calls.proofs.Valid.{call_never}
+use Rattle.calls.proofs.Order.{never_written, call_never}
 use Rattle.schema.specs.Schemas.{schema_of}
 use Rattle.ledger.specs.Records.{record_of}
 use Rattle.ledger.proofs.Soundness.{sound_parts}
@@ -126,7 +125,7 @@ module _ {s t : Store} {es : List Event} (f : Fresh s) (r : Trace s es t) where
   never_lent {c} p e =
       let k = step_call p sound_then.memory in
       let x = record_of t.memory in
-      call_never x c Lent sound_then.memory.valid (verdict_some (first (call_table x c)) Lent (sym k.said ∙ e)) refl
+      never_first 12 (call_checks x c) Lent (call_never x c) (verdict_some (first (call_checks x c)) Lent (sym k.said ∙ e)) refl
 
   pub never_lent_grant : {bs : Bytes} {ws : List ℕ} {g : Granted} → Grants t.memory.names (length t.grants) bs t.words ws g → g.verdict ≡ Refused Lent → ⊥
   unfolding grant_checks refuse every

@@ -3,7 +3,6 @@ use mathlib.Core.Path.{◌≡◌, refl, sym, ap, ◌∙◌, subst}
 use mathlib.Core.List.{List}
 use mathlib.Core.Option.{Option, none, some}
 use Prim.Native.Nat.{ℕ}
-use lib.IntN.{ℤ}
 use Rattle.refusal.specs.declared.Verdict.{Verdict}
 use Rattle.refusal.specs.declared.Verdict.TheVariants.{Accepted, Refused}
 use Rattle.refusal.proofs.Verdicts.{not_accepted}
@@ -11,14 +10,13 @@ use Rattle.syntax.specs.Grammar as G
 use Rattle.syntax.specs.Grammar.{Bytes, RowLine}
 use Rattle.syntax.specs.Readers.{parse_as}
 use Rattle.calls.specs.Calls.{Call}
-use Rattle.calls.proofs.Blocks.{left_has}
 use Rattle.schema.proofs.Later.{Later, same_later}
 use Rattle.stream_line.specs.Declaring.{Declares}
 use Rattle.stream_line.proofs.Declared.{refused_kept, accepted_read, accepted_later}
 use Rattle.ledger.specs.Records.{Memory}
-use Rattle.ledger.specs.Calls.{with_row, memory_after, row_table, block_run}
+use Rattle.ledger.specs.Calls.{with_row, memory_after}
 use Rattle.record_lines.specs.Calls.{with_row_line}
-use Rattle.history.specs.States.{State, Promise, declared, clocked, rowed, blocked, cleared, clock_lined, row_lined, clear_lined}
+use Rattle.history.specs.States.{State, Promise, declared, clocked, rowed, cleared, clock_lined, row_lined, clear_lined}
 
 declared_later : (ns : List ℕ) (bs : Bytes) (ns' : List ℕ) (v : Verdict) → Declares ns bs ns' v → Later ns ns'
 declared_later ns bs ns' v d = go v refl
@@ -37,15 +35,10 @@ unfolding with_row_line with_row
 row_names s none = refl
 row_names s (some w) = refl
 
-block_names : (s : Memory) (n : ℕ) (vs : List ℤ) → (block_run s n vs).left.names ≡ s.names
-unfolding block_run with_row
-block_names s n vs = left_has (λ m row. row_table m n row) (λ m row. with_row m n row) (λ m. m.names ≡ s.names) (λ m row e t. e) s _ refl
-
 pub names_later : {c : Call} {s t : State} → Promise c s t → Later s.names t.names
 names_later (declared {s} {bs} {ns} {v} d) = declared_later s.names bs ns v d
 names_later (clocked {s} e) = same_later s.names
 names_later (rowed {s} {t} {n} {vs} {v} d) = subst (Later s.names) (sym (ap (λ m. m.names) d.left ∙ after_names v s (with_row s n vs) (unfold with_row in refl))) (same_later s.names)
-names_later (blocked {s} {t} {n} {vs} d) = subst (Later s.names) (sym (ap (λ m. m.names) d.left ∙ block_names s n vs)) (same_later s.names)
 names_later (cleared {s} e) = same_later s.names
 names_later (clock_lined {s} e) = same_later s.names
 names_later (row_lined {s} {t} {bs} {v} d) =

@@ -7,9 +7,7 @@ use Rattle.syntax.specs.Grammar as G
 use Rattle.syntax.specs.Grammar.{Bytes}
 use Rattle.syntax.specs.Readers.{parse_as}
 use Rattle.calls.specs.Tables.{stream_checks, clock_checks, row_checks, row_line_checks}
-use Rattle.calls.specs.Blocks.{refused_table}
 use Rattle.calls.specs.Calls.{caller_table}
-use Rattle.calls.proofs.Blocks.{next_has}
 use Rattle.calls.proofs.Order as O
 use Rattle.calls.proofs.Order.{written_ordered}
 use Rattle.model.specs.Queries.{Grant}
@@ -18,7 +16,7 @@ use Rattle.grant_line.proofs.Steps.{table_ordered}
 use Rattle.stream_line.specs.Declaring.{declare_table}
 use Rattle.ledger.specs.declared.Ledger.{Ledger}
 use Rattle.ledger.specs.Records.{Memory}
-use Rattle.ledger.specs.Calls.{clock_table, clear_table, row_table, block_run, block_table}
+use Rattle.ledger.specs.Calls.{clock_table, clear_table, row_table}
 use Rattle.record_lines.specs.Calls.{clock_line_table, clear_line_table, row_line_table}
 
 pub declare_ordered : (ns : List ℕ) (bs : Bytes) → Ordered (declare_table ns bs)
@@ -32,10 +30,6 @@ clock_ordered l t = tt
 pub row_ordered : (m : Memory) (s : ℕ) (vs : List ℤ) → Ordered (row_table m s vs)
 unfolding row_table row_checks checks_compute
 row_ordered m s vs = tt
-
-pub block_ordered : (m : Memory) (s : ℕ) (vs : List ℤ) → Ordered (block_table m s vs)
-unfolding block_table refused_table
-block_ordered m s vs = next_has (λ n row. row_table n s row) Ordered (unfold checks_compute in tt) _ (row_ordered _ s) (block_run m s vs).rest
 
 pub clear_ordered : (l : Ledger) → Ordered (clear_table l)
 unfolding clear_table checks_compute

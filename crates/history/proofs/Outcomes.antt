@@ -19,7 +19,7 @@ use Rattle.syntax.specs.Readers.{parse_as}
 use Rattle.model.specs.Queries as M
 use Rattle.calls.specs.Replies.{written}
 use Rattle.calls.specs.Tables.{grant_checks}
-use Rattle.calls.specs.Calls.{Call, stream, clock, row, block, clear, clock_line, row_line, clear_line}
+use Rattle.calls.specs.Calls.{Call, stream, clock, row, clear, clock_line, row_line, clear_line}
 use Rattle.calls.specs.Events.{Event, call, grant, caller, query}
 use Rattle.schema.specs.Schemas.{schema_size, schema_of}
 use Rattle.stream_line.specs.Declaring.{names_after}
@@ -34,7 +34,7 @@ use Rattle.grant_line.specs.declared.Granted.{Granted}
 use Rattle.grant_line.specs.Lines.{no_grant}
 use Rattle.grant_line.specs.Granting as L
 use Rattle.grant_line.specs.Granting.{lent_sound, grant_table, grant_made, with_words, words_after, grants_after, Grants}
-use Rattle.history.specs.States.{State, Promise, declared, clocked, rowed, blocked, cleared, clock_lined, row_lined, clear_lined}
+use Rattle.history.specs.States.{State, Promise, declared, clocked, rowed, cleared, clock_lined, row_lined, clear_lined}
 use Rattle.history.specs.Fixtures.{Store, with_memory, with_grants, with_caller, Happens, called, granted, named, asked, Trace, stop, then, Fresh}
 
 -- ---- calls on the record
@@ -43,7 +43,6 @@ some_left : (c : Call) (s : State) → (t : State) × Promise c s t
 some_left (stream bs) s = (_, declared (record { said = refl; left = refl }))
 some_left (clock t) s = (_, clocked refl)
 some_left (row n vs) s = (_, rowed (record { said = refl; left = refl }))
-some_left (block n vs) s = (_, blocked (record { said = refl; counted = refl; left = refl }))
 some_left clear s = (_, cleared refl)
 some_left (clock_line bs) s = (_, clock_lined refl)
 some_left (row_line bs) s = (_, row_lined (record { said = refl; left = refl }))
@@ -53,7 +52,6 @@ one_left : {c : Call} {s t u : State} → Promise c s t → Promise c s u → t 
 one_left (declared {s} {bs} d) (declared k) = ap (with_names s) (d.left ∙ ap (λ v. names_after v s.names (parse_as G.stream bs)) (d.said ∙ sym k.said) ∙ sym k.left)
 one_left (clocked {s} d) (clocked k) = ap (λ r. with_ledger s r.ledger) (d ∙ sym k)
 one_left (rowed {s} {t} {n} {vs} d) (rowed k) = d.left ∙ ap (λ v. memory_after v s (with_row s n vs)) (d.said ∙ sym k.said) ∙ sym k.left
-one_left (blocked d) (blocked k) = d.left ∙ sym k.left
 one_left (cleared {s} d) (cleared k) = ap (λ r. with_ledger s r.ledger) (d ∙ sym k)
 one_left (clock_lined {s} d) (clock_lined k) = ap (λ r. with_ledger s r.ledger) (d ∙ sym k)
 one_left (row_lined {s} {t} {bs} d) (row_lined k) = d.left ∙ ap (λ v. memory_after v s (with_row_line s (parse_as G.row bs))) (d.said ∙ sym k.said) ∙ sym k.left

@@ -4,13 +4,13 @@ use Rattle.refusal.specs.declared.Verdict.{Verdict}
 use Rattle.lists.specs.Lists.{every}
 use Rattle.syntax.specs.Grammar.{Bytes}
 use Rattle.syntax.specs.Limits.{max_streams}
-use Rattle.calls.specs.Calls.{Call, stream, clock, row, block, clear, clock_line, row_line, clear_line}
+use Rattle.calls.specs.Calls.{Call, stream, clock, row, clear, clock_line, row_line, clear_line}
 use Rattle.calls.specs.Validity.{valid_record}
 use Rattle.schema.specs.Schemas.{schema_size}
 use Rattle.stream_line.specs.Declaring.{Declares}
 use Rattle.ledger.specs.declared.Entered.{Entered}
 use Rattle.ledger.specs.Records.{Memory, with_ledger, with_names, record_of, places_size, values_size, memory_sound}
-use Rattle.ledger.specs.Calls.{begun, clock_call, clear_call, RowCall, BlockCall}
+use Rattle.ledger.specs.Calls.{begun, clock_call, clear_call, RowCall}
 use Rattle.record_lines.specs.Calls.{clock_line_call, clear_line_call, RowLineCall}
 
 -- the ledger, which goes from call to call, and what is lent to each: names, times and values
@@ -22,7 +22,6 @@ pub data Promise : Call → State → State → Type 0 where
   declared : {s : State} {bs : Bytes} {ns : List ℕ} {v : Verdict} → Declares s.names bs ns v → Promise (stream bs) s (with_names s ns)
   clocked : {s : State} {t : ℤ} {r : Entered} → r ≡ clock_call s.ledger t → Promise (clock t) s (with_ledger s r.ledger)
   rowed : {s t : State} {n : ℕ} {vs : List ℤ} {v : Verdict} → RowCall s n vs t v → Promise (row n vs) s t
-  blocked : {s t : State} {n : ℕ} {vs : List ℤ} {kept : ℕ} {v : Verdict} → BlockCall s n vs t kept v → Promise (block n vs) s t
   cleared : {s : State} {r : Entered} → r ≡ clear_call s.ledger → Promise clear s (with_ledger s r.ledger)
   clock_lined : {s : State} {bs : Bytes} {r : Entered} → r ≡ clock_line_call s.ledger bs → Promise (clock_line bs) s (with_ledger s r.ledger)
   row_lined : {s t : State} {bs : Bytes} {v : Verdict} → RowLineCall s bs t v → Promise (row_line bs) s t
@@ -33,7 +32,6 @@ unfoldable pub verdict_in : {c : Call} {s t : State} → Promise c s t → Verdi
 verdict_in (declared {v} d) = v
 verdict_in (clocked {r} e) = r.verdict
 verdict_in (rowed {v} d) = v
-verdict_in (blocked {v} d) = v
 verdict_in (cleared {r} e) = r.verdict
 verdict_in (clock_lined {r} e) = r.verdict
 verdict_in (row_lined {v} d) = v

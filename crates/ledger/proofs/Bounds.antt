@@ -4,17 +4,13 @@ use mathlib.Core.Bool.{Bool, true, false, ◌&&◌, not}
 use Prim.Native.Nat.{ℕ, suc, ◌+◌, ◌*◌, ◌-◌, ◌<◌, ◌≤◌}
 use native.Mathlib.Numerals.{add-one}
 use native.Mathlib.Omega.{arith}
-use lib.IntN.{ℤ, pos}
 use lib.Dec.{leb}
-use lib.ListN.{length, drop, get_or, drop_of_length-le}
-use lib.Seq.{drop-cons}
+use lib.ListN.{get_or}
 use borrow.Author.Tests.{le-leb, lt-leb, not-true, not-false}
 use mathlib.Core.List.{List}
 use Rattle.lists.specs.Lists.{every}
 use Rattle.lists.proofs.Laws.{and_true}
-use Rattle.syntax.specs.Limits.{max_rows, top, is_value}
-use Rattle.text.specs.declared.Kept.{Kept}
-use Rattle.text.specs.Words.{kept_of}
+use Rattle.syntax.specs.Limits.{max_rows, top}
 use Rattle.ledger.specs.declared.Ledger.{Ledger}
 use Rattle.ledger.specs.Records.{count_in, ledger_sound, times_steady, stream_steady}
 
@@ -108,25 +104,3 @@ module _ (times : List ℕ) (low i : ℕ) where
 pub stream_tested : (l : Ledger) (times : List ℕ) (s count : ℕ) (b v : Bool) → count ≡ count_in l s → b ≡ times_steady times 0 l.clock (s * max_rows) count → b ≡ v → stream_steady l times s ≡ v
 unfolding stream_steady
 stream_tested l times s count b v c e h = ap (times_steady times 0 l.clock (s * max_rows)) (sym c) ∙ sym e ∙ h
-
--- ---- numbers that are values
-
-module _ (vs : List ℤ) (i : ℕ) (inv : every is_value vs ≡ every is_value (drop i vs)) where
-  pub valued_done : length vs ≤ i → true ≡ every is_value vs
-  unfolding every
-  valued_done h = sym (inv ∙ rw (drop_of_length-le vs h))
-
-  module _ (h : i < length vs) {k : Kept} (e : k ≡ kept_of (get_or vs i (pos 0))) where
-    valued_left : every is_value vs ≡ (is_value (get_or vs i (pos 0)) && every is_value (drop (i + 1) vs))
-    unfolding every
-    valued_left = inv ∙ rw (drop-cons vs i (pos 0) h, add-one i)
-
-    wide_is : k.wide ≡ not (is_value (get_or vs i (pos 0)))
-    unfolding kept_of
-    wide_is = ap (λ (k : Kept). k.wide) e
-
-    pub valued_fails : k.wide ≡ true → false ≡ every is_value vs
-    valued_fails w = sym (valued_left ∙ ap (λ b. b && every is_value (drop (i + 1) vs)) (not-true (is_value (get_or vs i (pos 0))) (sym wide_is ∙ w)))
-
-    pub valued_past : k.wide ≡ false → every is_value vs ≡ every is_value (drop (i + 1) vs)
-    valued_past w = valued_left ∙ ap (λ b. b && every is_value (drop (i + 1) vs)) (not-false (is_value (get_or vs i (pos 0))) (sym wide_is ∙ w))

@@ -17,9 +17,8 @@ use Rattle.refusal.specs.declared.Refusal.TheVariants.{Lent, Bound, ClockBack}
 use Rattle.refusal.specs.declared.Verdict.{Verdict}
 use Rattle.refusal.specs.declared.Verdict.TheVariants.{Accepted, Refused}
 use Rattle.refusal.proofs.Passed.{passed}
-use Rattle.lists.specs.Lists.{every}
 use Rattle.lists.proofs.Laws.{true_T, or_last}
-use Rattle.syntax.specs.Limits.{max_streams, max_columns, max_rows, is_time, is_value, natural}
+use Rattle.syntax.specs.Limits.{max_streams, max_columns, max_rows, is_time, natural}
 use Rattle.calls.specs.Tables.{clock_checks}
 use Rattle.text.specs.Words.{time_kept, time_of}
 use Rattle.schema.specs.Schemas.{streams_in, width_in}
@@ -69,20 +68,16 @@ pub record RowFits (m : Memory) (s n : ℕ) : Type 0 where
   pub width : n ≡ width_in m.names s
   pub space : count_in m.ledger s < max_rows
 
--- a row that is accepted has its place, and its numbers are values
-pub row_fits : (m : Memory) (s : ℕ) (vs : List ℤ) (c : Checks) → c.lent ≡ not (memory_sound m) → verdict_of (first (table (row_shown m.ledger m.names s vs c))) ≡ Accepted → RowFits m s (length vs) × T (every is_value vs)
+pub row_fits : (m : Memory) (s n : ℕ) (c : Checks) → verdict_of (first (table (row_shown m s n c))) ≡ Accepted → RowFits m s n
 unfolding row_shown
-row_fits m s vs c l e =
-    let h = passed (row_shown m.ledger m.names s vs c) e in
-    let n = length vs in (
-      record {
-        sound = true_T (memory_sound m) (not-false (memory_sound m) (sym l ∙ ap (λ (k : Checks). k.lent) h));
-        declared = leb-false (streams_in m.names) s (or_last c.undeclared (leb (streams_in m.names) s) (ap (λ (k : Checks). k.undeclared) h));
-        width = eqb-true n (width_in m.names s) (not-false (eqb n (width_in m.names s)) (or_last c.misplaced _ (ap (λ (k : Checks). k.misplaced) h)));
-        space = leb-false max_rows (count_in m.ledger s) (ap (λ (k : Checks). k.full) h);
-      },
-      true_T (every is_value vs) (not-false (every is_value vs) (or_last c.bound _ (ap (λ (k : Checks). k.bound) h))),
-    )
+row_fits m s n c e =
+    let h = passed (row_shown m s n c) e in
+    record {
+      sound = true_T (memory_sound m) (not-false (memory_sound m) (ap (λ (k : Checks). k.lent) h));
+      declared = leb-false (streams_in m.names) s (or_last c.undeclared (leb (streams_in m.names) s) (ap (λ (k : Checks). k.undeclared) h));
+      width = eqb-true n (width_in m.names s) (not-false (eqb n (width_in m.names s)) (or_last c.misplaced _ (ap (λ (k : Checks). k.misplaced) h)));
+      space = leb-false max_rows (count_in m.ledger s) (ap (λ (k : Checks). k.full) h);
+    }
 
 -- and its places are there
 pub record Room (m : Memory) (s n : ℕ) : Type 0 where
@@ -99,25 +94,23 @@ row_room m s n f =
     let b = width_most m.names s in
     record { stream = omega arith; short = omega arith; time = omega arith; values = omega arith }
 
-module _ (m : Memory) (s : ℕ) (vs : List ℤ) (c : Checks) {k : Checks} {v : Verdict} (e : k ≡ row_shown m.ledger m.names s vs c) (h : v ≡ verdict_of (first (table k))) where
-  told : v ≡ verdict_of (first (table (row_shown m.ledger m.names s vs c)))
-  told = h ∙ ap (λ k. verdict_of (first (table k))) e
+module _ (m : Memory) (s : ℕ) (c : Checks) {k : Checks} {v : Verdict} where
+  told : (n : ℕ) → k ≡ row_shown m s n c → v ≡ verdict_of (first (table k)) → v ≡ verdict_of (first (table (row_shown m s n c)))
+  told n e h = h ∙ ap (λ k. verdict_of (first (table k))) e
 
   -- what the store asks
-  pub store_room : c.lent ≡ not (memory_sound m) → v ≡ Accepted
-      → (row_place m.ledger s < length m.times) × (row_place m.ledger s * max_columns + length vs ≤ length m.values) × (s < max_streams) × T (every is_value vs)
-  store_room l a =
-      let (f, values) = row_fits m s vs c l (sym told ∙ a) in
-      let r = row_room m s (length vs) f in
-      (r.time, r.values, r.stream, values)
+  pub store_room : (n : ℕ) → k ≡ row_shown m s n c → v ≡ verdict_of (first (table k)) → v ≡ Accepted
+      → (row_place m.ledger s < length m.times) × (row_place m.ledger s * max_columns + n ≤ length m.values) × (s < max_streams)
+  store_room n e h a = let r = row_room m s n (row_fits m s n c (sym (told n e h) ∙ a)) in (r.time, r.values, r.stream)
 
-  pub row_refused : {f : Refusal} → v ≡ Refused f → Enters m s vs c m (Refused f)
-  unfolding memory_after
-  row_refused a = record { said = sym a ∙ told; left = refl }
+  module _ (vs : List ℤ) (e : k ≡ row_shown m s (length vs) c) (h : v ≡ verdict_of (first (table k))) where
+    pub row_refused : {f : Refusal} → v ≡ Refused f → Enters m s vs c m (Refused f)
+    unfolding memory_after
+    row_refused a = record { said = sym a ∙ told (length vs) e h; left = refl }
 
-  pub row_stored : v ≡ Accepted → {l : Ledger} {times : List ℕ} {values : List ℤ} → Stored m.ledger s vs m.times times m.values values → l ≡ with_rows m.ledger s
-      → Enters m s vs c (record { ledger = l; names = m.names; times = times; values = values }) Accepted
-  unfolding memory_after with_row
-  row_stored a p q = record { said = sym a ∙ told; left = λ i. record { ledger = q i; names = m.names; times = p.stamped i; values = p.put i } }
+    pub row_stored : v ≡ Accepted → {l : Ledger} {times : List ℕ} {values : List ℤ} → Stored m.ledger s vs m.times times m.values values → l ≡ with_rows m.ledger s
+        → Enters m s vs c (record { ledger = l; names = m.names; times = times; values = values }) Accepted
+    unfolding memory_after with_row
+    row_stored a p q = record { said = sym a ∙ told (length vs) e h; left = λ i. record { ledger = q i; names = m.names; times = p.stamped i; values = p.put i } }
 
 pub ruleset row_ends = (row_refused, row_stored)

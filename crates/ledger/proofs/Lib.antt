@@ -5,5 +5,3 @@ pub mod Told
 pub mod Rows
 pub mod Kept
 pub mod Valid
-pub mod Blocks
-pub mod Frames

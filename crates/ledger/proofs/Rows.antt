@@ -82,7 +82,7 @@ module _ (m : Memory) (s : ℕ) (vs : List ℤ) (four : length m.ledger.rows ≡
       apart r h f e (no a) (yes b) = omega arith
       apart r h f e (no a) (no b) = ne (omega arith)
 
-  pub counted : count_in (with_rows m.ledger s) s ≡ suc n
+  counted : count_in (with_rows m.ledger s) s ≡ suc n
   unfolding count_in with_rows
   counted =
       let h = (row_room m s (length vs) fit).stream in

@@ -1,5 +1,5 @@
 -- The row call's table is what the code shows of it.
-use mathlib.Core.Path.{◌≡◌, refl, ap, ◌∙◌, subst}
+use mathlib.Core.Path.{◌≡◌, refl, ap, ◌∙◌}
 use mathlib.Core.List.{List, [], map}
 use mathlib.Core.Bool.{Bool, true, false, not, cond}
 use mathlib.Core.Option.{none, some}
@@ -13,9 +13,10 @@ use Rattle.refusal.specs.Numbers.{verdict_of}
 use Rattle.refusal.specs.Checks.{refuse, first, passes, table, no_fault}
 use Rattle.refusal.specs.declared.Checks.{Checks}
 use Rattle.refusal.specs.declared.Verdict.{Verdict}
-use Rattle.refusal.specs.declared.Refusal.TheVariants.{Lent, Bound, Undeclared, Misplaced, StreamFull}
-use Rattle.refusal.proofs.Passing.{first_passes}
+use Rattle.refusal.specs.declared.Refusal.TheVariants.{Lent, Undeclared, Misplaced, StreamFull}
+use Rattle.refusal.proofs.Passing.{pass_rest, pass_test, first_passes}
 use Rattle.lists.specs.Lists.{every, nth, count_from}
+use Rattle.lists.proofs.Laws.{T_true}
 use Rattle.lists.proofs.Counting.{map_length, nth_map}
 use Rattle.syntax.specs.Limits.{is_value, max_rows}
 use Rattle.model.specs.Queries.{Row}
@@ -24,7 +25,7 @@ use Rattle.calls.specs.Tables.{row_checks}
 use Rattle.schema.specs.Schemas.{streams_in, width_in, schema_of}
 use Rattle.schema.proofs.Lookups.{length_schema, length_columns}
 use Rattle.ledger.specs.Records.{Memory, count_in, rows_in, record_of, memory_sound}
-use Rattle.ledger.specs.Calls.{lent_shown, row_shown, row_table, Enters, RowCall}
+use Rattle.ledger.specs.Calls.{row_shown, row_table, Enters, RowCall}
 use Rattle.ledger.proofs.Entering.{RowFits, row_fits}
 
 -- ---- the rows of a stream
@@ -38,9 +39,10 @@ length_rows m s = map_length _ 0 (count_in m.ledger s)
 
 -- ---- the row call
 
-pub row_told : (m : Memory) (s : ℕ) (vs : List ℤ) → verdict_of (first (table (row_shown m.ledger m.names s vs (lent_shown m no_fault)))) ≡ verdict_of (first (row_table m s vs))
-unfolding row_shown lent_shown row_table row_checks table first refuse record_of
-row_told m s vs = rw (length_schema m.names) (go (memory_sound m) (every is_value vs) (leb (streams_in m.names) s) refl)
+-- Each value that is lent is one: check 3 holds off.
+pub row_told : (m : Memory) (s : ℕ) (vs : List ℤ) → T (every is_value vs) → verdict_of (first (table (row_shown m s (length vs) no_fault))) ≡ verdict_of (first (row_table m s vs))
+unfolding row_shown row_table row_checks table first refuse record_of
+row_told m s vs v = rw (T_true (every is_value vs) v, length_schema m.names) (go (memory_sound m) (leb (streams_in m.names) s) refl)
   where
     width : ℕ
     width = length (columns_named (schema_of m.names) s)
@@ -48,40 +50,19 @@ row_told m s vs = rw (length_schema m.names) (go (memory_sound m) (every is_valu
     rows : List Row
     rows = nth [] (map (rows_in m) (count_from 0 (streams_in m.names))) s
 
-    go : (a v b : Bool) → leb (streams_in m.names) s ≡ b
-        → verdict_of (cond (not a) (some Lent) (cond (not v) (some Bound) (cond b (some Undeclared) (cond (not (eqb (length vs) (width_in m.names s))) (some Misplaced) (cond (leb max_rows (count_in m.ledger s)) (some StreamFull) none)))))
-        ≡ verdict_of (cond (not a) (some Lent) (cond (not v) (some Bound) (cond b (some Undeclared) (cond (not (eqb (length vs) width)) (some Misplaced) (cond (leb max_rows (length rows)) (some StreamFull) none)))))
-    go false v b e = refl
-    go true false b e = refl
-    go true true true e = refl
-    go true true false e = let h = leb-false (streams_in m.names) s e in rw (length_columns m.names s h, rows_at m s h, length_rows m s)
+    go : (a b : Bool) → leb (streams_in m.names) s ≡ b
+        → verdict_of (cond (not a) (some Lent) (cond b (some Undeclared) (cond (not (eqb (length vs) (width_in m.names s))) (some Misplaced) (cond (leb max_rows (count_in m.ledger s)) (some StreamFull) none))))
+        ≡ verdict_of (cond (not a) (some Lent) (cond b (some Undeclared) (cond (not (eqb (length vs) width)) (some Misplaced) (cond (leb max_rows (length rows)) (some StreamFull) none))))
+    go false b e = refl
+    go true true e = refl
+    go true false e = let h = leb-false (streams_in m.names) s e in rw (length_columns m.names s h, rows_at m s h, length_rows m s)
 
 -- what a row call that passes its table shows
 pub row_accepted : (m : Memory) (s : ℕ) (vs : List ℤ) → T (passes (row_table m s vs)) → RowFits m s (length vs) × T (every is_value vs)
-row_accepted m s vs t = row_fits m s vs (lent_shown m no_fault) (unfold lent_shown in refl) (row_told m s vs ∙ ap verdict_of (first_passes (row_table m s vs) t))
+unfolding row_table row_checks
+row_accepted m s vs t =
+    let v = pass_test _ (every is_value vs) _ (pass_rest _ (not (memory_sound m)) _ t) in
+    (row_fits m s (length vs) no_fault (row_told m s vs v ∙ ap verdict_of (first_passes (row_table m s vs) t)), v)
 
-pub row_called : {m m' : Memory} {s : ℕ} {vs : List ℤ} {k : Checks} {v : Verdict} → k ≡ no_fault → Enters m s vs (lent_shown m k) m' v → RowCall m s vs m' v
-row_called {m} {s} {vs} n e = record { said = rw n at e.said ∙ row_told m s vs; left = e.left }
-
--- checks with whether the memory may be lent, as the code sets it
-pub lent_set : (m : Memory) (c : Checks) {b : Bool} → b ≡ memory_sound m
-    → record {
-      lent = not b;
-      long = c.long;
-      malformed = c.malformed;
-      bound = c.bound;
-      undeclared = c.undeclared;
-      repeated = c.repeated;
-      misplaced = c.misplaced;
-      window = c.window;
-      back = c.back;
-      full = c.full;
-      unrouted = c.unrouted;
-      many = c.many;
-      room = c.room;
-    } ≡ lent_shown m c
-unfolding lent_shown
-lent_set m c e = rw e
-
-pub enters_shown : {m m' : Memory} {s : ℕ} {vs : List ℤ} {k c : Checks} {v : Verdict} → k ≡ c → Enters m s vs k m' v → Enters m s vs c m' v
-enters_shown {m} {m'} {s} {vs} {v = v} e h = subst (λ c. Enters m s vs c m' v) e h
+pub row_called : {m m' : Memory} {s : ℕ} {vs : List ℤ} {k : Checks} {v : Verdict} → T (every is_value vs) → k ≡ no_fault → Enters m s vs k m' v → RowCall m s vs m' v
+row_called {m} {s} {vs} h n e = record { said = rw n at e.said ∙ row_told m s vs h; left = e.left }

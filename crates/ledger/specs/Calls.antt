@@ -7,10 +7,8 @@ use Rattle.refusal.specs.declared.Checks.{Checks}
 use Rattle.refusal.specs.declared.Refusal.TheVariants.{Lent}
 use Rattle.refusal.specs.declared.Verdict.{Verdict}
 use Rattle.refusal.specs.declared.Verdict.TheVariants.{Accepted, Refused}
-use Rattle.lists.specs.Lists.{every}
-use Rattle.syntax.specs.Limits.{max_streams, max_columns, max_rows, natural, is_value}
+use Rattle.syntax.specs.Limits.{max_streams, max_columns, max_rows, natural}
 use Rattle.calls.specs.Tables.{clock_checks, row_checks}
-use Rattle.calls.specs.Blocks.{block_rows, Run, enter_rows, refused_table}
 use Rattle.text.specs.declared.Time.{Time}
 use Rattle.schema.specs.Schemas.{streams_in, width_in}
 use Rattle.ledger.specs.declared.Ledger.{Ledger}
@@ -89,39 +87,20 @@ clear_call l = entered (verdict_of (first (clear_table l))) (record { clock = l.
 
 -- ---- row
 
--- whether the memory may be lent, beside what a line showed
-unfoldable pub lent_shown : Memory → Checks → Checks
-lent_shown m c =
+-- a row of n values
+unfoldable pub row_shown : Memory → ℕ → ℕ → Checks → Checks
+row_shown m s n c =
     record {
       lent = not (memory_sound m);
       long = c.long;
       malformed = c.malformed;
       bound = c.bound;
-      undeclared = c.undeclared;
+      undeclared = c.undeclared || leb (streams_in m.names) s;
       repeated = c.repeated;
-      misplaced = c.misplaced;
+      misplaced = c.misplaced || not (eqb n (width_in m.names s));
       window = c.window;
       back = c.back;
-      full = c.full;
-      unrouted = c.unrouted;
-      many = c.many;
-      room = c.room;
-    }
-
--- what is wrong with a row, beside what was shown before
-unfoldable pub row_shown : Ledger → List ℕ → ℕ → List ℤ → Checks → Checks
-row_shown l names s vs c =
-    record {
-      lent = c.lent;
-      long = c.long;
-      malformed = c.malformed;
-      bound = c.bound || not (every is_value vs);
-      undeclared = c.undeclared || leb (streams_in names) s;
-      repeated = c.repeated;
-      misplaced = c.misplaced || not (eqb (length vs) (width_in names s));
-      window = c.window;
-      back = c.back;
-      full = leb max_rows (count_in l s);
+      full = leb max_rows (count_in m.ledger s);
       unrouted = c.unrouted;
       many = c.many;
       room = c.room;
@@ -150,7 +129,7 @@ memory_after (Refused f) old new = old
 
 -- what is said, and what all memory holds afterwards
 pub record Enters (m : Memory) (s : ℕ) (vs : List ℤ) (c : Checks) (m' : Memory) (v : Verdict) : Type 0 where
-  pub said : v ≡ verdict_of (first (table (row_shown m.ledger m.names s vs c)))
+  pub said : v ≡ verdict_of (first (table (row_shown m s (length vs) c)))
   pub left : m' ≡ memory_after v m (with_row m s vs)
 
 -- the call
@@ -165,18 +144,3 @@ pub record RowCall (m : Memory) (s : ℕ) (vs : List ℤ) (m' : Memory) (v : Ver
 pub record Stored (l : Ledger) (s : ℕ) (vs : List ℤ) (times times' : List ℕ) (values values' : List ℤ) : Type 0 where
   pub stamped : times' ≡ set times (row_place l s) l.clock
   pub put : values' ≡ paste values (row_place l s * max_columns) vs (length vs)
-
--- ---- block
-
--- row calls, one for each row of the block, up to the first refused one
-unfoldable pub block_run : Memory → ℕ → List ℤ → Run Memory
-block_run m s vs = enter_rows (λ n row. row_table n s row) (λ n row. with_row n s row) m (block_rows (width_in m.names s) vs)
-
--- the call: the table of the refused row, on what those before it left
-unfoldable pub block_table : Memory → ℕ → List ℤ → List Check
-block_table m s vs = refused_table (λ n row. row_table n s row) (block_run m s vs)
-
-pub record BlockCall (m : Memory) (s : ℕ) (vs : List ℤ) (m' : Memory) (kept : ℕ) (v : Verdict) : Type 0 where
-  pub said : v ≡ verdict_of (first (block_table m s vs))
-  pub counted : kept ≡ (block_run m s vs).kept
-  pub left : m' ≡ (block_run m s vs).left

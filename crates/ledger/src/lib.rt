@@ -1,11 +1,10 @@
 // The clock and the four row counts, which go in with a call and come back with it. Rows stand in lent memory: a time and six values a place, 128 places a stream.
-ghost use Rattle.std.specs.Prelude.{◌≡◌, not, ◌+◌, ◌*◌, ◌-◌, ◌≤◌, ◌<◌, min, T, length, get_or};
+ghost use Rattle.std.specs.Prelude.{◌≡◌, ◌+◌, ◌*◌, ◌-◌, ◌≤◌, ◌<◌, T, length, get_or};
 ghost use Rattle.std.proofs.Math.Seq.{paste};
 ghost use Rattle.lists.specs.Lists.{every};
 ghost use Rattle.syntax.specs.Limits.{max_streams, max_columns, max_rows, is_value};
 ghost use Rattle.ledger.specs.Records.{places_size, values_size, count_in, ledger_sound, undeclared_empty, times_steady, streams_steady, rows_sound, memory_sound};
-ghost use Rattle.calls.specs.Blocks.{row_size};
-ghost use Rattle.ledger.specs.Calls.{begun, entered, clocked, clock_call, cleared, clear_call, row_place, with_rows, lent_shown, row_shown, Enters, Stored, RowCall, BlockCall};
+ghost use Rattle.ledger.specs.Calls.{begun, entered, clocked, clock_call, cleared, clear_call, row_place, with_rows, row_shown, Enters, Stored, RowCall};
 
 use refusal::{Checks, Verdict};
 use schema::Stream;
@@ -22,14 +21,6 @@ pub struct Ledger {
 #[derive(Drop)]
 pub struct Entered {
     pub verdict: Verdict,
-    pub ledger: Ledger,
-}
-
-// What a block says, how many of its rows were kept, and the ledger that it leaves.
-#[derive(Drop)]
-pub struct Block {
-    pub verdict: Verdict,
-    pub kept: u32,
     pub ledger: Ledger,
 }
 
@@ -292,57 +283,16 @@ pub fn known(vs: &[i32])
     }
 }
 
-// Each of some numbers is a value: it is of 32 bits.
-fn valued(vs: &[i64]) -> bool
-    ensures { result ≡ every is_value vs.now }
-{
-    let mut i: usize = 0;
-    while i < vs.len() {
-        let n = Number {
-            ok: true,
-            value: vs[i],
-            next: 0,
-        };
-        let k = n.kept();
-        if k.wide {
-            return false;
-        }
-        i += 1;
-    }
-    true
-}
-
 // Values from a place on.
-fn put(values: &mut [i32], at: usize, vs: &[i64])
-    requires { (at + length vs.now ≤ length values.old) × T (every is_value vs.now) }
+fn put(values: &mut [i32], at: usize, vs: &[i32])
+    requires { at + length vs.now ≤ length values.old }
     ensures { values.new ≡ paste values.old at vs.now (length vs.now) }
 {
     let mut c: usize = 0;
     while c < vs.len() {
-        values[at + c] = vs[c] as i32;
+        values[at + c] = vs[c];
         c += 1;
     }
-}
-
-// How many values of a block a row takes: as many as its stream has columns, or all where it has none.
-fn row_size(width: usize, all: usize) -> usize
-    ensures { result ≡ row_size width all }
-{
-    if width == 0 {
-        return all;
-    }
-    width
-}
-
-// Where a row of a block ends that begins at a place: after its values, or with them all.
-fn row_end(at: usize, size: usize, all: usize) -> usize
-    requires { at ≤ all }
-    ensures { result ≡ min (at + size) all }
-{
-    if all - at < size {
-        return all;
-    }
-    at + size
 }
 
 impl Ledger {
@@ -360,8 +310,8 @@ impl Ledger {
     }
 
     // A row in the next place of its stream, stamped with the clock.
-    fn store(self, s: usize, vs: &[i64], times: &mut [u32], values: &mut [i32])
-        requires { (row_place self s < length times.old) × (row_place self s * max_columns + length vs.now ≤ length values.old) × (s < max_streams) × T (every is_value vs.now) }
+    fn store(self, s: usize, vs: &[i32], times: &mut [u32], values: &mut [i32])
+        requires { (row_place self s < length times.old) × (row_place self s * max_columns + length vs.now ≤ length values.old) × (s < max_streams) }
         ensures { Stored self s vs.now times.old times.new values.old values.new }
     {
         let at = s * Ledger::ROWS + self.count(s);
@@ -369,32 +319,39 @@ impl Ledger {
         put(values, at * Stream::COLUMNS, vs);
     }
 
-    // What is wrong with a row of a stream, beside what was shown before.
-    fn row_checks(self, names: &[u64], s: usize, vs: &[i64], checks: Checks) -> Checks
-        ensures { result ≡ row_shown self names.now s vs.now checks }
+    // What is wrong with a row call, beside what a line showed before.
+    fn row_checks(
+        self,
+        names: &[u64],
+        s: usize,
+        n: usize,
+        times: &[u32],
+        values: &[i32],
+        checks: Checks,
+    ) -> Checks
+        ensures { result ≡ row_shown (record { ledger = self; names = names.now; times = times.now; values = values.now }) s n checks }
     {
         let mut c = checks;
-        c.bound = text::either(c.bound, !valued(vs));
+        c.lent = !sound(self, names, times, values);
         c.undeclared = text::either(c.undeclared, schema::streams(names) <= s);
-        c.misplaced = text::either(c.misplaced, vs.len() != schema::width(names, s));
+        c.misplaced = text::either(c.misplaced, n != schema::width(names, s));
         c.full = Ledger::ROWS <= self.count(s);
         c
     }
 
-    // One row more of a stream, where `checks` have what was shown before, and whether the memory may be lent.
-    fn enter(
+    // Returns and leaves what `row` does, after what a line showed (`checks`).
+    pub fn row_with(
         self,
         names: &[u64],
         s: usize,
-        vs: &[i64],
+        vs: &[i32],
         times: &mut [u32],
         values: &mut [i32],
         checks: Checks,
     ) -> Entered
-        requires { checks.lent ≡ not (memory_sound (record { ledger = self; names = names.now; times = times.old; values = values.old })) }
         ensures { Enters (record { ledger = self; names = names.now; times = times.old; values = values.old }) s vs.now checks (record { ledger = result.ledger; names = names.now; times = times.new; values = values.new }) result.verdict }
     {
-        let c = self.row_checks(names, s, vs, checks);
+        let c = self.row_checks(names, s, vs.len(), times, values, checks);
         let v = c.verdict();
         match v {
             Verdict::Refused(f) => Entered {
@@ -411,79 +368,19 @@ impl Ledger {
         }
     }
 
-    // Returns and leaves what `row` does, after what a line showed (`checks`).
-    pub fn row_with(
-        self,
-        names: &[u64],
-        s: usize,
-        vs: &[i64],
-        times: &mut [u32],
-        values: &mut [i32],
-        checks: Checks,
-    ) -> Entered
-        ensures { Enters (record { ledger = self; names = names.now; times = times.old; values = values.old }) s vs.now (lent_shown (record { ledger = self; names = names.now; times = times.old; values = values.old }) checks) (record { ledger = result.ledger; names = names.now; times = times.new; values = values.new }) result.verdict }
-    {
-        let mut c = checks;
-        c.lent = !sound(self, names, times, values);
-        self.enter(names, s, vs, times, values, c)
-    }
-
     // The row call: one row more of the stream of a number. Returns the verdict, and the ledger with one row more. Leaves the clock in its time and the values in its places,
     // and all else as it was; refused, the ledger and all places as they were.
     pub fn row(
         self,
         names: &[u64],
         s: usize,
-        vs: &[i64],
+        vs: &[i32],
         times: &mut [u32],
         values: &mut [i32],
     ) -> Entered
         ensures { RowCall (record { ledger = self; names = names.now; times = times.old; values = values.old }) s vs.now (record { ledger = result.ledger; names = names.now; times = times.new; values = values.new }) result.verdict }
     {
+        known(vs);
         self.row_with(names, s, vs, times, values, Checks::new())
-    }
-
-    // The block call: the values of rows of the stream of a number, one row after the other. Returns how many rows were kept, the verdict of the row call on the first that is refused, or accepted,
-    // and the ledger with the kept rows. Leaves these rows as row calls do, and all else as it was.
-    pub fn block(
-        self,
-        names: &[u64],
-        s: usize,
-        vs: &[i64],
-        times: &mut [u32],
-        values: &mut [i32],
-    ) -> Block
-        ensures { BlockCall (record { ledger = self; names = names.now; times = times.old; values = values.old }) s vs.now (record { ledger = result.ledger; names = names.now; times = times.new; values = values.new }) result.kept result.verdict }
-    {
-        let mut c = Checks::new();
-        c.lent = !sound(self, names, times, values);
-        let size = row_size(schema::width(names, s), vs.len());
-        let mut l = self;
-        let mut kept: u32 = 0;
-        let mut at: usize = 0;
-        while at < vs.len() {
-            let end = row_end(at, size, vs.len());
-            let e = l.enter(names, s, &vs[at..end], times, values, c);
-            let v = e.verdict;
-            match v {
-                Verdict::Refused(f) => {
-                    return Block {
-                        verdict: Verdict::Refused(f),
-                        kept: kept,
-                        ledger: l,
-                    };
-                }
-                Verdict::Accepted => {
-                    l = e.ledger;
-                    kept += 1;
-                    at = end;
-                }
-            }
-        }
-        Block {
-            verdict: Verdict::Accepted, // all rows are stored
-            kept: kept,
-            ledger: l,
-        }
     }
 }

@@ -1,20 +1,18 @@
 -- The three demands, of the calls for C and from their contracts alone: `Called`, `Calls` and `Recorded` (specs/Lists) say what a call, and a list of calls, returned and left.
-use mathlib.Core.Path.{◌≡◌, ◌∙◌}
-use mathlib.Core.List.{List, []}
+use mathlib.Core.Path.{◌≡◌}
+use mathlib.Core.List.{List}
 use Prim.Native.Nat.{ℕ, suc, ◌≤◌, ◌<◌}
 use lib.IntN.{ℤ, pos}
-use lib.Dec.{T}
-use lib.ListN.{length, take, drop}
+use lib.ListN.{length}
 use Rattle.refusal.specs.Checks.{Ordered}
 use Rattle.syntax.specs.Grammar.{Bytes}
-use Rattle.syntax.specs.Limits.{max_printed, max_streams}
+use Rattle.syntax.specs.Limits.{max_printed}
 use Rattle.syntax.specs.Readers.{parse_query}
 use Rattle.model.specs.Alike.{Alike}
 use Rattle.calls.specs.Calls.{Call, after}
 use Rattle.calls.specs.Events.{Event, query, happen, happened}
 use Rattle.calls.specs.Asking.{with_route}
 use Rattle.ledger.specs.Records.{Memory}
-use Rattle.ledger.proofs.Frames.{rows_of, Framed, block_framed}
 use Rattle.caller.specs.declared.Caller.{Caller}
 use Rattle.caller.specs.Callers.{caller_of}
 use Rattle.grant.specs.declared.Grant.{Grant}
@@ -34,13 +32,11 @@ use Rattle.demands.proofs.Answered as A
 use Rattle.demands.proofs.Each.{each_route}
 use Rattle.demands.proofs.Room as Q
 use Rattle.demands.proofs.Interference as I
-use Rattle.maltziru.specs.Calls.{BlockCalled}
-use Rattle.maltziru.specs.Lists.{Recorded, Called, Calls, table_of, refused_left, no_block, RowsCalled, NextRow}
+use Rattle.maltziru.specs.Lists.{Recorded, Called, Calls, table_of}
 use Rattle.maltziru.proofs.Lists.{recorded, happens, trace}
 use Rattle.maltziru.proofs.Refusals as R
-use Rattle.maltziru.proofs.Blocks as B
 
--- ---- demand 1: every call is answered or refused by its table, and a refusal changes nothing, with one exception: the rows of a block before the refused one stay
+-- ---- demand 1: every call is answered or refused by its table, and a refusal changes nothing
 
 -- over any memory, the number returned is 0 where no check of the call's table fails, or that of the first which does
 pub first_refusal : {e : Event} {s t : Store} {n : ℕ} → Called e s t n → (e ≡ query → ⊥) → n ≡ first_number (table_of e s)
@@ -50,39 +46,9 @@ first_refusal = R.says_first
 pub ordered : (e : Event) (s : Store) → Ordered (table_of e s)
 ordered = R.table_ordered
 
--- over any memory, a call that returned a refusal left everything, but for a block, of which the kept rows stay (`refused_left`)
-pub refused_stays : {e : Event} {s t : Store} {n : ℕ} → Called e s t n → (n ≡ 0 → ⊥) → t ≡ refused_left e s
+-- over any memory, a call that returned a refusal left everything
+pub refused_stays : {e : Event} {s t : Store} {n : ℕ} → Called e s t n → (n ≡ 0 → ⊥) → t ≡ s
 refused_stays = R.refused_stays
-
--- so every other call left everything
-pub others_stay : {e : Event} {s t : Store} {n : ℕ} → Called e s t n → T (no_block e) → (n ≡ 0 → ⊥) → t ≡ s
-others_stay {e} {s} c t ne = refused_stays c ne ∙ R.no_block_stays e s t
-
--- A block, over any memory: its rows are cut from the values, as many for each as the stream has columns (`rows_of`).
-module _ {m m' : Memory} {i : ℕ} {vs : List ℤ} {kept n : ℕ} (b : BlockCalled m i vs m' kept n) where
-  -- the kept ones are so many row calls that returned 0, each on what the last one left
-  pub block_rows_stay : RowsCalled i m (take kept (rows_of m i vs)) m'
-  block_rows_stay = B.kept_rows b
-
-  -- and the number returned is what the row call returns for the next row there, which leaves the memory, or 0 where there is none
-  pub block_refusal : NextRow i m' (drop kept (rows_of m i vs)) n
-  block_refusal = B.next_row_says b
-
-  -- all rows are kept exactly where 0 is returned
-  pub block_whole : (n ≡ 0 → kept ≡ length (rows_of m i vs)) × (kept ≡ length (rows_of m i vs) → n ≡ 0)
-  block_whole = (B.all_kept b, B.none_refused b)
-
-  -- exactly the places of the kept rows are written, and all others are as they were
-  pub block_frame : length m.ledger.rows ≡ max_streams → Framed m i (rows_of m i vs) m' kept
-  block_frame four = block_framed b.call four
-
--- where none is kept, nothing is changed
-pub block_unmoved : {m m' : Memory} {i : ℕ} {vs : List ℤ} {n : ℕ} → BlockCalled m i vs m' 0 n → m' ≡ m
-block_unmoved = B.none_kept
-
--- an empty block changes nothing, keeps no row and returns 0
-pub block_empty : {m m' : Memory} {i kept n : ℕ} → BlockCalled m i [] m' kept n → (m' ≡ m) × (kept ≡ 0) × (n ≡ 0)
-block_empty = B.nothing_given
 
 -- over memory that may be lent, what a call left stands for what the definitions make of it, and may be lent again
 pub does : {e : Event} {s t : Store} {n : ℕ} → Called e s t n → Sound s → (fixture_of t ≡ happen (fixture_of s) e) × Sound t
@@ -131,7 +97,7 @@ room_enough f c w route bs out h room = Q.room_enough f (trace c) w route bs out
 
 -- ---- demand 3: an answer hangs on nothing but what is shown
 
--- Two lists of calls on the record, blocks among them, each from fresh memory, refused calls included, with any grant, caller, ask and line calls between them. After each, grants, words and a caller are lent to a
+-- Two lists of calls on the record, each from fresh memory, refused calls included, with any grant, caller, ask and line calls between them. After each, grants, words and a caller are lent to a
 -- query; by the definitions the catalogue and the caller are the same both times (`SameLent`).
 -- If by the definitions the clock and the streams are the same after both, and so are, under that catalogue, the caller's views and admitted figures (`Alike`),
 -- then every query with the same cells lent returned the same count and left the same cells, or the same refusal.

@@ -1,5 +1,4 @@
 pub mod Said
 pub mod Lists
 pub mod Refusals
-pub mod Blocks
 pub mod Demands

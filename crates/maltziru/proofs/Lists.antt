@@ -9,7 +9,6 @@ use Rattle.refusal.specs.declared.Verdict.TheVariants.{Accepted, Refused}
 use Rattle.refusal.specs.declared.Refusal.{Refusal}
 use Rattle.refusal.specs.declared.Refusal.TheVariants.{Lent, Malformed, Bound, Undeclared, Repeated, Misplaced, WindowSize, ClockBack, StreamFull, NoRoute, ManyRoutes, NoRoom}
 use Rattle.refusal.specs.Numbers.{number_of}
-use Rattle.lists.proofs.Laws.{T_true, never}
 use Rattle.calls.specs.Calls.{Call}
 use Rattle.calls.specs.Events.{Event, grant, caller}
 use Rattle.grant.specs.declared.Grant.{Grant}
@@ -18,7 +17,7 @@ use Rattle.ledger.specs.declared.Ledger.{Ledger}
 use Rattle.ledger.specs.Calls.{clock_call, clear_call}
 use Rattle.record_lines.specs.Calls.{clock_line_call, clear_line_call}
 use Rattle.ledger.specs.Records.{Memory, with_ledger}
-use Rattle.history.specs.States.{Promise, declared, clocked, rowed, blocked, cleared, clock_lined, row_lined, clear_lined}
+use Rattle.history.specs.States.{Promise, declared, clocked, rowed, cleared, clock_lined, row_lined, clear_lined}
 use Rattle.history.specs.Fixtures.{Store, with_grants, with_caller, Happens, called, granted, named, asked, Trace, stop, then}
 use Rattle.demands.specs.Recording as D
 use Rattle.maltziru.specs.declared.GrantReply.{GrantReply}
@@ -43,11 +42,6 @@ some_number NoRoute = refl
 some_number ManyRoutes = refl
 some_number NoRoom = refl
 
--- so 0 is said where a call is accepted alone
-pub said_accepted : (v : Verdict) → said v ≡ 0 → v ≡ Accepted
-said_accepted Accepted e = refl
-said_accepted (Refused f) e = never (sym (T_true (eqb (number_of f) 0) (rw e tt)) ∙ some_number f)
-
 -- a grant is kept where the verdict says so
 pub kept_after : (v : Verdict) (gs : List Grant) (g : Grant) → grants_kept (said v) gs g ≡ grants_after v gs g
 unfolding grants_kept grants_after
@@ -62,7 +56,6 @@ pub promised : {c : Call} {m n : Memory} {k : ℕ} → OnRecord c m n k → Prom
 promised (C.stream_called c) = declared c.call
 promised (C.clock_called {m} {t} {r} h) = relaid m (same_ledger (clock_call m.ledger t) h) (clocked refl)
 promised (C.row_called c) = rowed c.call
-promised (C.block_called c) = blocked c.call
 promised (C.clear_called {m} {r} h) = relaid m (same_ledger (clear_call m.ledger) h) (cleared refl)
 promised (C.clock_line_called {m} {bs} {r} h) = relaid m (same_ledger (clock_line_call m.ledger bs) h) (clock_lined refl)
 promised (C.row_line_called c) = row_lined c.call

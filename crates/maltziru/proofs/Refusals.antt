@@ -3,14 +3,13 @@ use mathlib.Core.Path.{◌≡◌, refl, sym, ap, ◌∙◌}
 use mathlib.Core.List.{List}
 use mathlib.Core.Option.{Option, none, some}
 use Prim.Native.Nat.{ℕ}
-use lib.Dec.{T}
 use Rattle.refusal.specs.declared.Refusal.{Refusal}
 use Rattle.refusal.specs.Numbers.{verdict_of}
 use Rattle.refusal.specs.Checks.{Check, first, Ordered, checks_compute}
 use Rattle.refusal.specs.declared.Verdict.{Verdict}
 use Rattle.refusal.specs.declared.Verdict.TheVariants.{Accepted, Refused}
 use Rattle.calls.specs.Events.{Event, call, grant, caller, query}
-use Rattle.calls.specs.Calls.{Call, stream, clock, row, block, clear, clock_line, row_line, clear_line}
+use Rattle.calls.specs.Calls.{Call, stream, clock, row, clear, clock_line, row_line, clear_line}
 use Rattle.stream_line.specs.Declaring.{names_after}
 use Rattle.ledger.specs.declared.Ledger.{Ledger}
 use Rattle.ledger.specs.Records.{Memory, with_ledger, with_names}
@@ -31,7 +30,7 @@ use Rattle.maltziru.specs.declared.GrantReply.{GrantReply}
 use Rattle.maltziru.specs.declared.CallerReply.{CallerReply}
 use Rattle.maltziru.specs.Calls.{said, caller_said}
 use Rattle.maltziru.specs.Lists as C
-use Rattle.maltziru.specs.Lists.{OnRecord, grants_kept, Called, record_table, table_of, record_refused, refused_left, single, no_block}
+use Rattle.maltziru.specs.Lists.{OnRecord, grants_kept, Called, record_table, table_of}
 use Rattle.maltziru.proofs.Said.{same_ledger, same_number}
 use Rattle.maltziru.proofs.Lists.{kept_after}
 
@@ -51,7 +50,6 @@ unfolding record_table clock_call clear_call clock_line_call clear_line_call
 record_said (C.stream_called c) = c.says ∙ ap said c.call.said
 record_said (C.clock_called {m} {t} {r} h) = same_number (clock_call m.ledger t) h ∙ ap said (entered_verdict _ _ _)
 record_said (C.row_called c) = c.says ∙ ap said c.call.said
-record_said (C.block_called c) = c.says ∙ ap said c.call.said
 record_said (C.clear_called {m} {r} h) = same_number (clear_call m.ledger) h ∙ ap said (entered_verdict _ _ _)
 record_said (C.clock_line_called {m} {bs} {r} h) = same_number (clock_line_call m.ledger bs) h ∙ ap said (entered_verdict _ _ _)
 record_said (C.row_line_called c) = c.says ∙ ap said c.call.said
@@ -104,14 +102,13 @@ same_grants (Refused f) gs g ne = refl
 other : {n m : ℕ} → n ≡ m → (n ≡ 0 → ⊥) → m ≡ 0 → ⊥
 other e ne h = ne (e ∙ h)
 
-record_stays : {c : Call} {m m' : Memory} {n : ℕ} → OnRecord c m m' n → (n ≡ 0 → ⊥) → m' ≡ record_refused c m
-unfolding record_refused clock_call clear_call clock_line_call clear_line_call
+record_stays : {c : Call} {m m' : Memory} {n : ℕ} → OnRecord c m m' n → (n ≡ 0 → ⊥) → m' ≡ m
+unfolding clock_call clear_call clock_line_call clear_line_call
 record_stays (C.stream_called {m} c) ne = ap (with_names m) (c.call.left ∙ same_names c.verdict _ _ (other c.says ne))
 record_stays (C.clock_called {m} {t} {r} h) ne =
     let e = clock_call m.ledger t in
     ap (with_ledger m) (sym (same_ledger e h) ∙ same_entered _ _ _ (other (same_number e h ∙ ap said (entered_verdict _ _ _)) ne))
 record_stays (C.row_called c) ne = c.call.left ∙ same_memory c.verdict _ _ (other c.says ne)
-record_stays (C.block_called c) ne = c.call.left
 record_stays (C.clear_called {m} {r} h) ne =
     let e = clear_call m.ledger in
     ap (with_ledger m) (sym (same_ledger e h) ∙ same_entered _ _ _ (other (same_number e h ∙ ap said (entered_verdict _ _ _)) ne))
@@ -123,8 +120,8 @@ record_stays (C.clear_line_called {m} {bs} {r} h) ne =
     let e = clear_line_call m.ledger bs in
     ap (with_ledger m) (sym (same_ledger e h) ∙ same_entered _ _ _ (other (same_number e h ∙ ap said (entered_verdict _ _ _)) ne))
 
-pub refused_stays : {e : Event} {s t : Store} {n : ℕ} → Called e s t n → (n ≡ 0 → ⊥) → t ≡ refused_left e s
-unfolding refused_left with_memory with_grants with_caller identified caller_said
+pub refused_stays : {e : Event} {s t : Store} {n : ℕ} → Called e s t n → (n ≡ 0 → ⊥) → t ≡ s
+unfolding with_memory with_grants with_caller identified caller_said
 refused_stays (C.record_called {s} c) ne = ap (with_memory s) (record_stays c ne)
 refused_stays (C.grant_called {s} {bs} {ws} {r} c) ne =
     let v = c.granted.verdict in
@@ -137,25 +134,6 @@ refused_stays (C.caller_called {s} {bs} {r} h) ne =
 refused_stays (C.ask_called gs ws w bs cells h) ne = refl
 refused_stays (C.line_called gs ws w n bs out h) ne = refl
 
--- but for a block that is what was there
-single_stays : (c : Call) (m : Memory) → T (single c) → record_refused c m ≡ m
-unfolding single record_refused
-single_stays (stream bs) m t = refl
-single_stays (clock n) m t = refl
-single_stays (row i vs) m t = refl
-single_stays (block i vs) m t = absurd t
-single_stays clear m t = refl
-single_stays (clock_line bs) m t = refl
-single_stays (row_line bs) m t = refl
-single_stays (clear_line bs) m t = refl
-
-pub no_block_stays : (e : Event) (s : Store) → T (no_block e) → refused_left e s ≡ s
-unfolding no_block refused_left with_memory
-no_block_stays (call c) s t = ap (with_memory s) (single_stays c s.memory t)
-no_block_stays (grant bs) s t = refl
-no_block_stays (caller bs) s t = refl
-no_block_stays query s t = refl
-
 -- ---- the order of the tables
 
 record_ordered : (c : Call) (m : Memory) → Ordered (record_table c m)
@@ -163,7 +141,6 @@ unfolding record_table
 record_ordered (stream bs) m = O.declare_ordered m.names bs
 record_ordered (clock t) m = O.clock_ordered m.ledger t
 record_ordered (row i vs) m = O.row_ordered m i vs
-record_ordered (block i vs) m = O.block_ordered m i vs
 record_ordered clear m = O.clear_ordered m.ledger
 record_ordered (clock_line bs) m = O.clock_line_ordered m.ledger bs
 record_ordered (row_line bs) m = O.row_line_ordered m bs

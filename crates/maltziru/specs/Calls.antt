@@ -7,7 +7,7 @@ use Rattle.syntax.specs.Grammar.{Bytes}
 use Rattle.stream_line.specs.Declaring.{Declares}
 use Rattle.ledger.specs.declared.Entered.{Entered}
 use Rattle.ledger.specs.Records.{Memory}
-use Rattle.ledger.specs.Calls.{RowCall, BlockCall}
+use Rattle.ledger.specs.Calls.{RowCall}
 use Rattle.record_lines.specs.Calls.{RowLineCall}
 use Rattle.caller.specs.declared.Identified.{Identified}
 use Rattle.grant_line.specs.declared.Granted.{Granted}
@@ -33,15 +33,10 @@ pub record StreamCall (names : List ℕ) (line : Bytes) (names' : List ℕ) (ref
   pub call : Declares names line names' verdict
   pub says : refusal ≡ said verdict
 
--- the row call, the block call, and the row line
+-- the row call, and the row line
 pub record RowCalled (m : Memory) (stream : ℕ) (row : List ℤ) (m' : Memory) (refusal : ℕ) : Type 0 where
   pub verdict : Verdict
   pub call : RowCall m stream row m' verdict
-  pub says : refusal ≡ said verdict
-
-pub record BlockCalled (m : Memory) (stream : ℕ) (rows : List ℤ) (m' : Memory) (kept refusal : ℕ) : Type 0 where
-  pub verdict : Verdict
-  pub call : BlockCall m stream rows m' kept verdict
   pub says : refusal ≡ said verdict
 
 pub record RowLineCalled (m : Memory) (line : Bytes) (m' : Memory) (refusal : ℕ) : Type 0 where

@@ -1,14 +1,14 @@
 -- Lists of calls of the library, as a C program makes them: each gets what the last one returned or left.
-use Rattle.std.specs.Prelude.{◌≡◌, List, [], ◌∷◌, ◌++◌, Bool, true, false, cond, ℕ, ℤ, eqb, length}
+use Rattle.std.specs.Prelude.{◌≡◌, List, [], ◌∷◌, ◌++◌, cond, ℕ, ℤ, eqb, length}
 use Rattle.refusal.specs.Checks.{Check}
 use Rattle.syntax.specs.Grammar.{Bytes}
 use Rattle.syntax.specs.Readers.{parse_query}
 use Rattle.calls.specs.Asking.{with_route}
-use Rattle.calls.specs.Calls.{Call, stream, clock, row, block, clear, clock_line, row_line, clear_line, caller_table}
+use Rattle.calls.specs.Calls.{Call, stream, clock, row, clear, clock_line, row_line, clear_line, caller_table}
 use Rattle.calls.specs.Events.{Event, call, grant, caller, query}
 use Rattle.ledger.specs.Records.{Memory, with_ledger, with_names}
 use Rattle.stream_line.specs.Declaring.{declare_table}
-use Rattle.ledger.specs.Calls.{clock_table, clock_call, row_table, block_run, block_table, clear_table, clear_call}
+use Rattle.ledger.specs.Calls.{clock_table, clock_call, row_table, clear_table, clear_call}
 use Rattle.record_lines.specs.Calls.{clock_line_table, clock_line_call, row_line_table, clear_line_table, clear_line_call}
 use Rattle.caller.specs.declared.Caller.{Caller}
 use Rattle.caller.specs.Lines.{identified}
@@ -23,14 +23,13 @@ use Rattle.demands.specs.Lending.{lending}
 use Rattle.maltziru.specs.declared.LedgerReply.{LedgerReply}
 use Rattle.maltziru.specs.declared.GrantReply.{GrantReply}
 use Rattle.maltziru.specs.declared.CallerReply.{CallerReply}
-use Rattle.maltziru.specs.Calls.{ledger_said, caller_said, StreamCall, RowCalled, BlockCalled, RowLineCalled, GrantCall}
+use Rattle.maltziru.specs.Calls.{ledger_said, caller_said, StreamCall, RowCalled, RowLineCalled, GrantCall}
 
 -- One call on the record by its contract: the memory before it and after it, and the refusal that was returned, or 0.
 pub data OnRecord : Call → Memory → Memory → ℕ → Type 0 where
   stream_called : {m : Memory} {bs : Bytes} {ns : List ℕ} {n : ℕ} → StreamCall m.names bs ns n → OnRecord (stream bs) m (with_names m ns) n
   clock_called : {m : Memory} {t : ℤ} {r : LedgerReply} → r ≡ ledger_said (clock_call m.ledger t) → OnRecord (clock t) m (with_ledger m r.ledger) r.refusal
   row_called : {m m' : Memory} {i : ℕ} {vs : List ℤ} {n : ℕ} → RowCalled m i vs m' n → OnRecord (row i vs) m m' n
-  block_called : {m m' : Memory} {i : ℕ} {vs : List ℤ} {kept n : ℕ} → BlockCalled m i vs m' kept n → OnRecord (block i vs) m m' n
   clear_called : {m : Memory} {r : LedgerReply} → r ≡ ledger_said (clear_call m.ledger) → OnRecord clear m (with_ledger m r.ledger) r.refusal
   clock_line_called : {m : Memory} {bs : Bytes} {r : LedgerReply} → r ≡ ledger_said (clock_line_call m.ledger bs) → OnRecord (clock_line bs) m (with_ledger m r.ledger) r.refusal
   row_line_called : {m m' : Memory} {bs : Bytes} {n : ℕ} → RowLineCalled m bs m' n → OnRecord (row_line bs) m m' n
@@ -77,7 +76,6 @@ unfoldable pub record_table : Call → Memory → List Check
 record_table (stream bs) m = declare_table m.names bs
 record_table (clock t) m = clock_table m.ledger t
 record_table (row i vs) m = row_table m i vs
-record_table (block i vs) m = block_table m i vs
 record_table clear m = clear_table m.ledger
 record_table (clock_line bs) m = clock_line_table m.ledger bs
 record_table (row_line bs) m = row_line_table m bs
@@ -88,50 +86,3 @@ table_of (call c) s = record_table c s.memory
 table_of (grant bs) s = grant_table s.memory.names (catalogue_of s.memory.names s.grants s.words) s.words bs
 table_of (caller bs) s = caller_table bs
 table_of query s = []
-
--- ---- what a refused call leaves: all as it was, but of a block the rows that were kept
-
-unfoldable pub record_refused : Call → Memory → Memory
-record_refused (stream bs) m = m
-record_refused (clock t) m = m
-record_refused (row i vs) m = m
-record_refused (block i vs) m = (block_run m i vs).left
-record_refused clear m = m
-record_refused (clock_line bs) m = m
-record_refused (row_line bs) m = m
-record_refused (clear_line bs) m = m
-
-unfoldable pub refused_left : Event → Store → Store
-refused_left (call c) s = with_memory s (record_refused c s.memory)
-refused_left (grant bs) s = s
-refused_left (caller bs) s = s
-refused_left query s = s
-
--- every call but a block
-unfoldable pub single : Call → Bool
-single (stream bs) = true
-single (clock t) = true
-single (row i vs) = true
-single (block i vs) = false
-single clear = true
-single (clock_line bs) = true
-single (row_line bs) = true
-single (clear_line bs) = true
-
-unfoldable pub no_block : Event → Bool
-no_block (call c) = single c
-no_block (grant bs) = true
-no_block (caller bs) = true
-no_block query = true
-
--- ---- a block by row calls
-
--- row calls that returned 0, each on what the last one left
-pub data RowsCalled (i : ℕ) : Memory → List (List ℤ) → Memory → Type 0 where
-  no_row : {m : Memory} → RowsCalled i m [] m
-  row_more : {m n u : Memory} {row : List ℤ} {rows : List (List ℤ)} → RowCalled m i row n 0 → RowsCalled i n rows u → RowsCalled i m (row ∷ rows) u
-
--- what is said of the rows after them: 0 where there is none; else the refusal that the row call says of the first of them, which leaves the memory
-pub data NextRow (i : ℕ) (m : Memory) : List (List ℤ) → ℕ → Type 0 where
-  no_next : NextRow i m [] 0
-  next_row : {row : List ℤ} {rows : List (List ℤ)} {n : ℕ} → (n ≡ 0 → ⊥) → RowCalled m i row m n → NextRow i m (row ∷ rows) n

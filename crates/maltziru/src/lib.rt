@@ -10,13 +10,13 @@ ghost use Rattle.syntax.specs.Readers.{parse_query};
 ghost use Rattle.calls.specs.Asking.{with_route};
 ghost use Rattle.ask.specs.Replies.{Replies};
 ghost use Rattle.ask.specs.Asking.{asked, LineReplies};
-ghost use Rattle.maltziru.specs.Calls.{said, ledger_said, caller_said, StreamCall, RowCalled, BlockCalled, RowLineCalled, GrantCall};
+ghost use Rattle.maltziru.specs.Calls.{said, ledger_said, caller_said, StreamCall, RowCalled, RowLineCalled, GrantCall};
 
 use ask::Reply;
 use caller::{Caller, Identified};
 use grant::Grant;
 use grant_line::Granted;
-use ledger::{Block, Entered, Ledger};
+use ledger::{Entered, Ledger};
 use refusal::Verdict;
 
 // What a call on the record says, and the ledger that it leaves.
@@ -24,15 +24,6 @@ use refusal::Verdict;
 #[derive(Drop)]
 pub struct LedgerReply {
     pub refusal: u32,
-    pub ledger: Ledger,
-}
-
-// What a block says, how many of its rows were kept, and the ledger that it leaves.
-#[repr(C)]
-#[derive(Drop)]
-pub struct BlockReply {
-    pub refusal: u32,
-    pub kept: u32,
     pub ledger: Ledger,
 }
 
@@ -121,7 +112,7 @@ pub extern "C" fn maltziru_row(
     ledger: Ledger,
     names: &[u64],
     stream: usize,
-    row: &[i64],
+    row: &[i32],
     times: &mut [u32],
     values: &mut [i32],
 ) -> LedgerReply
@@ -129,29 +120,6 @@ pub extern "C" fn maltziru_row(
 {
     let e = ledger.row(names, stream, row, times, values);
     ledger_reply(e)
-}
-
-// The block call: the values of rows of the stream of a number, as many for each as it has columns. Returns how many rows were kept, the refusal that the row call says of the first that is refused, or 0,
-// and the ledger with the kept rows. Leaves these rows as row calls do, and all else as it was.
-#[unsafe(no_mangle)]
-pub extern "C" fn maltziru_block(
-    ledger: Ledger,
-    names: &[u64],
-    stream: usize,
-    rows: &[i64],
-    times: &mut [u32],
-    values: &mut [i32],
-) -> BlockReply
-    ensures { BlockCalled (record { ledger = ledger; names = names.now; times = times.old; values = values.old }) stream rows.now (record { ledger = result.ledger; names = names.now; times = times.new; values = values.new }) result.kept result.refusal }
-{
-    let b = ledger.block(names, stream, rows, times, values);
-    let l = b.ledger;
-    let v = b.verdict;
-    BlockReply {
-        refusal: number(v),
-        kept: b.kept,
-        ledger: l,
-    }
 }
 
 // The clear call. Returns the ledger with no rows and its clock; refused, the ledger as it was.

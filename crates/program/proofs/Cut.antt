@@ -22,7 +22,7 @@ use Rattle.model.specs.Queries.{Record}
 use Rattle.calls.specs.Validity.{valid_record, valid_schema, valid_catalogue, valid_caller}
 use Rattle.calls.specs.Replies.{written}
 use Rattle.calls.specs.Tables.{stream_checks, clock_checks, row_line_checks, grant_checks, caller_checks, query_checks}
-use Rattle.calls.specs.Calls.{lent_first, call_table, grant_table, caller_table}
+use Rattle.calls.specs.Calls.{call_checks, call_table, grant_table, caller_table}
 use Rattle.calls.specs.Events.{Fixture, new_fixture}
 use Rattle.calls.specs.Asking.{lent_valid, answer_checks, ask_table, line_checks, line_table}
 use Rattle.calls.specs.Scripts.{refusal, Step, act, on_record, step, run_from, script}
@@ -58,7 +58,7 @@ module _ (zs : List ℤ) (ys : Bytes) (f : Fixture) (sound : Sound f) where
         rw (T_true (valid_schema x.schema) schema_kept) e
 
     long_first : (v : Option Verb) → first (step_table zs ys f bs v) ≡ some Bound
-    unfolding act_table act on_record call_table lent_first caller_table ask_table line_table
+    unfolding act_table act on_record call_table call_checks caller_table ask_table line_table
     long_first none = first_long {A = Unit {0}} 0 bs none (λ u. []) h
     long_first (some G.stream) = behind (valid_record x) sound.kept 0 bs (parse_as G.stream bs) (stream_checks x.schema) h
     long_first (some G.grant) = grant_long

@@ -3,11 +3,11 @@ use mathlib.Core.Path.{◌≡◌, refl, sym, ap, ap₂, ◌∙◌}
 use mathlib.Core.List.{List, [], ◌∷◌, map}
 use mathlib.Core.Bool.{Bool, true, false, not, cond}
 use mathlib.Core.Option.{Option, none, some}
-use Prim.Native.Nat.{ℕ, zero, suc, ◌-◌, min}
+use Prim.Native.Nat.{ℕ, ◌-◌, min}
 use native.Mathlib.Omega.{arith}
 use lib.IntN.{ℤ, pos}
 use lib.Dec.{T, leb, ltb, eqb}
-use lib.ListN.{length, take, drop, get_or}
+use lib.ListN.{length, take, drop}
 use borrow.Author.Tests.{ltb-true, ltb-false, ne_eqb}
 use Rattle.refusal.specs.Numbers.{verdict_of}
 use Rattle.refusal.specs.Checks.{refuse, first, table, no_fault}
@@ -16,9 +16,8 @@ use Rattle.refusal.specs.declared.Refusal.TheVariants.{Lent, Malformed, Bound, U
 use Rattle.refusal.specs.declared.Verdict.{Verdict}
 use Rattle.refusal.specs.declared.Verdict.TheVariants.{Accepted, Refused}
 use Rattle.refusal.proofs.Verdicts.{not_accepted}
-use Rattle.lists.specs.Lists.{every, count_from}
-use Rattle.lists.proofs.Laws.{parts, and_both, true_T, T_true}
-use Rattle.lists.proofs.Counting.{every_map}
+use Rattle.lists.specs.Lists.{every}
+use Rattle.lists.proofs.Laws.{parts, true_T, T_true}
 use Rattle.syntax.specs.Grammar as G
 use Rattle.syntax.specs.Grammar.{Bytes, name?, body?}
 use Rattle.syntax.specs.Limits.{max_line, max_columns, is_value, short}
@@ -31,13 +30,12 @@ use Rattle.calls.specs.Replies.{written}
 use Rattle.calls.specs.Tables.{row_line_checks}
 use Rattle.text.specs.Words.{name_of, value_kept}
 use Rattle.text.proofs.Codes.{name_back}
-use Rattle.text.proofs.Values.{value_at}
-use Rattle.items.specs.Items.{code_short, first_of}
+use Rattle.items.specs.Items.{code_short}
 use Rattle.items.proofs.NameCodes.{code_named, first_taken}
 use Rattle.schema.specs.Schemas.{streams_in, width_in, schema_of}
 use Rattle.schema.proofs.Soundness.{width_most}
 use Rattle.ledger.specs.Records.{Memory, record_of, memory_sound}
-use Rattle.ledger.specs.Calls.{lent_shown, row_shown, row_table, with_row, memory_after, Enters}
+use Rattle.ledger.specs.Calls.{row_shown, row_table, with_row, memory_after, Enters}
 use Rattle.ledger.proofs.Told.{row_told}
 use Rattle.record_lines.specs.Lines.{unread_row, row_of, row_line}
 use Rattle.record_lines.specs.declared.RowLine.{RowLine}
@@ -53,7 +51,7 @@ abbrev listed : RowLine → List ℤ
 listed w = take (min w.count max_columns) w.values
 
 abbrev shows : Memory → RowLine → Verdict
-shows m w = verdict_of (first (table (row_shown m.ledger m.names (stream_of m w) (listed w) (lent_shown m w.checks))))
+shows m w = verdict_of (first (table (row_shown m (stream_of m w) (length (listed w)) w.checks)))
 
 abbrev says : Memory → Bytes → Option G.RowLine → Verdict
 says m bs o = verdict_of (first (refuse Lent (not (memory_sound m)) ∷ written 0 bs o (row_line_checks (record_of m))))
@@ -75,7 +73,7 @@ refused_both : (m : Memory) (bs : Bytes) (o : Option G.RowLine) (w : RowLine) (r
 refused_both m bs o w r e d = record { said = e ∙ sym d; left = λ a. never (memory_sound m) r (sym e ∙ a) }
 
 unread_shown : (m : Memory) (b : Bool) → shows m (unread_row b) ≡ refusing m (cond b Bound Malformed)
-unfolding row_shown lent_shown table first refuse unread_row
+unfolding row_shown table first refuse unread_row
 unread_shown m true = refl
 unread_shown m false = refl
 
@@ -84,12 +82,6 @@ two a true = refl
 two a false = refl
 
 -- ---- a line that was read
-
-every_take : {A : Type 0} (p : A → Bool) (n : ℕ) (xs : List A) → T (every p xs) → T (every p (take n xs))
-unfolding every
-every_take p zero xs t = tt
-every_take p (suc n) [] t = tt
-every_take p (suc n) (x ∷ xs) t = and_both (p x) (every p (take n xs)) (search parts) (every_take p n xs (search parts))
 
 values_kept : (vs : List ℤ) → T (every is_value vs) → map value_kept vs ≡ vs
 unfolding value_kept every
@@ -106,7 +98,7 @@ module _ (m : Memory) (bs : Bytes) (short_line : ltb max_line (length bs) ≡ fa
 
   -- a name too long, or a value beyond its range
   over_bound : row_bounded w ≡ false → RowSame m bs (some w) x
-  unfolding row_of row_shown lent_shown row_line_checks table first refuse
+  unfolding row_of row_shown row_line_checks table first refuse
   over_bound e = refused_both m bs (some w) x Bound (rw e) (said_read ∙ rw e)
 
   module _ (e : row_bounded w ≡ true) where
@@ -130,26 +122,18 @@ module _ (m : Memory) (bs : Bytes) (short_line : ltb max_line (length bs) ≡ fa
     said_bounded = said_read ∙ rw e
 
     -- the same by what the code shows of a row call
-    said_plain : says m bs (some w) ≡ verdict_of (first (table (row_shown m.ledger m.names (stream_number (schema_of m.names) w.name) w.values (lent_shown m no_fault))))
-    said_plain = said_bounded ∙ sym (row_told m (stream_number (schema_of m.names) w.name) w.values)
-
-    -- what is kept of the values are values
-    kept_values : every is_value (listed x) ≡ true
-    unfolding row_of first_of
-    kept_values =
-        rw (values_kept w.values within.1)
-        (T_true (every is_value (take (min (min (length w.values) 7) 6) (map (λ i. get_or w.values i (pos 0)) (count_from 0 6))))
-        (every_take is_value (min (min (length w.values) 7) 6) (map (λ i. get_or w.values i (pos 0)) (count_from 0 6)) (every_map is_value (λ i. get_or w.values i (pos 0)) 0 6 (λ i a b. value_at w.values i within.1))))
+    said_plain : says m bs (some w) ≡ verdict_of (first (table (row_shown m (stream_number (schema_of m.names) w.name) (length w.values) no_fault)))
+    said_plain = said_bounded ∙ sym (row_told m (stream_number (schema_of m.names) w.name) w.values within.1)
 
     -- more values than any stream has columns
     over_columns : ltb max_columns (length w.values) ≡ true → RowSame m bs (some w) x
-    unfolding row_of row_shown lent_shown table first refuse
+    unfolding row_of row_shown table first refuse
     over_columns h =
         let f : eqb (length w.values) (width_in m.names (stream_number (schema_of m.names) w.name)) ≡ false =
         ne_eqb (length w.values) _ (λ z. let k = ltb-true max_columns (length w.values) h in let l = width_most m.names (stream_number (schema_of m.names) w.name) in omega arith) in
         refused_both m bs (some w) x (cond (leb (streams_in m.names) (stream_number (schema_of m.names) w.name)) Undeclared Misplaced)
-        (rw (e, h, named, kept_values) (two (memory_sound m) (leb (streams_in m.names) (stream_number (schema_of m.names) w.name))))
-        (said_plain ∙ rw (T_true (every is_value w.values) within.1, f) (two (memory_sound m) (leb (streams_in m.names) (stream_number (schema_of m.names) w.name))))
+        (rw (e, h, named) (two (memory_sound m) (leb (streams_in m.names) (stream_number (schema_of m.names) w.name))))
+        (said_plain ∙ rw f (two (memory_sound m) (leb (streams_in m.names) (stream_number (schema_of m.names) w.name))))
 
     -- as many as may be
     module _ (h : ltb max_columns (length w.values) ≡ false) where
@@ -166,8 +150,7 @@ module _ (m : Memory) (bs : Bytes) (short_line : ltb max_line (length bs) ≡ fa
 
       read_whole : RowSame m bs (some w) x
       read_whole = record {
-        said = ap₂ (λ s vs. verdict_of (first (table (row_shown m.ledger m.names s vs (lent_shown m x.checks))))) same_stream all_listed
-            ∙ ap (λ c. verdict_of (first (table (row_shown m.ledger m.names (stream_number (schema_of m.names) w.name) w.values (lent_shown m c))))) plain_checks ∙ sym said_plain;
+        said = ap₂ (λ s vs. verdict_of (first (table (row_shown m s (length vs) x.checks)))) same_stream all_listed ∙ ap (λ c. verdict_of (first (table (row_shown m (stream_number (schema_of m.names) w.name) (length w.values) c)))) plain_checks ∙ sym said_plain;
         left = λ a. unfold with_row_line in ap₂ (with_row m) same_stream all_listed;
       }
 
@@ -189,12 +172,12 @@ unfolding memory_after
 after_same Accepted m a b e = e refl
 after_same (Refused f) m a b e = refl
 
-pub row_lined : {m m' : Memory} (bs : Bytes) {w : RowLine} {n s : ℕ} {vs : List ℤ} {v : Verdict} → w ≡ row_line bs → s ≡ stream_number (schema_of m.names) (name_of w.name) → n ≡ min w.count max_columns
-    → vs ≡ w.values → Enters m s (take (n - 0) (drop 0 vs)) (lent_shown m w.checks) m' v → RowLineCall m bs m' v
+pub row_lined : {m m' : Memory} (bs : Bytes) {w : RowLine} {n s : ℕ} {v : Verdict} → w ≡ row_line bs → s ≡ stream_number (schema_of m.names) (name_of w.name) → n ≡ min w.count max_columns
+    → Enters m s (take (n - 0) (drop 0 w.values)) w.checks m' v → RowLineCall m bs m' v
 unfolding row_line row_line_table
-row_lined {m} {m'} bs {w} {n} {s} {vs} {v} e f g i d =
+row_lined {m} {m'} bs {w} {n} {s} {v} e f g d =
     let k : n - 0 ≡ min w.count max_columns = omega arith in
-    let h : Enters m (stream_of m w) (listed w) (lent_shown m w.checks) m' v = rw (← f, ← k, ← i) d in
+    let h : Enters m (stream_of m w) (listed w) w.checks m' v = rw (← f, ← k) d in
     let r = row_same m bs (ltb max_line (length bs)) refl (parse_as G.row bs) refl in
     let q : RowSame m bs (parse_as G.row bs) w = rw e r in
     record { said = h.said ∙ q.said; left = h.left ∙ after_same v m _ _ (λ a. q.left (sym h.said ∙ a)) }

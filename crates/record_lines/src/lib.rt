@@ -167,19 +167,6 @@ fn kept(count: u32) -> usize
     Names::MOST
 }
 
-// Values as numbers of 64 bits, as the row call takes them.
-fn wide(values: [i32; Names::MOST]) -> [i64; Names::MOST]
-    ensures { result ≡ values }
-{
-    let mut numbers = [0; Names::MOST];
-    let mut i: usize = 0;
-    while i < Names::MOST {
-        numbers[i] = values[i] as i64;
-        i += 1;
-    }
-    numbers
-}
-
 // The row line. Returns the verdict, and the ledger with one row more. Leaves the row in its place, and all else as it was; refused, the ledger and all places as they were.
 pub fn row_line(
     l: Ledger,
@@ -194,7 +181,6 @@ pub fn row_line(
     let checks = w.checks;
     let s = schema::stream_number(names, w.name);
     let n = kept(w.count);
-    let listed = w.values;
-    let vs = wide(listed);
+    let vs = w.values;
     l.row_with(names, s, &vs[0..n], times, values, checks)
 }

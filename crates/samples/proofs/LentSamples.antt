@@ -11,7 +11,7 @@ use Rattle.refusal.specs.Checks.{first}
 use Rattle.syntax.specs.Grammar.{Bytes, bytes, eq, read, figures, sum, Right, Cond, test, all, neg, more, last, Entry}
 use Rattle.model.specs.Queries.{Stream, Schema, Col, col, figure, Term, column, time, number, self, Compare, Grant, Caller, Row, Record}
 use Rattle.calls.specs.Replies.{Reply, refused, filled}
-use Rattle.calls.specs.Calls.{Call, stream, clock, row, block, clear, clock_line, row_line, clear_line, call_table, grant_table}
+use Rattle.calls.specs.Calls.{Call, stream, clock, row, clear, clock_line, row_line, clear_line, call_table, grant_table}
 use Rattle.calls.specs.Asking.{ask, line}
 use Rattle.calls.specs.Scripts.{scripts_compute}
 
@@ -135,7 +135,7 @@ records_refused = refl
 -- every call on the record tries it first, before its text too
 abbrev refused_calls : List Call
 refused_calls =
-    stream (bytes "(stream c x)") ∷ clock (pos 9) ∷ clock (negsuc 0) ∷ row 1 (pos 1 ∷ []) ∷ row 9 [] ∷ block 1 (pos 1 ∷ []) ∷ block 9 (pos 2147483648 ∷ []) ∷ clear ∷ clock_line (bytes "(clock 9)") ∷ clock_line (bytes "(clock") ∷ row_line (bytes "(row b 1)") ∷ clear_line (bytes "(clear)")
+    stream (bytes "(stream c x)") ∷ clock (pos 9) ∷ clock (negsuc 0) ∷ row 1 (pos 1 ∷ []) ∷ row 9 [] ∷ clear ∷ clock_line (bytes "(clock 9)") ∷ clock_line (bytes "(clock") ∷ row_line (bytes "(row b 1)") ∷ clear_line (bytes "(clear)")
     ∷ clear_line (replicate 513 40) ∷ []
 
 pub calls_refused : map (λ c. first (call_table (right_rows (at 6 (pos 1 ∷ []) ∷ [])) c)) refused_calls ≡ map (λ c. some Lent) refused_calls

@@ -11,4 +11,3 @@ pub mod OrderSamples
 pub mod NestedSamples
 pub mod LentSamples
 pub mod CallSamples
-pub mod BlockSamples

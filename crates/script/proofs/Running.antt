@@ -21,7 +21,7 @@ use Rattle.syntax.specs.Grammar.{Bytes, Form, RouteLine}
 use Rattle.syntax.specs.Limits.{max_line, max_routes}
 use Rattle.syntax.specs.Readers.{parse_as, verb_of}
 use Rattle.model.specs.Queries as M
-use Rattle.calls.specs.Validity.{valid_schema, valid_catalogue}
+use Rattle.calls.specs.Validity.{valid_record, valid_schema, valid_catalogue}
 use Rattle.calls.specs.Replies as C
 use Rattle.calls.specs.Replies.{written, reply, lent_after}
 use Rattle.calls.specs.Tables.{query_checks}
@@ -143,14 +143,17 @@ module _ (s : Store) (ok : Sound s) (zs : List ℤ) (ys : Bytes) where
   abbrev f : Fixture
   f = fixture_of s
 
+  valid_kept : T (valid_record (record_of s.memory))
+  valid_kept = ok.memory.valid
+
   may_lend : T (lent_sound (lending s))
   unfolding lent_sound
   may_lend = and_both (memory_sound s.memory && catalogue_sound s.memory.names s.grants s.words) (caller_sound s.caller) (and_both (memory_sound s.memory) _ ok.memory.lent ok.grants) (true_T (caller_sound s.caller) ok.caller)
 
   call_said : (c : Call) {t : States.State} (p : Promise c s.memory t) → prints (verdict_said (verdict_in p)) zs ys ≡ (perform f (on_record f c)).outcome
-  unfolding perform on_record fixture_of
+  unfolding perform on_record call_table fixture_of
   call_said c p =
-      ap (λ (v : Verdict). prints (verdict_said v) zs ys) (step_call p ok.memory).said
+      ap (λ (v : Verdict). prints (verdict_said v) zs ys) ((step_call p ok.memory).said ∙ ap verdict_of (sym (first_skip Lent (valid_record (record_of s.memory)) _ valid_kept)))
       ∙ changed_said f _ (first (call_table (record_of s.memory) c)) zs ys
 
   grant_said : (bs : Bytes) {ws : List ℕ} {r : Granted} → Grants s.memory.names (length s.grants) bs s.words ws r → prints (verdict_said r.verdict) zs ys ≡ (perform f (act zs ys f bs (some G.grant))).outcome

@@ -1,14 +1,12 @@
 -- Values of 32 bits.
-use mathlib.Core.Path.{◌≡◌}
 use mathlib.Core.List.{List, [], ◌∷◌}
 use Prim.Native.Nat.{ℕ, zero, suc, ◌<◌}
 use native.Mathlib.Omega.{arith}
 use lib.IntN.{ℤ, pos, negsuc}
-use lib.Dec.{T, le→leb, leb→le}
+use lib.Dec.{T, le→leb}
 use lib.ListN.{length, get_or}
-use mir.Syntax.{w32, w64}
-use mir.Val.{SFits, to_z, of_z}
-use mir.ValLaws.{to_z-of_z}
+use mir.Syntax.{w32}
+use mir.Val.{SFits}
 use Rattle.lists.specs.Lists.{every}
 use Rattle.lists.proofs.Laws.{and_l, and_r, and_both}
 use Rattle.syntax.specs.Limits.{is_value}
@@ -17,26 +15,6 @@ pub fits_value : (z : ℤ) → SFits w32 z → T (is_value z)
 unfolding is_value
 fits_value (pos n) h = le→leb n 2147483647 (let k = h.sfits in omega arith)
 fits_value (negsuc n) h = le→leb n 2147483647 (let k = h.sfits in omega arith)
-
--- and so of 64
-pub fits_wide : (z : ℤ) → SFits w32 z → SFits w64 z
-fits_wide z h = let k = h.sfits in record { sfits = omega arith }
-
-pub wide_same : (z : ℤ) → SFits w32 z → to_z w64 (of_z w64 (to_z w32 (of_z w32 z))) ≡ z
-wide_same z h = rw (to_z-of_z w32 z h) (to_z-of_z w64 z (fits_wide z h))
-
--- a value's number has 32 bits
-pub value_fits : (z : ℤ) → T (is_value z) → SFits w32 z
-unfolding is_value
-value_fits (pos n) t = let k = leb→le n 2147483647 t in record { sfits = omega arith }
-value_fits (negsuc n) t = let k = leb→le n 2147483647 t in record { sfits = omega arith }
-
--- read from 64 bits and written into 32
-pub narrow_fits : (z : ℤ) → SFits w64 z → T (is_value z) → SFits w32 (to_z w64 (of_z w64 z))
-narrow_fits z h t = rw (to_z-of_z w64 z h) (value_fits z t)
-
-pub narrow_same : (z : ℤ) → SFits w64 z → T (is_value z) → to_z w32 (of_z w32 (to_z w64 (of_z w64 z))) ≡ z
-narrow_same z h t = rw (to_z-of_z w64 z h) (to_z-of_z w32 z (value_fits z t))
 
 pub every_below : (vs : List ℤ) → ((k : ℕ) → k < length vs → T (is_value (get_or vs k (pos 0)))) → T (every is_value vs)
 unfolding every

@@ -2,20 +2,16 @@
 
 pub mod answering;
 pub mod checks;
-pub mod comparing;
-pub mod desk;
 pub mod forms;
 pub mod lent;
 pub mod limits;
 pub mod making;
 pub mod meaning;
-pub mod numbered;
 pub mod printing;
 pub mod random;
 pub mod rewriting;
 pub mod routes;
 pub mod script;
 pub mod state;
-pub mod tally;
 pub mod text;
 pub mod views;

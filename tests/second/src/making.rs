@@ -1,6 +1,5 @@
 //! Random lines of scripts: most fit the state they are made for, some are odd in one place, some are damaged.
 
-mod calls;
 mod conditions;
 mod edges;
 mod grants;
@@ -162,14 +161,10 @@ impl Maker {
             _ if at == self.opening() => self.caller(),
             _ => self.any(state),
         };
-        self.perhaps_damaged(text)
-    }
-
-    fn perhaps_damaged(&mut self, text: String) -> Vec<u8> {
-        match self.random.one_in(self.habits.damage) {
-            true => self.damaged(text.into_bytes()),
-            false => text.into_bytes(),
+        if self.random.one_in(self.habits.damage) {
+            return self.damaged(text.into_bytes());
         }
+        text.into_bytes()
     }
 
     fn any(&mut self, state: &State) -> String {

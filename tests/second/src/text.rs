@@ -295,11 +295,7 @@ pub fn name_of(word: &[u8]) -> Option<Name> {
 }
 
 fn number(tree: &Tree) -> Option<Number> {
-    number_of(tree.as_word()?)
-}
-
-/// A number of any length: its range is tried later.
-pub fn number_of(word: &[u8]) -> Option<Number> {
+    let word = tree.as_word()?;
     let (negative, digits) = match word.strip_prefix(b"-") {
         Some(digits) => (true, digits),
         None => (false, word),

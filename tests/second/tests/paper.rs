@@ -1,8 +1,7 @@
-//! The paper's own examples: cases A to K, and one example of each refusal; and blocks of rows.
+//! The paper's own examples: cases A to K, and one example of each refusal.
 
 use second::answering;
 use second::checks::Refusal;
-use second::desk;
 use second::forms::Query;
 use second::lent::{self, Ledger, NAMES, TIMES, VALUES, code_of};
 use second::script;
@@ -116,60 +115,6 @@ fn each_refusal_of_a_line_has_its_example() {
 fn the_129th_row_is_refused() {
     let record = "(stream t v)\n".to_string() + &"(row t 1)\n".repeat(128);
     assert_eq!(printed(&record, &["(row t 1)"]), ["refused 8"]);
-}
-
-/// What a call says at the desk after a script, and how a query of all rows is answered then.
-fn called(before: &str, call: &str) -> [String; 2] {
-    let open = "(grant r read (of t) (show *))\n(caller (roles r))\n";
-    let mut state = State::default();
-    for line in script::lines(format!("{before}{open}").as_bytes()) {
-        assert_eq!(desk::step(&mut state, line).printed(), [""; 0]);
-    }
-    [call.as_bytes(), b"(ask (in t))"].map(|line| desk::step(&mut state, line).printed().join("/"))
-}
-
-#[test]
-fn a_block_stops_at_the_first_refused_row() {
-    let one = "routes 1/route 1 0 3 1/5 1 2";
-    let none = "routes 1/route 1 0 3 0";
-    let examples = [
-        ("%block\tt\t1,2", "block 1 none", one),
-        ("%block\tt\t1,2;3,2147483648;5,6", "block 1 3", one),
-        ("%block\t0\t1,2;3", "block 1 4", one),
-        ("%block\t0\t1,2;-2147483649", "block 1 3", one),
-        ("%block\t1\t1,2;3,4", "block 0 2", none),
-        (
-            "%block\tnosuch\t1,2;3,9223372036854775807",
-            "block 0 3",
-            none,
-        ),
-        ("%block\t1\t", "block 0 none", none),
-        ("%row\tt\t1,-9223372036854775808", "refused 3", none),
-        ("%row\t0\t1,2,3", "refused 4", none),
-        ("%row\t0\t", "refused 4", none),
-        ("%clock\t4", "refused 7", none),
-        ("%clock\t2147483648", "refused 3", none),
-        ("%clock\t05", "refused 1", none),
-    ];
-    for (call, said, rows) in examples {
-        let heard = called("(stream t v w)\n(clock 5)\n", call);
-        assert_eq!(heard, [said, rows], "{call}");
-    }
-}
-
-#[test]
-fn a_block_fills_a_stream() {
-    let record = |rows| "(stream t v)\n".to_string() + &"(row t 1)\n".repeat(rows);
-    let examples = [
-        (126, "%block\tt\t1;2;3;2147483648", "block 2 8"),
-        (128, "%block\tt\t1", "block 0 8"),
-        (128, "%block\tt\t", "block 0 none"),
-    ];
-    for (rows, call, said) in examples {
-        let [heard, answer] = called(&record(rows), call);
-        assert_eq!(heard, said);
-        assert!(answer.starts_with("routes 1/route 1 0 2 128/"));
-    }
 }
 
 #[test]

@@ -5,10 +5,9 @@ use native.Mathlib.Omega.{arith}
 use lib.IntN.{pos}
 use lib.ListN.{length, get_or, length-set}
 use lib.Seq.{paste, paste-zero, paste-suc}
-use mir.Syntax.{w32, w64}
-use mir.Val.{SFits, to_z, of_z}
+use mir.Syntax.{w32}
+use mir.Val.{to_z, of_z}
 use borrow.Author.Rules.{rules}
-use Rattle.text.proofs.Values.{value_at, narrow_fits, narrow_same}
 use Rattle.ledger.proofs.put.Statement.{statement}
 use Rattle.ledger.proofs.put.Tie as tie
 
@@ -27,19 +26,11 @@ mul-values c = omega arith
 shared-slice-copy-out-values : tie.Need-shared-slice-copy-out-values invariant-loop decreases-loop
 shared-slice-copy-out-values c = omega arith
 
-wide : (c : tie.After-values invariant-loop decreases-loop) → SFits w64 (get_or c.before.before.before.args.vs.now c.before.before.loop.c (pos 0))
-wide c = search rules
+add-t9 : tie.Need-overflow-add-t9 invariant-loop decreases-loop
+add-t9 c = omega arith
 
-cast-values : tie.Need-overflow-cast-values invariant-loop decreases-loop
-cast-values c =
-    let b = c.before.before.before in
-    narrow_fits _ (wide c) (value_at b.args.vs.now c.before.before.loop.c b.requires.1)
-
-add-t10 : tie.Need-overflow-add-t10 invariant-loop decreases-loop
-add-t10 c = omega arith
-
-mul-t11 : tie.Need-overflow-mul-t11 invariant-loop decreases-loop
-mul-t11 c = omega arith
+mul-t10 : tie.Need-overflow-mul-t10 invariant-loop decreases-loop
+mul-t10 c = omega arith
 
 slice-set-from-values : tie.Need-slice-set-from-values invariant-loop decreases-loop
 slice-set-from-values c = omega arith
@@ -57,8 +48,7 @@ loop-again c =
     let d = a.values.now in
     let vs = a.vs.now in
     let x = get_or vs l.c (pos 0) in
-    let w : SFits w64 x = search rules in
-    let e : to_z w32 (of_z w32 (to_z w64 (of_z w64 x))) ≡ x = narrow_same x w (value_at vs l.c c.before.before.before.requires.1) in
+    let e : to_z w32 (of_z w32 x) ≡ x = search rules in
     let hd : a.at + l.c < length d = omega arith in
     let hs : l.c < length vs = omega arith in
     (omega arith, rw (e, l.invariant.1, paste-suc d a.at vs l.c (pos 0) hd hs, add-one), simp length-set (omega arith))
@@ -81,9 +71,8 @@ put_spec =
     loop-holds
     mul-values
     shared-slice-copy-out-values
-    cast-values
-    add-t10
-    mul-t11
+    add-t9
+    mul-t10
     slice-set-from-values
     add-c
     loop-less

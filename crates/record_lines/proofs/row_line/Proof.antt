@@ -7,7 +7,7 @@ use Rattle.record_lines.proofs.RowCalls.{row_lined}
 use Rattle.record_lines.proofs.row_line.Statement.{statement}
 use Rattle.record_lines.proofs.row_line.Tie as tie
 
-six : (c : tie.After-wide) → length c.wide.result ≡ max_columns
+six : (c : tie.After-read-row) → length c.read-row.result.values ≡ max_columns
 six c = search rules
 
 pub row-line-spec : {M : Type 1} → statement M
@@ -20,14 +20,12 @@ row-line-spec =
     (λ c κs. search rules)
     {- kept-requires -}
     (λ c κs. search rules)
-    {- wide-requires -}
-    (λ c κs. search rules)
     {- sub-row-with -}
     (λ c. search rules)
     {- part-row-with-start -}
     (λ c. search rules)
     {- part-row-with-end -}
-    (λ c. let h = six c.before in omega arith)
+    (λ c. let h = six c.before.before.before.before.before in omega arith)
     {- row-with-requires -}
     (λ c κs. search rules)
     {- same-length -}

@@ -10,7 +10,7 @@ same_length : tie.Need-same-length
 same_length c = search rules
 
 returns : tie.Need-returns
-returns c = rows_known c.before.before.before.before.before.before.before.before.requires c.before.before.if1.true c.kept_rows.ensures
+returns c = rows_known c.before.before.before.before.before.before.before.before.requires c.before.before.if1.true c.kept-rows.ensures
 
 left-requires : tie.Need-left-requires
 left-requires c κs = search rules

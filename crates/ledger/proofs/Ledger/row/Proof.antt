@@ -7,6 +7,8 @@ pub row-spec : {M : Type 1} → statement M
 row-spec =
     tie.close
     (tie.spec
+    {- known-requires -}
+    (λ c κs. search rules)
     {- new-requires -}
     (λ c κs. search rules)
     {- row-with-requires -}

@@ -11,17 +11,15 @@ pub row-checks-spec : {M : Type 1} → statement M
 row-checks-spec =
     tie.close
     (tie.spec
-    {- valued-requires -}
-    (λ c κs. search rules)
-    {- either-requires -}
+    {- sound-requires -}
     (λ c κs. search rules)
     {- streams-requires -}
     (λ c κs. search rules)
-    {- either-requires-2 -}
+    {- either-requires -}
     (λ c κs. search rules)
     {- width-requires -}
     (λ c κs. search rules)
-    {- either-requires-3 -}
+    {- either-requires-2 -}
     (λ c κs. search rules)
     {- count-requires -}
     (λ c κs. search rules)

@@ -20,7 +20,7 @@ mul-put c = omega (arith, count_le c.before.before.before.args.self c.before.bef
 
 put-requires : tie.Need-put-requires
 unfolding row_place
-put-requires c κs = (omega arith, c.before.before.before.requires.3)
+put-requires c κs = omega arith
 
 returns : tie.Need-returns
 unfolding row_place

@@ -17,7 +17,7 @@ pub fn damage(call: Call, lent: &mut Lent, random: &mut Random) {
     match call {
         Call::Stream => names(lent, random),
         Call::Clock(_) | Call::Clear | Call::ClockLine | Call::ClearLine => ledger(lent, random),
-        Call::Row(_) | Call::Block(_) | Call::RowLine => random.choose(record)(lent, random),
+        Call::Row(_) | Call::RowLine => random.choose(record)(lent, random),
         Call::Grant(_) => random.choose(&[names, words])(lent, random),
         Call::Caller => caller(lent, random),
         Call::Ask | Call::Line(_) => {

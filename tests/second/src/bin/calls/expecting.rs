@@ -5,7 +5,6 @@ use second::checks::{self, Refusal};
 use second::forms::{self, Condition, Line, Query};
 use second::lent::{self, Caller, GRANT_WORDS, Grant, Ledger, NO_TIME, RIGHTS, WORDS, code_of};
 use second::limits::{COLUMNS, GRANTS, ROWS, STREAMS};
-use second::numbered;
 use second::state::State;
 use second::text::{self, Written};
 use second::views;
@@ -26,7 +25,6 @@ pub fn expect(call: Call, lent: &mut Lent, stored: &Stored) -> Option<Outcome> {
         Call::Nobody => Some(Outcome::Caller(0, nobody())),
         Call::Stream => Some(Outcome::Plain(refusal_of(stream(lent)))),
         Call::Clock(_) | Call::Row(_) | Call::Clear => Some(recorded(lent, |l| record(call, l))),
-        Call::Block(number) => Some(block(place_of(number), lent)),
         Call::ClockLine | Call::RowLine | Call::ClearLine => {
             Some(recorded(lent, |lent| record_line(call, lent)))
         }
@@ -114,59 +112,25 @@ fn record_of(lent: &Lent) -> Result<State, Refusal> {
 
 fn record(call: Call, lent: &mut Lent) -> Result<Ledger, Refusal> {
     let (line, state) = match call {
-        Call::Row(number) => {
-            let state = record_of(lent)?;
-            let row = numbered::row_line(&state, place_of(number), lent.row.lent());
-            (row, state)
-        }
+        Call::Row(number) => numbered_row(number, lent)?,
         Call::Clock(time) => (Line::Clock(time.into()), clock_of(&lent.ledger)?),
         _ => (Line::Clear, clock_of(&lent.ledger)?),
     };
-    entered(line, &state, lent).map(|(_, ledger)| ledger)
-}
-
-/// A line that nobody wrote, if it is accepted, and the ledger after it.
-fn entered(line: Line, state: &State, lent: &mut Lent) -> Result<(Line, Ledger), Refusal> {
     let called = Written {
         form: line,
         depth: 0,
     };
-    checks::check(&called, state)?;
-    let ledger = effect(&called.form, state, lent);
-    Ok((called.form, ledger))
+    checks::check(&called, &state)?;
+    Ok(effect(&called.form, &state, lent))
 }
 
-fn place_of(number: u64) -> usize {
-    number.try_into().unwrap_or(usize::MAX)
-}
-
-fn block(stream: usize, lent: &mut Lent) -> Outcome {
-    let (given, values) = (lent.ledger, lent.row.lent().to_vec());
-    let mut kept = 0;
-    let refusal = refusal_of(enter_rows(stream, &values, lent, &mut kept));
-    let left = std::mem::replace(&mut lent.ledger, given);
-    Outcome::Block(refusal, kept, left)
-}
-
-/// Row calls one after the other, each with the ledger of the one before, up to the first that is refused.
-fn enter_rows(
-    stream: usize,
-    values: &[i64],
-    lent: &mut Lent,
-    kept: &mut u32,
-) -> Result<(), Refusal> {
-    if values.is_empty() {
-        return Ok(());
-    }
-    let mut state = record_of(lent)?;
-    for row in numbered::rows(&state, stream, values) {
-        let row = numbered::row_line(&state, stream, row);
-        let (row, ledger) = entered(row, &state, lent)?;
-        lent.ledger = ledger;
-        state.accept(row);
-        *kept += 1;
-    }
-    Ok(())
+/// The row line that a row call with a stream's number stands for.
+fn numbered_row(number: u64, lent: &Lent) -> Result<(Line, State), Refusal> {
+    let state = record_of(lent)?;
+    let stream = state.streams.get(number.try_into().unwrap_or(usize::MAX));
+    let name = stream.ok_or(Refusal::Undeclared)?.name.clone();
+    let values = lent.row.lent().iter().map(|&value| value.into());
+    Ok((Line::Row(name, values.collect()), state))
 }
 
 fn record_line(call: Call, lent: &mut Lent) -> Result<Ledger, Refusal> {

@@ -67,8 +67,7 @@ pub struct Lent {
     pub ledger: Ledger,
     pub caller: Caller,
     pub text: Slice<u8>,
-    /// The values of a row, or of the rows of a block.
-    pub row: Slice<i64>,
+    pub row: Slice<i32>,
     pub cells: Slice<i64>,
     pub bytes: Slice<u8>,
 }

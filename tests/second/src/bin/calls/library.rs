@@ -11,13 +11,6 @@ struct LedgerReply {
 }
 
 #[repr(C)]
-struct BlockReply {
-    refusal: u32,
-    kept: u32,
-    ledger: Ledger,
-}
-
-#[repr(C)]
 struct GrantReply {
     refusal: u32,
     grant: Grant,
@@ -44,25 +37,13 @@ unsafe extern "C" {
         names: *const u64,
         names_len: u64,
         stream: u64,
-        row: *const i64,
+        row: *const i32,
         row_len: u64,
         times: *mut u32,
         times_len: u64,
         values: *mut i32,
         values_len: u64,
     ) -> LedgerReply;
-    fn maltziru_block(
-        ledger: Ledger,
-        names: *const u64,
-        names_len: u64,
-        stream: u64,
-        rows: *const i64,
-        rows_len: u64,
-        times: *mut u32,
-        times_len: u64,
-        values: *mut i32,
-        values_len: u64,
-    ) -> BlockReply;
     fn maltziru_clear(ledger: Ledger) -> LedgerReply;
     fn maltziru_clock_line(ledger: Ledger, line: *const u8, line_len: u64) -> LedgerReply;
     fn maltziru_row_line(
@@ -134,7 +115,6 @@ pub enum Call {
     Fresh,
     Clock(i64),
     Row(u64),
-    Block(u64),
     Clear,
     ClockLine,
     RowLine,
@@ -146,12 +126,11 @@ pub enum Call {
     Line(i64),
 }
 
-pub const FUNCTIONS: [&str; 14] = [
+pub const FUNCTIONS: [&str; 13] = [
     "stream",
     "fresh",
     "clock",
     "row",
-    "block",
     "clear",
     "clock_line",
     "row_line",
@@ -171,16 +150,15 @@ impl Call {
             Call::Fresh => 1,
             Call::Clock(_) => 2,
             Call::Row(_) => 3,
-            Call::Block(_) => 4,
-            Call::Clear => 5,
-            Call::ClockLine => 6,
-            Call::RowLine => 7,
-            Call::ClearLine => 8,
-            Call::Grant(_) => 9,
-            Call::Nobody => 10,
-            Call::Caller => 11,
-            Call::Ask => 12,
-            Call::Line(_) => 13,
+            Call::Clear => 4,
+            Call::ClockLine => 5,
+            Call::RowLine => 6,
+            Call::ClearLine => 7,
+            Call::Grant(_) => 8,
+            Call::Nobody => 9,
+            Call::Caller => 10,
+            Call::Ask => 11,
+            Call::Line(_) => 12,
         }
     }
 }
@@ -190,8 +168,6 @@ impl Call {
 pub enum Outcome {
     Plain(u32),
     Ledger(u32, Ledger),
-    /// With how many rows were kept.
-    Block(u32, u32, Ledger),
     Grant(u32, Grant),
     Caller(u32, Caller),
     Count(u32, u32),
@@ -202,7 +178,6 @@ impl Outcome {
         match *self {
             Outcome::Plain(refusal)
             | Outcome::Ledger(refusal, _)
-            | Outcome::Block(refusal, _, _)
             | Outcome::Grant(refusal, _)
             | Outcome::Caller(refusal, _)
             | Outcome::Count(refusal, _) => refusal,
@@ -213,12 +188,6 @@ impl Outcome {
 impl From<LedgerReply> for Outcome {
     fn from(reply: LedgerReply) -> Outcome {
         Outcome::Ledger(reply.refusal, reply.ledger)
-    }
-}
-
-impl From<BlockReply> for Outcome {
-    fn from(reply: BlockReply) -> Outcome {
-        Outcome::Block(reply.refusal, reply.kept, reply.ledger)
     }
 }
 
@@ -259,7 +228,6 @@ pub fn make(call: Call, lent: &mut Lent) -> Outcome {
             Call::Nobody => Outcome::Caller(0, maltziru_nobody()),
             Call::Caller => maltziru_caller(caller, line, line_len).into(),
             Call::Row(stream) => row(stream, lent),
-            Call::Block(stream) => block(stream, lent),
             Call::RowLine => row_line(lent),
             Call::Grant(count) => grant(count, lent),
             Call::Ask => ask(lent),
@@ -281,28 +249,6 @@ unsafe fn row(stream: u64, lent: &mut Lent) -> Outcome {
             stream,
             row,
             row_len,
-            times,
-            times_len,
-            values,
-            values_len,
-        )
-    };
-    reply.into()
-}
-
-unsafe fn block(stream: u64, lent: &mut Lent) -> Outcome {
-    let (names, names_len) = lent.names.shared();
-    let (rows, rows_len) = lent.row.shared();
-    let (times, times_len) = lent.times.written();
-    let (values, values_len) = lent.values.written();
-    let reply = unsafe {
-        maltziru_block(
-            lent.ledger,
-            names,
-            names_len,
-            stream,
-            rows,
-            rows_len,
             times,
             times_len,
             values,

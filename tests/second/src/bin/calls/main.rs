@@ -12,7 +12,6 @@ use std::process::ExitCode;
 use std::time::{Duration, Instant};
 
 use second::lent::GRANT_WORDS;
-use second::tally::{self, Blocks, Counts};
 
 use lending::Lent;
 use library::{Call, FUNCTIONS, Outcome};
@@ -26,27 +25,21 @@ struct Tally {
     functions: [usize; FUNCTIONS.len()],
     accepted: [usize; FUNCTIONS.len()],
     refusals: [usize; 12],
-    blocks: Blocks,
     untold: usize,
     longest: Duration,
 }
 
 impl Tally {
-    fn add(&mut self, attempt: &Attempt, outcome: &Outcome, time: Duration) {
-        let (function, refusal) = (attempt.call.function(), outcome.refusal());
+    fn add(&mut self, call: Call, refusal: u32, time: Duration) {
         self.longest = self.longest.max(time);
-        self.functions[function] += 1;
+        self.functions[call.function()] += 1;
         match refusal {
-            0 => self.accepted[function] += 1,
+            0 => self.accepted[call.function()] += 1,
             _ => self.refusals[refusal as usize - 1] += 1,
-        }
-        if let Outcome::Block(_, kept, _) = *outcome {
-            let empty = attempt.lent.row.len == 0;
-            self.blocks.add(empty, kept as usize, refusal);
         }
     }
 
-    fn counts(&self) -> Counts {
+    fn counts(&self) -> Vec<(String, usize)> {
         let mut counts = vec![];
         for (at, name) in FUNCTIONS.iter().enumerate() {
             counts.push((format!("calls of {name}"), self.functions[at]));
@@ -55,7 +48,6 @@ impl Tally {
         for (at, count) in self.refusals.iter().enumerate() {
             counts.push((format!("refused {}", at + 1), *count));
         }
-        counts.extend(self.blocks.counts(&[12, 3, 2, 4, 8]));
         counts.push(("on words of an untold form".to_string(), self.untold));
         counts
     }
@@ -83,7 +75,7 @@ fn step(world: &mut World, tally: &mut Tally) -> Result<(), String> {
     if let Some(fault) = fault {
         return Err(told(&attempt, &before, &fault));
     }
-    tally.add(&attempt, &outcome, time);
+    tally.add(attempt.call, outcome.refusal(), time);
     world.adopt(attempt, outcome)
 }
 
@@ -208,9 +200,19 @@ fn main() -> ExitCode {
         println!("{fault}");
         return ExitCode::FAILURE;
     }
+    for (what, count) in tally.counts() {
+        println!("{what}: {count}");
+    }
+    let missing = tally.counts().iter().any(|(_, count)| *count == 0);
+    let end = if missing {
+        "a count is 0"
+    } else {
+        "no difference"
+    };
     println!("longest call: {} ms", tally.longest.as_millis());
-    match tally::report(&tally.counts(), &format!("{count} calls")) {
-        true => ExitCode::SUCCESS,
-        false => ExitCode::FAILURE,
+    println!("{count} calls: {end}");
+    match missing {
+        true => ExitCode::FAILURE,
+        false => ExitCode::SUCCESS,
     }
 }

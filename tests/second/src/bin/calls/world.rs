@@ -52,7 +52,7 @@ impl World {
         let call = self.call();
         let mut lent = self.lent.clone();
         lent.text = Slice::of(&self.text(call));
-        lent.row = Slice::of(&self.values(call));
+        lent.row = Slice::of(&self.row_values(call));
         (lent.text.null, lent.row.null) = (self.random.one_in(2), self.random.one_in(2));
         let clean = !self.random.one_in(4);
         if !clean {
@@ -69,16 +69,15 @@ impl World {
             return Call::Stream;
         }
         if self.random.below(100) < self.rows {
-            return match self.random.below(12) {
-                0..5 => Call::Row(self.stream_number()),
-                5..7 => Call::Block(self.stream_number()),
-                _ => Call::RowLine,
+            return match self.random.one_in(2) {
+                true => Call::Row(self.stream_number()),
+                false => Call::RowLine,
             };
         }
         match self.random.below(100) {
             0..2 => Call::Stream,
             2 => *self.random.choose(&[Call::Fresh, Call::Nobody]),
-            3..15 => Call::Clock(self.maker.time(&self.state)),
+            3..15 => Call::Clock(self.time()),
             15..22 => Call::ClockLine,
             22 if self.random.below(60) > self.rows => {
                 *self.random.choose(&[Call::Clear, Call::ClearLine])
@@ -96,6 +95,16 @@ impl World {
             1 => self.random.below(6) as u64,
             2..30 if self.rows > 50 => 0,
             _ => self.random.below(self.state.streams.len()) as u64,
+        }
+    }
+
+    fn time(&mut self) -> i64 {
+        match self.random.below(60) {
+            0 => self.random.bits() as i64,
+            1 => 2_147_483_648,
+            2 => self.state.clock - 1,
+            3 => -1,
+            _ => self.state.clock + self.random.between(0, 8),
         }
     }
 
@@ -134,8 +143,9 @@ impl World {
             Call::Grant(_) => self.maker.grant(&self.state),
             Call::Caller => self.maker.caller(),
             Call::Ask | Call::Line(_) => self.maker.query(&self.state),
-            Call::Fresh | Call::Nobody => String::new(),
-            Call::Clock(_) | Call::Row(_) | Call::Block(_) | Call::Clear => String::new(),
+            Call::Fresh | Call::Clock(_) | Call::Row(_) | Call::Clear | Call::Nobody => {
+                String::new()
+            }
         };
         match self.random.below(60) {
             0 => self.noise(),
@@ -149,13 +159,16 @@ impl World {
         (0..length).map(|_| self.random.bits() as u8).collect()
     }
 
-    fn values(&mut self, call: Call) -> Vec<i64> {
-        let streams = &self.state.streams;
-        match call {
-            Call::Row(number) => self.maker.row_values(streams.get(number as usize)),
-            Call::Block(number) => self.maker.block_values(streams.get(number as usize)),
-            _ => vec![],
+    fn row_values(&mut self, call: Call) -> Vec<i32> {
+        let Call::Row(number) = call else {
+            return vec![];
+        };
+        let stream = self.state.streams.get(number as usize);
+        let mut count = stream.map_or(1, |stream| stream.columns.len());
+        if self.random.one_in(30) {
+            count = self.random.below(9);
         }
+        (0..count).map(|_| self.maker.value() as i32).collect()
     }
 
     /// Room for the answer: all, some, or just as much as it needs or one less.
@@ -173,11 +186,11 @@ impl World {
         (lent.cells.null, lent.bytes.null) = (true, true);
     }
 
-    /// Takes over what an accepted call returned and left, and what any block did.
+    /// Takes over what an accepted call returned and left.
     pub fn adopt(&mut self, attempt: Attempt, outcome: Outcome) -> Result<(), String> {
-        let unchanged = outcome.refusal() != 0 && !matches!(outcome, Outcome::Block(..));
+        let refused = outcome.refusal() != 0;
         let unadopted = matches!(attempt.call, Call::Fresh | Call::Nobody);
-        if unchanged || unadopted || !attempt.clean {
+        if refused || unadopted || !attempt.clean {
             return Ok(());
         }
         let (lent, world) = (attempt.lent, &mut self.lent);
@@ -190,7 +203,7 @@ impl World {
                 self.remember(lent.text.lent());
             }
             (_, Outcome::Plain(_)) => world.names = lent.names,
-            (_, Outcome::Ledger(_, ledger) | Outcome::Block(_, _, ledger)) => {
+            (_, Outcome::Ledger(_, ledger)) => {
                 world.ledger = ledger;
                 world.times = lent.times;
                 world.values = lent.values;
