@@ -1,4 +1,6 @@
 // The caller by value: at most four roles and four profile entries, and the `caller` line that gives one.
+#![tactic(auto)]
+
 ghost use Rattle.std.specs.Prelude.{◌≡◌, T, get_or, take};
 ghost use Rattle.lists.specs.Lists.{every, distinct, same_list};
 ghost use Rattle.syntax.specs.Limits.{max_roles, max_entries, is_value};
@@ -12,7 +14,7 @@ use text::{Line, Word};
 
 // Names are numbers, as `text` reads them.
 #[repr(C)]
-#[derive(Drop)]
+#[derive(Clone, Copy)]
 pub struct Caller {
     pub roles: u32,
     pub role: [u64; Caller::ROLES],
@@ -22,14 +24,14 @@ pub struct Caller {
 }
 
 // What is read of a caller line: what is wrong with it, and its caller.
-#[derive(Drop)]
+#[derive(Clone, Copy)]
 pub struct CallerLine {
     pub checks: Checks,
     pub caller: Caller,
 }
 
 // The verdict, and the caller of the line, or the one that was.
-#[derive(Drop)]
+#[derive(Clone, Copy)]
 pub struct Identified {
     pub verdict: Verdict,
     pub caller: Caller,

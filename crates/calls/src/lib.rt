@@ -1,1 +1,3 @@
 // Definitions of the calls and of their refusals: see specs/.
+#![tactic(auto)]
+

@@ -1,5 +1,7 @@
 // The catalogue, lent as a slice of grants beside the words of their conditions: what its grants open for a caller, and whether it may be lent.
 // A function that holds the slice is proved by a walk of its code, so only two do: what is done with a grant takes it by value.
+#![tactic(auto)]
+
 ghost use Rattle.std.specs.Prelude.{◌≡◌, ◌&&◌, ◌<◌, min, pos, get_or};
 ghost use Rattle.syntax.specs.Limits.{max_entries, max_grants};
 ghost use Rattle.terms.specs.Terms.{biased};
@@ -19,7 +21,7 @@ use schema::Stream;
 pub const PROFILE: usize = 2 * Caller::ENTRIES;
 
 // What the grants that were taken open, and whether they may be lent.
-#[derive(Drop)]
+#[derive(Clone, Copy)]
 pub struct Opened {
     pub opens: Open,
     pub sound: bool,

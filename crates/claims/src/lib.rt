@@ -1,1 +1,3 @@
 // What the definitions promise: see proofs/Claims.antt.
+#![tactic(auto)]
+

@@ -1,4 +1,6 @@
 // Columns of the record compared for all their rows at once: the rows where two columns, or a column and a value, stand so to each other.
+#![tactic(auto)]
+
 ghost use Rattle.std.specs.Prelude.{◌≡◌, ◌≤◌, ◌<◌, ◌+◌, ◌*◌, pos, length, get_or};
 ghost use Rattle.syntax.specs.Limits.{max_columns, max_rows};
 ghost use Rattle.syntax.specs.Grammar.{eq, lt, gt};
@@ -91,7 +93,7 @@ fn less_bit(a: &[i32], i: u32, b: &[i32], j: u32) -> u32
 }
 
 // Where the numbers of rows stand in a list: that of row i at `at + step * i`.
-#[derive(Drop)]
+#[derive(Clone, Copy)]
 struct Track {
     at: u32,
     step: u32,

@@ -1,4 +1,6 @@
 // Lists of streams and of columns of a line, resolved by the names of a schema.
+#![tactic(auto)]
+
 ghost use Rattle.std.specs.Prelude.{◌≡◌, eqb, length, take, drop};
 ghost use Rattle.lists.specs.Lists.{some?};
 ghost use Rattle.columns.specs.Columns.{no_streams, stream_added, streams_ended, streams_at, ends_by, max_own, again_in, kept_in, no_columns, column_added, columns_ended, columns_at};
@@ -7,7 +9,7 @@ use schema::Stream;
 use terms::Term;
 
 // Streams by their places in the schema.
-#[derive(Drop)]
+#[derive(Clone, Copy)]
 pub struct Streams {
     pub ok: bool,
     pub next: usize,
@@ -24,7 +26,7 @@ impl Streams {
 }
 
 // Columns, by their codes as bits of a mask, and in their order as one number.
-#[derive(Drop)]
+#[derive(Clone, Copy)]
 pub struct Columns {
     pub ok: bool,
     pub next: usize,

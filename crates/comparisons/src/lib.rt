@@ -1,4 +1,6 @@
 // What the comparisons of stored conditions name: columns, the time, profile entries, and the equality of two columns.
+#![tactic(auto)]
+
 ghost use Rattle.std.specs.Prelude.{◌≡◌, ◌&&◌, min, eqb};
 ghost use Rattle.std.specs.Int.Bits.{bit_or};
 ghost use Rattle.lists.specs.Lists.{every, some?};

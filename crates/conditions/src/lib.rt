@@ -1,4 +1,6 @@
 // Conditions of a line: what they name, and their nodes in words.
+#![tactic(auto)]
+
 ghost use Rattle.std.specs.Prelude.{◌≡◌, true, ◌||◌, suc, ◌≤◌, eqb, length, drop};
 ghost use Rattle.syntax.specs.Limits.{max_line};
 ghost use Rattle.text.specs.Keywords.{place};
@@ -12,7 +14,7 @@ use terms::Term;
 use text::{Line, Word};
 
 // The head of a condition by its number, 0 for none, and the place after it.
-#[derive(Drop)]
+#[derive(Clone, Copy)]
 pub struct Headed {
     pub head: u32,
     pub next: usize,
@@ -20,7 +22,7 @@ pub struct Headed {
 
 // What is read of conditions, up to a place. `count` words are stored after them; `lefts` and `rights` are the codes of their terms as bits.
 // `deep`: brackets nest deeper than they may, and nothing else is told.
-#[derive(Drop)]
+#[derive(Clone, Copy)]
 pub struct Seen {
     pub ok: bool,
     pub next: usize,
@@ -108,7 +110,7 @@ pub fn begun(at: usize, b: u32) -> Seen
 // ---- where a condition ends that nests too deep, with no recursion
 
 // How far a skip has come: the place of the next condition, 0 where there is none; how many conditions of conditions are open; whether it has come to the end.
-#[derive(Drop)]
+#[derive(Clone, Copy)]
 pub struct Skip {
     pub at: usize,
     pub nest: usize,

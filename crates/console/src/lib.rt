@@ -1,4 +1,6 @@
 // What the program reads and writes: parts of its input, lines cut in them, output that is kept until it is written, refusals in words, and its arguments.
+#![tactic(auto)]
+
 ghost use Rattle.std.specs.Prelude.{◌≡◌, true, false, cond, ◌+◌, ◌*◌, ◌-◌, ◌≤◌, min, eqb, length};
 ghost use Rattle.report.specs.Outcomes.{outcome_of, outcome_text};
 ghost use Rattle.console.specs.Lines.{Ends, Keeps, Closes, Reads};
@@ -10,14 +12,14 @@ use libc::{STDERR_FILENO, STDIN_FILENO, STDOUT_FILENO};
 const MOST: usize = 131072;
 
 // Where the output stands: how many bytes of it are kept until they are written, and whether some could not be written.
-#[derive(Drop)]
+#[derive(Clone, Copy)]
 pub struct Output {
     pub used: usize,
     pub lost: bool,
 }
 
 // What was read: how many bytes of the block, whether the input ended, and whether that is because it could not be read.
-#[derive(Drop)]
+#[derive(Clone, Copy)]
 pub struct Got {
     pub count: usize,
     pub ended: bool,

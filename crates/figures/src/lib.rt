@@ -1,4 +1,6 @@
 // Conditions on an answer row of an aggregate. They stand as nodes in words, and are evaluated for one row.
+#![tactic(auto)]
+
 ghost use Rattle.std.specs.Prelude.{◌≡◌, ◌∷◌, [], ◌+◌, ◌*◌, ◌-◌, ◌<◌, get_or};
 ghost use Rattle.std.specs.Int.Signed.{lt_z, le_z};
 ghost use Rattle.model.specs.Queries.{figure};
@@ -10,14 +12,14 @@ use nodes::Node;
 use terms::Term;
 
 // An answer row: the end of its window, and its figure.
-#[derive(Drop)]
+#[derive(Clone, Copy)]
 pub struct Answer {
     pub end: u32,
     pub figure: i64,
 }
 
 // The value of a term.
-#[derive(Drop)]
+#[derive(Clone, Copy)]
 pub struct Scalar {
     pub value: i64,
 }

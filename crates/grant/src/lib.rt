@@ -1,4 +1,6 @@
 // A grant: a small struct of numbers, beside the words of its conditions. A C program may lend any numbers, so there is no enum in it.
+#![tactic(auto)]
+
 ghost use Rattle.std.specs.Prelude.{◌≡◌, [], ◌∷◌, ◌&&◌, not, min, leb, eqb, length};
 ghost use Rattle.syntax.specs.Limits.{max_streams, max_grants, max_granted};
 ghost use Rattle.masks.specs.Masks.{inside};
@@ -58,7 +60,7 @@ fn is_limit(n: u32) -> bool
 // The role by its name's number; the right (0 read, 1 min, 2 max, 3 count, 4 avg, 5 sum); `count` streams by number; the shown columns as bits,
 // six places a stream; how many words its conditions take; its first and last time, or Grant::NONE; the least SIZE and OFFSET.
 #[repr(C)]
-#[derive(Drop)]
+#[derive(Clone, Copy)]
 pub struct Grant {
     pub role: u64,
     pub right: u32,

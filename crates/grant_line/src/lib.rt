@@ -1,4 +1,6 @@
 // The grant call: a line, and the grant with its conditions in the words of its place.
+#![tactic(auto)]
+
 ghost use Rattle.std.specs.Prelude.{◌≡◌, ◌&&◌, not, ◌+◌, ◌≤◌, ◌<◌, ltb, eqb, length};
 ghost use Rattle.std.proofs.Math.Seq.{paste};
 ghost use Rattle.syntax.specs.Limits.{max_line};
@@ -18,7 +20,7 @@ use refusal::{Checks, Refusal, Verdict};
 use text::{Line, Word};
 
 // Whose a grant is, and its right by number.
-#[derive(Drop)]
+#[derive(Clone, Copy)]
 pub struct Holder {
     pub ok: bool,
     pub long: bool,
@@ -28,7 +30,7 @@ pub struct Holder {
 }
 
 // What a grant shows: all columns, or those of a mask.
-#[derive(Drop)]
+#[derive(Clone, Copy)]
 pub struct Shown {
     pub ok: bool,
     pub all: bool,
@@ -40,7 +42,7 @@ pub struct Shown {
 }
 
 // A first or a last time.
-#[derive(Drop)]
+#[derive(Clone, Copy)]
 pub struct Limit {
     pub ok: bool,
     pub over: bool,
@@ -49,7 +51,7 @@ pub struct Limit {
 }
 
 // A window.
-#[derive(Drop)]
+#[derive(Clone, Copy)]
 pub struct Window {
     pub ok: bool,
     pub given: bool,
@@ -60,7 +62,7 @@ pub struct Window {
 }
 
 // The parts after the conditions, which go together.
-#[derive(Drop)]
+#[derive(Clone, Copy)]
 pub struct Rest {
     pub from: Limit,
     pub to: Limit,
@@ -68,14 +70,14 @@ pub struct Rest {
 }
 
 // What is read of a grant line: what is wrong with it by itself, and its grant.
-#[derive(Drop)]
+#[derive(Clone, Copy)]
 pub struct GrantLine {
     pub checks: Checks,
     pub grant: Grant,
 }
 
 // The verdict, and the grant where it is accepted.
-#[derive(Drop)]
+#[derive(Clone, Copy)]
 pub struct Granted {
     pub verdict: Verdict,
     pub grant: Grant,

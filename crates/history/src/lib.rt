@@ -1,1 +1,3 @@
 // What lists of calls leave: definitions and theorems only.
+#![tactic(auto)]
+

@@ -1,4 +1,6 @@
 // Lists of names, numbers and profile entries in a line: each item after one space, up to a closing bracket.
+#![tactic(auto)]
+
 ghost use Rattle.std.specs.Prelude.{◌≡◌, ◌+◌, ◌≤◌, ◌<◌, min, eqb, get_or, take, drop};
 ghost use Rattle.lists.specs.Lists.{some?};
 ghost use Rattle.syntax.specs.Limits.{max_columns, max_entries};
@@ -7,7 +9,7 @@ ghost use Rattle.items.specs.Items.{no_names, name_added, names_ended, names_at,
 use text::{Kept, Word};
 
 // Names: how many, Names::OVER for more than are kept, whether one is too long, and the first of them as numbers.
-#[derive(Drop)]
+#[derive(Clone, Copy)]
 pub struct Names {
     pub ok: bool,
     pub next: usize,
@@ -31,7 +33,7 @@ impl Names {
 }
 
 // Numbers: how many, Names::OVER for more than are kept, whether one is beyond 32 bits, and the first of them.
-#[derive(Drop)]
+#[derive(Clone, Copy)]
 pub struct Values {
     pub ok: bool,
     pub next: usize,
@@ -41,7 +43,7 @@ pub struct Values {
 }
 
 // A profile entry at a place.
-#[derive(Drop)]
+#[derive(Clone, Copy)]
 pub struct EntryRead {
     pub ok: bool,
     pub over: bool,
@@ -51,7 +53,7 @@ pub struct EntryRead {
 }
 
 // Profile entries: how many, Entries::OVER for more than are kept, whether one is out of bounds, and the first of them.
-#[derive(Drop)]
+#[derive(Clone, Copy)]
 pub struct Entries {
     pub ok: bool,
     pub next: usize,

@@ -1,4 +1,6 @@
 // The clock and the four row counts, which go in with a call and come back with it. Rows stand in lent memory: a time and six values a place, 128 places a stream.
+#![tactic(auto)]
+
 ghost use Rattle.std.specs.Prelude.{◌≡◌, ◌+◌, ◌*◌, ◌-◌, ◌≤◌, ◌<◌, T, length, get_or};
 ghost use Rattle.std.proofs.Math.Seq.{paste};
 ghost use Rattle.lists.specs.Lists.{every};
@@ -11,14 +13,14 @@ use schema::Stream;
 use text::{Number, Time};
 
 #[repr(C)]
-#[derive(Drop)]
+#[derive(Clone, Copy)]
 pub struct Ledger {
     pub clock: u32,
     pub rows: [u32; Stream::MOST],
 }
 
 // What a call says, and the ledger that it leaves.
-#[derive(Drop)]
+#[derive(Clone, Copy)]
 pub struct Entered {
     pub verdict: Verdict,
     pub ledger: Ledger,

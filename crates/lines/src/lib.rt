@@ -1,4 +1,6 @@
 // Lines of a script as they come in parts of its input: each is kept until it ends and is done then, and what it prints goes behind the output.
+#![tactic(auto)]
+
 ghost use Rattle.std.specs.Prelude.{◌≤◌, length, take};
 ghost use Rattle.lines.specs.Runs.{point, Says, Done, Part, Block};
 
@@ -11,7 +13,7 @@ use schema::Stream;
 use script::{State, Stepped};
 
 // What goes from line to line: the state of the script, how many lines were done, how many bytes of the next one are kept, how far the block is done, where the output stands, whether refusals are explained, and whether a line was refused, input could not be read, and the input ended.
-#[derive(Drop)]
+#[derive(Clone, Copy)]
 pub struct Run {
     pub state: State,
     pub lines: u64,
@@ -25,7 +27,7 @@ pub struct Run {
 }
 
 // What a line leaves beside the state: how many lines were done, where the output stands, and whether one was refused.
-#[derive(Drop)]
+#[derive(Clone, Copy)]
 pub struct Said {
     pub lines: u64,
     pub output: Output,

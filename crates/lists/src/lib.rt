@@ -1,1 +1,3 @@
 // Definitions on lists and tests: see specs/.
+#![tactic(auto)]
+

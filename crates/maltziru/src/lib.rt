@@ -1,5 +1,7 @@
 // The calls for C. Each takes numbers, structs by value and lent memory, and says 0 or the number of a refusal; none has a condition on what it is given.
 // include/maltziru.h says the same to a C program.
+#![tactic(auto)]
+
 ghost use Rattle.std.specs.Prelude.{◌≡◌};
 ghost use Rattle.ledger.specs.Calls.{clock_call, clear_call};
 ghost use Rattle.record_lines.specs.Calls.{clock_line_call, clear_line_call};
@@ -21,7 +23,7 @@ use refusal::Verdict;
 
 // What a call on the record says, and the ledger that it leaves.
 #[repr(C)]
-#[derive(Drop)]
+#[derive(Clone, Copy)]
 pub struct LedgerReply {
     pub refusal: u32,
     pub ledger: Ledger,
@@ -29,7 +31,7 @@ pub struct LedgerReply {
 
 // What a grant line says, and the grant.
 #[repr(C)]
-#[derive(Drop)]
+#[derive(Clone, Copy)]
 pub struct GrantReply {
     pub refusal: u32,
     pub grant: Grant,
@@ -37,7 +39,7 @@ pub struct GrantReply {
 
 // What a caller line says, and the caller.
 #[repr(C)]
-#[derive(Drop)]
+#[derive(Clone, Copy)]
 pub struct CallerReply {
     pub refusal: u32,
     pub caller: Caller,

@@ -1,4 +1,6 @@
 // Columns as bits of an unsigned mask.
+#![tactic(auto)]
+
 ghost use Rattle.std.specs.Prelude.{◌≡◌};
 ghost use Rattle.std.specs.Int.Bits.{bit_or};
 ghost use Rattle.masks.specs.Masks.{bit?, with_bit, inside};

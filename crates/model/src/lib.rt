@@ -1,1 +1,3 @@
 // Definitions of queries, grants, views, routes and answers: see specs/.
+#![tactic(auto)]
+

@@ -1,4 +1,6 @@
 // What a query asks of grants: one struct of numbers, from the table of its forms.
+#![tactic(auto)]
+
 ghost use Rattle.std.specs.Prelude.{◌≡◌};
 ghost use Rattle.std.specs.Int.Bits.{bit_and};
 ghost use Rattle.masks.specs.Masks.{mask_of};
@@ -14,7 +16,7 @@ use terms::Term;
 // Its streams (`right` is Needs::NONE where it has one), the columns that its picks and its aggregate name, those of its equality with their codes,
 // those of its answer (none of an aggregate's), whether a pick below the join names `time`, whether there is a pick below the aggregate, and the
 // aggregate (0 for none, 1 min, 2 max, 3 count, 4 avg, 5 sum) with its column's code, SIZE and OFFSET. Columns are bits by their codes.
-#[derive(Drop)]
+#[derive(Clone, Copy)]
 pub struct Needs {
     pub left: u32,
     pub right: u32,
@@ -32,7 +34,7 @@ pub struct Needs {
 }
 
 // What the first two of some queries ask.
-#[derive(Drop)]
+#[derive(Clone, Copy)]
 pub struct Sides {
     pub outer: Needs,
     pub inner: Needs,

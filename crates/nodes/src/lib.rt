@@ -1,4 +1,6 @@
 // Conditions as nodes in words, one to three words a node: neither a recursion nor a table of grants carries them by value.
+#![tactic(auto)]
+
 ghost use Rattle.std.specs.Prelude.{◌≡◌, Bool, suc, ◌+◌, ◌*◌, ◌-◌, ◌≤◌, T, length, get_or};
 ghost use Rattle.nodes.specs.Nodes.{node_of, node_at, node_words, link, conditions_of, comparing, reaches, linked, in-mask, terms_sound, node_sound, all_sound, max_nesting, shallow_conds, nodes_sound};
 ghost use Rattle.nodes.specs.Storing.{head_word, put_value, put_node};
@@ -8,7 +10,7 @@ use text::Line;
 
 // A comparison (heads 1 to 6: `=` `/=` `<` `<=` `>` `>=`) with the codes of its terms, or a condition of conditions (7 `and`, 8 `or`, 9 `not`).
 // `before` is how many words stand before those of this condition. `value` is a number or the name of a profile entry.
-#[derive(Drop)]
+#[derive(Clone, Copy)]
 pub struct Node {
     pub head: u32,
     pub left: u32,

@@ -1,1 +1,3 @@
 // The routes of a query by their grants: definitions and theorems alone.
+#![tactic(auto)]
+

@@ -1,11 +1,13 @@
 // Columns in an order, as one number: five bits a column, its code and one, the last column lowest.
+#![tactic(auto)]
+
 ghost use Rattle.std.specs.Prelude.{◌≡◌, cond, reverse, ◌-◌, ◌%◌, length, get_or};
 ghost use Rattle.lists.specs.Lists.{select};
 ghost use Rattle.masks.specs.Masks.{bit?, mask_of};
 ghost use Rattle.orders.specs.Orders.{max_order, max_codes, order_end, codes_in, with_code, order_from, order_of, order_within};
 
 // An order of columns, and its bounds.
-#[derive(Drop)]
+#[derive(Clone, Copy)]
 pub struct Order {
     pub columns: u64,
 }

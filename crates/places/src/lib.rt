@@ -1,4 +1,6 @@
 // What stands at a place of lent numbers; 0 past the last.
+#![tactic(auto)]
+
 ghost use Rattle.std.specs.Prelude.{◌≡◌, get_or};
 
 // Returns the word at a place.

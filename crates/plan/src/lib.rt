@@ -1,4 +1,6 @@
 // What a table of forms asks for, laid out flat.
+#![tactic(auto)]
+
 ghost use Rattle.std.specs.Prelude.{◌≡◌};
 ghost use Rattle.plan.specs.Plans.{no_view, view_of, no_plan, stream_order, with_rows, with_pick, with_keep, with_join, with_aggregate, with_view, plan_step, plan_in};
 ghost use Rattle.query.specs.Tables.{forms_in};
@@ -8,7 +10,7 @@ use query::{Form, Query};
 use schema::Stream;
 
 // What a grant's view asks of rows: the conditions in so many words at its place in the catalogue, and a first and last time, or Grant::NONE.
-#[derive(Drop)]
+#[derive(Clone, Copy)]
 pub struct View {
     pub place: u32,
     pub words: u32,
@@ -62,7 +64,7 @@ fn stream_order(names: &[u64], s: u32) -> u64
 // The streams, or the one as `left`; whether they are joined, and by which columns; the columns of the answer, and those of the right side; the aggregate by
 // its number (0 for none), its column, SIZE and OFFSET. `picks` are the places where the words of conditions end: from `start` those of the right side, from
 // `rights` those of the left, from `lefts` those of joined rows, from `uppers` those of figures, up to `count`. Each part has a view beside it.
-#[derive(Drop)]
+#[derive(Clone, Copy)]
 pub struct Plan {
     pub left: u32,
     pub right: u32,

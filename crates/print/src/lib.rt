@@ -1,5 +1,7 @@
 // Text written from numbers into lent bytes: words, names, numbers, columns and conditions. Each function writes from a place on, where there are bytes, and
 // returns the place after; over no bytes it counts.
+#![tactic(auto)]
+
 ghost use Rattle.std.specs.Prelude.{◌≡◌, ◌+◌, ◌*◌, ◌-◌, ◌/◌, ◌%◌, ◌^◌, ◌<◌, ◌≤◌, min, length};
 ghost use Rattle.syntax.specs.Grammar.{put_name, put_nat, put_int};
 ghost use Rattle.model.specs.Grants.{entry_value};
@@ -17,7 +19,7 @@ use terms::Term;
 use text::{Time, Word};
 
 // What a grant puts over rows: how many words its conditions take, and its first and last time, where a number above the highest time is no limit.
-#[derive(Drop)]
+#[derive(Clone, Copy)]
 pub struct Bounds {
     pub words: u32,
     pub from: u32,
@@ -493,7 +495,7 @@ fn put_test(out: &mut [u8], p: u32, n: Node, names: &[u64], profile: &[u64], own
 // ---- conditions
 
 // The words of a list of conditions: those that end at place `end` and before it, down to `stop`.
-#[derive(Drop)]
+#[derive(Clone, Copy)]
 pub struct Range {
     pub stop: usize,
     pub end: usize,

@@ -1,5 +1,7 @@
 // The text of a rewritten query: its table of forms written forwards in one pass. A form opens before the forms inside it; what stands open is kept as a number,
 // a bit for each form, by which the brackets close after the last form inside.
+#![tactic(auto)]
+
 ghost use Rattle.std.specs.Prelude.{◌≡◌, [], ◌<◌};
 ghost use Rattle.text.specs.Words.{name_of};
 ghost use Rattle.schema.specs.Schemas.{schema_of};
@@ -31,14 +33,14 @@ const OPEN_SUM: u64 = 0x2873756d20;
 const NONE_OPEN: u32 = 1;
 
 // The place after what was written, and what stands open there.
-#[derive(Drop)]
+#[derive(Clone, Copy)]
 pub struct Cursor {
     pub place: u32,
     pub marks: u32,
 }
 
 // Whether a line was written, and how long its text is.
-#[derive(Drop)]
+#[derive(Clone, Copy)]
 pub struct Printed {
     pub ok: bool,
     pub length: u32,

@@ -1,5 +1,7 @@
 // Reads a script from standard input, does its lines one after another, and writes what they print to standard output.
 // With the argument `--explain` it also says on standard error which line is refused, and why; with `--status`, on descriptor 3 how it ended.
+#![tactic(auto)]
+
 ghost use Rattle.lines.specs.Runs.{point};
 ghost use Rattle.program.specs.Rounds.{Round, Lent, All};
 // Named since a State holds one: the checker knows the types of the crates that are named here alone.

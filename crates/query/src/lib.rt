@@ -1,4 +1,6 @@
 // Tables of forms: a checked query's by value, passed from the checker to the router and the rewriter; a rewritten query's in lent words.
+#![tactic(auto)]
+
 ghost use Rattle.std.specs.Prelude.{◌≡◌, min, eqb, length, get_or};
 ghost use Rattle.syntax.specs.Limits.{max_forms, max_rewritten};
 ghost use Rattle.query.specs.Forms.{rows_form, keep_of, form_order, under_form};
@@ -17,7 +19,7 @@ const HALF: u64 = 4294967296;
 // join: its two columns by code in `first` and `second`; aggregate: its number (1 min, 2 max, 3 count, 4 avg, 5 sum) in `first`, its column's code in `second`,
 // SIZE and OFFSET in `third` and `fourth`; under, which only a rewritten query has: a grant's place in the catalogue in `first`, how many words its
 // conditions take in `second`, its first and last time in `third` and `fourth`. All else is 0.
-#[derive(Drop)]
+#[derive(Clone, Copy)]
 pub struct Form {
     pub kind: u32,
     pub first: u32,
@@ -97,7 +99,7 @@ impl Form {
 }
 
 // A query: its first `len` forms.
-#[derive(Drop)]
+#[derive(Clone, Copy)]
 pub struct Query {
     pub forms: [Form; Query::FORMS as usize],
     pub len: u32,

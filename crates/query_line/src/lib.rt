@@ -1,4 +1,6 @@
 // The query of a line: its checks, and the table of its forms.
+#![tactic(auto)]
+
 ghost use Rattle.std.specs.Prelude.{◌≡◌, ◌&&◌, ◌≤◌};
 ghost use Rattle.syntax.specs.Limits.{max_forms};
 ghost use Rattle.masks.specs.Masks.{bit?};
@@ -13,7 +15,7 @@ use schema::Stream;
 use text::{Line, Number, Word};
 
 // A query that is passed: its columns as bits, whether it has a join and whether an aggregate.
-#[derive(Drop)]
+#[derive(Clone, Copy)]
 pub struct Side {
     pub mask: u32,
     pub joined: bool,
@@ -21,7 +23,7 @@ pub struct Side {
 }
 
 // How far checks 4 and 5 have come, from the last form to the first: the last two queries that are passed, the streams seen, and whether a check fails.
-#[derive(Drop)]
+#[derive(Clone, Copy)]
 pub struct Placing {
     pub top: Side,
     pub under: Side,
@@ -42,7 +44,7 @@ impl Placing {
 }
 
 // What is read of a query at a place: its checks, and the table of its forms.
-#[derive(Drop)]
+#[derive(Clone, Copy)]
 pub struct Asked {
     pub ok: bool,
     pub next: usize,
@@ -51,7 +53,7 @@ pub struct Asked {
 }
 
 // A route's number, clamped where it is beyond every range, and a query.
-#[derive(Drop)]
+#[derive(Clone, Copy)]
 pub struct Routed {
     pub route: i64,
     pub asked: Asked,

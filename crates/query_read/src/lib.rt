@@ -1,4 +1,6 @@
 // The forms of a query in a line: read one after another, with no recursion, into a table of forms and the words of their conditions.
+#![tactic(auto)]
+
 ghost use Rattle.std.specs.Prelude.{◌≡◌, ◌+◌, ◌*◌, ◌≤◌, ◌<◌, length};
 ghost use Rattle.syntax.specs.Grammar.{numbered_fn};
 ghost use Rattle.syntax.specs.Limits.{max_line, max_forms};
@@ -15,7 +17,7 @@ use text::{Line, Number, Time, Word};
 
 // One form by itself, up to its closing bracket or to the form inside it. `over`: it is out of bounds. `words` words are stored after it;
 // `lefts` and `rights` are the codes of its condition's terms as bits, and `lefts` those of a keep's columns.
-#[derive(Drop)]
+#[derive(Clone, Copy)]
 pub struct Own {
     pub ok: bool,
     pub next: usize,
@@ -29,14 +31,14 @@ pub struct Own {
 }
 
 // SIZE and OFFSET of an aggregate.
-#[derive(Drop)]
+#[derive(Clone, Copy)]
 pub struct Spans {
     pub size: Time,
     pub offset: Time,
 }
 
 // The forms of a query, the first Query::FORMS of them in a table, and what is wrong with them by themselves.
-#[derive(Drop)]
+#[derive(Clone, Copy)]
 pub struct Reading {
     pub ok: bool,
     pub next: usize,
@@ -65,7 +67,7 @@ impl Reading {
 }
 
 // Where the next form begins, inside how many; `nest` 0: where the outermost ended.
-#[derive(Drop)]
+#[derive(Clone, Copy)]
 pub struct Next {
     pub ok: bool,
     pub at: usize,

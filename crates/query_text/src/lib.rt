@@ -1,4 +1,6 @@
 // What is read of a query's text before a call looks at grants or the record: its checks, its table with the words of its conditions, and what it asks of grants.
+#![tactic(auto)]
+
 ghost use Rattle.std.specs.Prelude.{◌≡◌};
 ghost use Rattle.query_text.specs.Texts.{told_of, QueryRead, AskRead, LineRead};
 
@@ -10,7 +12,7 @@ use refusal::Checks;
 
 // What is read of a query's text: its checks, the table of its forms with the words of their conditions, and what it asks of grants.
 // Of a `line` line also the number of the route, clamped where it is beyond every range.
-#[derive(Drop)]
+#[derive(Clone, Copy)]
 pub struct Told {
     pub checks: Checks,
     pub query: Query,

@@ -1,4 +1,6 @@
 // The `clock`, `row` and `clear` lines. Each is read and does what the call of its name does.
+#![tactic(auto)]
+
 ghost use Rattle.std.specs.Prelude.{◌≡◌, min};
 ghost use Rattle.syntax.specs.Limits.{max_columns};
 ghost use Rattle.record_lines.specs.Lines.{clock_line, unread_clock, clear_line, row_line, unread_row, row_read};
@@ -10,14 +12,14 @@ use refusal::Checks;
 use text::{Line, Name, Time, Word};
 
 // What is read of a clock line.
-#[derive(Drop)]
+#[derive(Clone, Copy)]
 pub struct ClockLine {
     pub checks: Checks,
     pub time: Time,
 }
 
 // What is read of a row line: the stream's name, how many values it lists, and the first of them.
-#[derive(Drop)]
+#[derive(Clone, Copy)]
 pub struct RowLine {
     pub checks: Checks,
     pub name: u64,

@@ -1,9 +1,11 @@
 // The twelve refusals, and the checks that give them, in the order in which they are tried.
+#![tactic(auto)]
+
 ghost use Rattle.std.specs.Prelude.{◌≡◌};
 ghost use Rattle.refusal.specs.Numbers.{number_of, verdict_of};
 ghost use Rattle.refusal.specs.Checks.{first, no_fault, unread, shown, table};
 
-#[derive(Drop)]
+#[derive(Clone, Copy)]
 pub enum Refusal {
     Lent,
     Malformed,
@@ -20,14 +22,14 @@ pub enum Refusal {
 }
 
 // What a call says: it did what it is for, or the refusal.
-#[derive(Drop)]
+#[derive(Clone, Copy)]
 pub enum Verdict {
     Accepted,
     Refused(Refusal),
 }
 
 // What is wrong with a call, check by check, in the order of the refusal table. `long` is a line over its bytes.
-#[derive(Drop)]
+#[derive(Clone, Copy)]
 pub struct Checks {
     pub lent: bool,
     pub long: bool,

@@ -1,4 +1,6 @@
 // The text that an outcome of a script's line prints, written into lent bytes from the first on.
+#![tactic(auto)]
+
 ghost use Rattle.std.specs.Prelude.{◌≡◌, ◌+◌, ◌*◌, ◌≤◌, min, nat_abs, length};
 ghost use Rattle.syntax.specs.Grammar.{put_int};
 ghost use Rattle.text.specs.Words.{name_of};
@@ -9,7 +11,7 @@ ghost use Rattle.report.specs.Written.{Written};
 
 // What a cell of an answer is: the number of routes; a route's two grants, its width and its row count (with the width); a cell of a row, with how many follow it in the row, the width, and how many rows
 // follow.
-#[derive(Drop)]
+#[derive(Clone, Copy)]
 pub enum Due {
     Routes,
     Grant,

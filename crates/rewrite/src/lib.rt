@@ -1,4 +1,6 @@
 // The rewritten query of a route: the table of a checked query, with each grant's view in the place of the streams that it opens, in lent words.
+#![tactic(auto)]
+
 ghost use Rattle.std.specs.Prelude.{◌≡◌, [], ◌∷◌, cond, ◌+◌, ◌<◌, eqb, get_or, drop};
 ghost use Rattle.lists.specs.Lists.{select};
 ghost use Rattle.masks.specs.Masks.{bit?};
@@ -14,7 +16,7 @@ use query::{Form, Query};
 use schema::Stream;
 
 // What a rewritten query needs of a grant: its place in the catalogue, the shown columns as bits, how many words its conditions take, its first and last time.
-#[derive(Drop)]
+#[derive(Clone, Copy)]
 pub struct Restriction {
     pub place: u32,
     pub shown: u32,

@@ -1,4 +1,6 @@
 // The cells of one route: its header and its rows, counted up to a room or written, and the rows selected for it, kept from its count to its cells.
+#![tactic(auto)]
+
 ghost use Rattle.std.specs.Prelude.{◌≡◌, ℕ, ◌+◌, ◌*◌, ◌≤◌, ◌<◌, ◌/◌, pos, length, set};
 ghost use Rattle.std.proofs.lemmas.List.Edits.{sets};
 ghost use Rattle.syntax.specs.Limits.{max_routes};
@@ -98,7 +100,7 @@ fn keep_rows(kept: &mut [u32], i: u32, m: Rows)
 
 // What is wanted of a route: its place among the routes, whether its rows are known, whether it is the last; written from a place of the cells on, or counted as far
 // as the room goes.
-#[derive(Drop)]
+#[derive(Clone, Copy)]
 pub struct Turn {
     pub place: u32,
     pub known: bool,

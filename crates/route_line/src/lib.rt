@@ -1,4 +1,6 @@
 // The line of one route: the text of its rewritten query, written into lent bytes.
+#![tactic(auto)]
+
 ghost use Rattle.query.specs.Tables.{query_forms};
 ghost use Rattle.print_query.specs.Texts.{Lined};
 ghost use Rattle.route_line.specs.Texts.{way_text};

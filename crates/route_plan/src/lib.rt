@@ -1,4 +1,6 @@
 // A route of a query: its grants, its rewritten table and its plan.
+#![tactic(auto)]
+
 ghost use Rattle.std.specs.Prelude.{◌≡◌};
 ghost use Rattle.query.specs.Tables.{query_forms, held, rewritten_table};
 ghost use Rattle.route_plan.specs.Ways.{granted_in, way_of, way_forms, way_plan};
@@ -10,7 +12,7 @@ use rewrite::Restriction;
 use routes::{Open, Route};
 
 // A route: whether its query has one stream, its kind, and its grants, twice the same where it has one.
-#[derive(Drop)]
+#[derive(Clone, Copy)]
 pub struct Way {
     pub lone: bool,
     pub kind: u32,

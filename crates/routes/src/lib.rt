@@ -1,4 +1,6 @@
 // The routes that a caller's grants open for a query: which grants open it, one at a time, and then every route by the places of its grants.
+#![tactic(auto)]
+
 ghost use Rattle.std.specs.Prelude.{◌≡◌, [], ◌∷◌, map, ◌&&◌, ◌||◌, cond, ◌+◌, ◌<◌, ◌≤◌, leb, eqb};
 ghost use Rattle.lists.specs.Lists.{some?, same_list, select};
 ghost use Rattle.syntax.specs.Limits.{max_routes};
@@ -218,7 +220,7 @@ pub fn opens(n: Needs, g: Grant, words: &[u32]) -> u32
 
 // Which grants open what, as bits by their places in the catalogue; and of each grant by its place the columns that it shows, how many words its
 // conditions take, and its first and last time.
-#[derive(Drop)]
+#[derive(Clone, Copy)]
 pub struct Open {
     pub left: u32,
     pub right: u32,
@@ -231,7 +233,7 @@ pub struct Open {
 }
 
 // A route: its kind, and the places of its grants, which are the same where it has one.
-#[derive(Drop)]
+#[derive(Clone, Copy)]
 pub struct Route {
     pub kind: u32,
     pub left: u32,
@@ -268,7 +270,7 @@ fn bit_also(bits: u32, i: u32, mask: u32, place: u32) -> u32
 // ---- routes
 
 // What decides which routes there are, beside what their grants show: `lone` means one stream, `whole` an aggregate.
-#[derive(Drop)]
+#[derive(Clone, Copy)]
 pub struct Gate {
     pub left: u32,
     pub right: u32,
@@ -303,7 +305,7 @@ fn right_sides(g: Gate, place: u32) -> u32
 }
 
 // How many routes there are, and the first of them in the order of the answer, each as kind * 65536 + left * 256 + right; 0 in the places past the last.
-#[derive(Drop)]
+#[derive(Clone, Copy)]
 pub struct Routes {
     pub count: u32,
     pub list: [u32; Routes::MOST],

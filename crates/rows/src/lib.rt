@@ -1,9 +1,11 @@
 // Rows of one stream as a mask of 128 bits.
+#![tactic(auto)]
+
 ghost use Rattle.std.specs.Prelude.{◌≡◌, ◌-◌, ◌^◌};
 ghost use Rattle.rows.specs.Masks.{part, no_rows, first_rows, both_of, either_of, flip_of, row_bit, ones_of, next_bit};
 
 // A row is a bit: four words, the lowest first.
-#[derive(Drop)]
+#[derive(Clone, Copy)]
 pub struct Rows {
     pub a: u32,
     pub b: u32,

@@ -1,4 +1,6 @@
 // The declared streams as lent numbers: the names of four streams, then those of six columns for each; 0 where there is none.
+#![tactic(auto)]
+
 ghost use Rattle.std.specs.Prelude.{◌≡◌, ◌+◌, ◌≤◌, ◌<◌, length};
 ghost use Rattle.syntax.specs.Grammar.{name?};
 ghost use Rattle.syntax.specs.Limits.{max_streams, max_columns};
@@ -11,7 +13,7 @@ use items::Names;
 use text::Word;
 
 // A stream: its name, how many columns it has, and their names.
-#[derive(Drop)]
+#[derive(Clone, Copy)]
 pub struct Stream {
     pub name: u64,
     pub count: u32,

@@ -1,4 +1,6 @@
 // One line of a script: what its verb's call does, with the record, the grants and the caller that the lines before it left.
+#![tactic(auto)]
+
 ghost use Rattle.std.specs.Prelude.{◌≡◌, ◌≤◌, ◌<◌, min, take};
 ghost use Rattle.syntax.specs.Grammar as G;
 ghost use Rattle.syntax.specs.Limits.{max_grants};
@@ -22,7 +24,7 @@ use schema::Stream;
 use text::{Line, Word};
 
 // What goes from line to line beside lent memory: the ledger, the grants with how many were accepted, and the caller.
-#[derive(Drop)]
+#[derive(Clone, Copy)]
 pub struct State {
     pub ledger: Ledger,
     pub grants: [Grant; Grant::GRANTS],
@@ -31,7 +33,7 @@ pub struct State {
 }
 
 // What a line says, and the state that it leaves: the kind is one of `report`, the number is that of the refusal, or how many cells or bytes were written.
-#[derive(Drop)]
+#[derive(Clone, Copy)]
 pub struct Stepped {
     pub state: State,
     pub kind: u32,
@@ -39,7 +41,7 @@ pub struct Stepped {
 }
 
 // The first word of a line.
-#[derive(Drop)]
+#[derive(Clone, Copy)]
 pub enum Verb {
     Stream,
     Grant,

@@ -1,4 +1,6 @@
 // The rows that conditions select, for all rows of a stream at once.
+#![tactic(auto)]
+
 ghost use Rattle.std.specs.Prelude.{◌≡◌, map, true, false, ◌≤◌, ◌<◌, ◌-◌, ◌/◌, ◌%◌, T, ℤ, length};
 ghost use Rattle.syntax.specs.Grammar.{test};
 ghost use Rattle.syntax.specs.Limits.{max_streams, max_columns, max_rows};
@@ -25,7 +27,7 @@ use text::Time;
 
 // The rows that are asked about: those of a stream, by the numbers of its columns and rows. Where `fixed` is one of the lent places, each stands beside
 // the row there, which is one of the stream `other` and has `breadth` columns.
-#[derive(Drop)]
+#[derive(Clone, Copy)]
 pub struct Scope {
     pub stream: u32,
     pub width: u32,
@@ -50,7 +52,7 @@ impl Scope {
 }
 
 // Where a side of a comparison takes its values from: a column that begins at a place of the values, the time, or a value.
-#[derive(Drop)]
+#[derive(Clone, Copy)]
 struct Origin {
     kind: u32,
     at: u32,
@@ -58,7 +60,7 @@ struct Origin {
 }
 
 // Rows so far, and the place of the next condition.
-#[derive(Drop)]
+#[derive(Clone, Copy)]
 struct Reached {
     rows: Rows,
     at: u32,

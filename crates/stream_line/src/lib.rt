@@ -1,4 +1,6 @@
 // The stream call: a line, and the lent names with its stream.
+#![tactic(auto)]
+
 ghost use Rattle.std.specs.Prelude.{◌≡◌, ◌&&◌, take};
 ghost use Rattle.lists.specs.Lists.{every};
 ghost use Rattle.schema.specs.Schemas.{code_free};
@@ -10,7 +12,7 @@ use schema::Stream;
 use text::{Line, Name, Word};
 
 // What is read of a stream line: what is wrong with it by itself, and its stream.
-#[derive(Drop)]
+#[derive(Clone, Copy)]
 pub struct StreamLine {
     pub checks: Checks,
     pub stream: Stream,

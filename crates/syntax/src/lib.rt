@@ -1,1 +1,3 @@
 // Definitions of the lines' texts: see specs/.
+#![tactic(auto)]
+

@@ -1,4 +1,6 @@
 // Columns, operands and comparisons of a line at a place, resolved by the names of a schema.
+#![tactic(auto)]
+
 ghost use Rattle.std.specs.Prelude.{◌≡◌, cond, ◌+◌, ◌≤◌, eqb};
 ghost use Rattle.schema.specs.Schemas.{schema_size};
 ghost use Rattle.terms.specs.Terms.{entry_code, found, stream_found, place_in, no_ref, dotted_of, alone_of, ref_at, code_in, biased, no_term, ref_term_at, number_term_at, operand_at, no_comparison, compared, comparison_at};
@@ -7,7 +9,7 @@ use schema::Stream;
 use text::{Kept, Name, Word};
 
 // What stands where a column may: the numbers of its two names, the second 0 where it stands alone.
-#[derive(Drop)]
+#[derive(Clone, Copy)]
 pub struct Reference {
     pub ok: bool,
     pub over: bool,
@@ -17,7 +19,7 @@ pub struct Reference {
 }
 
 // The right side of a comparison. `over`: a name is too long or a number beyond 32 bits.
-#[derive(Drop)]
+#[derive(Clone, Copy)]
 pub struct Term {
     pub ok: bool,
     pub over: bool,
@@ -40,7 +42,7 @@ impl Term {
 }
 
 // A comparison: the codes of its terms, and the number or the profile entry on its right.
-#[derive(Drop)]
+#[derive(Clone, Copy)]
 pub struct Comparison {
     pub ok: bool,
     pub over: bool,

@@ -1,4 +1,6 @@
 // Reading a text at a place: runs of bytes, names, numbers and keywords.
+#![tactic(auto)]
+
 ghost use Rattle.std.specs.Prelude.{◌≡◌, false, ◌||◌, ◌+◌, ◌*◌, ◌-◌, ◌≤◌, ◌<◌, min, pos, length, get_or, take, drop};
 ghost use Rattle.syntax.specs.Grammar.{digit, letter, alnum};
 ghost use Rattle.syntax.specs.Limits.{max_name, max_line, max_depth, top};
@@ -7,7 +9,7 @@ ghost use Rattle.text.specs.Words.{class_of, run_end, code_of, name_at, far, num
 ghost use Rattle.text.specs.Keywords.{head_coded, right_coded, kind_coded, WordAt, opened_at, part_at, closes_at, line_open};
 
 // Classes of bytes: letters and digits, digits, and all but spaces and brackets.
-#[derive(Drop)]
+#[derive(Clone, Copy)]
 pub enum Class {
     Alnum,
     Digit,
@@ -15,7 +17,7 @@ pub enum Class {
 }
 
 // A name at a place: a name of at most eight bytes fits a number, so that two names are compared as numbers.
-#[derive(Drop)]
+#[derive(Clone, Copy)]
 pub struct Name {
     pub ok: bool,
     pub long: bool,
@@ -24,7 +26,7 @@ pub struct Name {
 }
 
 // A number at a place, clamped where it is beyond every range.
-#[derive(Drop)]
+#[derive(Clone, Copy)]
 pub struct Number {
     pub ok: bool,
     pub value: i64,
@@ -32,28 +34,28 @@ pub struct Number {
 }
 
 // A number within 32 bits, or that it is beyond.
-#[derive(Drop)]
+#[derive(Clone, Copy)]
 pub struct Kept {
     pub wide: bool,
     pub value: i32,
 }
 
 // A time, or that a number is none.
-#[derive(Drop)]
+#[derive(Clone, Copy)]
 pub struct Time {
     pub beyond: bool,
     pub value: u32,
 }
 
 // A word at a place: its letters as one number, 0 for none that can be a keyword.
-#[derive(Drop)]
+#[derive(Clone, Copy)]
 pub struct Word {
     pub code: u64,
     pub next: usize,
 }
 
 // A line up to its first word: whether it is longer than a line may be, and the place after the word, 0 where it has another.
-#[derive(Drop)]
+#[derive(Clone, Copy)]
 pub struct Line {
     pub long: bool,
     pub at: usize,

@@ -1,4 +1,6 @@
 // Rows by their times: the rows of a stream whose time stands so to a column, or is within two.
+#![tactic(auto)]
+
 ghost use Rattle.std.specs.Prelude.{◌≡◌, ◌≤◌, ◌<◌, ◌*◌, min, pos, length, get_or};
 ghost use Rattle.syntax.specs.Grammar.{eq, lt, gt};
 ghost use Rattle.syntax.specs.Limits.{max_columns, top};

@@ -1,4 +1,6 @@
 // Figures of windows over events in order of time: only windows that have ended and hold an event are visited, and the tally moves with them.
+#![tactic(auto)]
+
 ghost use Rattle.std.specs.Prelude.{◌≡◌, true, false, List, ◌∷◌, [], ℕ, suc, ◌+◌, ◌*◌, ◌^◌, ◌≤◌, ◌<◌, min, max, ℤ, nat_abs, length, get_or};
 ghost use Rattle.std.proofs.lemmas.List.Edits.{sets};
 ghost use Rattle.syntax.specs.Grammar.{Fn, numbered_fn};
@@ -11,7 +13,7 @@ ghost use Rattle.windows.specs.Lent.{events_sound, answers_in, picked_rows, Behi
 use figures::Answer;
 
 // The windows of an aggregate, with its number: window k covers the times from k * offset up to, not including, k * offset + size.
-#[derive(Drop)]
+#[derive(Clone, Copy)]
 pub struct Windows {
     pub number: u32,
     pub clock: u32,
@@ -20,7 +22,7 @@ pub struct Windows {
 }
 
 // A window that has ended, with the place of its first event.
-#[derive(Drop)]
+#[derive(Clone, Copy)]
 pub struct Place {
     pub found: bool,
     pub window: u32,
@@ -28,7 +30,7 @@ pub struct Place {
 }
 
 // Rows of one time: how many, and their least, greatest or summed value.
-#[derive(Drop)]
+#[derive(Clone, Copy)]
 pub struct Event {
     pub time: u32,
     pub count: u32,
@@ -47,14 +49,14 @@ impl Event {
 }
 
 // What an aggregate has seen.
-#[derive(Drop)]
+#[derive(Clone, Copy)]
 pub struct Tally {
     pub count: u32,
     pub part: i64,
 }
 
 // The tally of the events from a place up to, not including, another.
-#[derive(Drop)]
+#[derive(Clone, Copy)]
 pub struct Span {
     pub from: u32,
     pub to: u32,
@@ -62,7 +64,7 @@ pub struct Span {
 }
 
 // Where a run of windows ends: how many answer rows there are, and the span of the last window that was visited.
-#[derive(Drop)]
+#[derive(Clone, Copy)]
 pub struct Visited {
     pub rows: u32,
     pub span: Span,
@@ -376,7 +378,7 @@ fn no_rows() -> Visited
 }
 
 // Windows one after the other that have the same first event, which stands at a place.
-#[derive(Drop)]
+#[derive(Clone, Copy)]
 struct Stretch {
     event: u32,
     first: u32,
