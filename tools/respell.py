@@ -12,7 +12,7 @@ import re
 import sys
 
 TOKEN = re.compile(r"[^\s(){}\[\];,.\"]+")
-DECLARED = re.compile(r"\s*(?:(?:unfoldable|abbrev|pub|data|record|mutual|ruleset)\s+)*((?:(?!(?:use|module|where|unfolding|open|mod|let|in|elim)\b)[^\s(){}\[\];,.\":=λ]+\s+)+?)(?:(?:\{[^}]*\}|\([^)]*\))\s*)*:\s")
+DECLARED = re.compile(r"\s*(?:(?:unfoldable|abbrev|pub|data|record|mutual|ruleset)\s+)*((?:(?!(?:use|module|where|unfolding|open|mod|let|in|elim)\s)[^\s(){}\[\];,.\":=λ]+\s+)+?)(?:(?:\{[^}]*\}|\([^)]*\))\s*)*:\s")
 NAMED = re.compile(r"\s*(?:pub )?(?:data|record|ruleset) (\S+)")
 USE = re.compile(r"(?:ghost )?use ([^\s{]+)\.\{(.*)\}")
 # Functions of the library, of which a lemma here would have the name.

@@ -30,7 +30,7 @@ use Rattle.openings.specs.Made.{sides_kind}
 use Rattle.routes.specs.declared.Open.{Open}
 use Rattle.routes.specs.declared.Route as R
 use Rattle.routes.specs.Opening.{caller_in}
-use Rattle.routes.specs.Listing.{open-all, routes_in, numbers_of}
+use Rattle.routes.specs.Listing.{open_all, routes_in, numbers_of}
 use Rattle.plan.specs.Plans.{planned}
 use Rattle.sides.specs.Sides.{words_of}
 use Rattle.pairs.specs.Given.{plan_rows}
@@ -58,7 +58,7 @@ module _ (m : Memory) (safe : T (memory_sound m)) (ws own roles profile : List â
   n = needs_of m.names (query_in (words_of own ws profile) fs)
 
   abbrev o : Open
-  o = open-all n ws roles profile gs
+  o = open_all n ws roles profile gs
 
   abbrev who : M.Caller
   who = caller_in roles profile

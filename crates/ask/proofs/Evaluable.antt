@@ -25,7 +25,7 @@ use Rattle.needs.specs.declared.Needs.{Needs}
 use Rattle.needs.proofs.Fields.{streams_are}
 use Rattle.routes.specs.declared.Open.{Open}
 use Rattle.routes.specs.declared.Route as R
-use Rattle.routes.specs.Listing.{open-all}
+use Rattle.routes.specs.Listing.{open_all}
 use Rattle.plan.specs.declared.Plan.{Plan}
 use Rattle.plan.specs.Plans.{plan_streams}
 use Rattle.sides.specs.Sides.{words_of}
@@ -61,7 +61,7 @@ module _ (m : Memory) (safe : T (memory_sound m)) (ws own roles profile : List â
   n = needs_of m.names q
 
   abbrev o : Open
-  o = open-all n ws roles profile gs
+  o = open_all n ws roles profile gs
 
   abbrev s : Setting
   s = record { memory = m; own = own; granted = ws; profile = profile; forms = fs }
@@ -135,7 +135,7 @@ module _ (m : Memory) (safe : T (memory_sound m)) (ws own roles profile : List â
     evaluable : Evaluable s (most_cells n m.names l) (way_of o n y)
     evaluable = record { suits = k.suits; few = let a = few in let b = long in omega arith }
 
-  pub routes_ready : Ready (record { memory = m; own = own; granted = ws; profile = profile; forms = fs }) (open-all (needs_of m.names (query_in (words_of own ws profile) fs)) ws roles profile gs) (needs_of m.names (query_in (words_of own ws profile) fs))
+  pub routes_ready : Ready (record { memory = m; own = own; granted = ws; profile = profile; forms = fs }) (open_all (needs_of m.names (query_in (words_of own ws profile) fs)) ws roles profile gs) (needs_of m.names (query_in (words_of own ws profile) fs))
   routes_ready =
       let h = all_evaluates m safe ws own roles profile fs c gs lawful z e in
       record { spans = spans_some m safe ws own roles profile fs c gs lawful z e; each = all_weaken evaluable h; small = all_weaken small h }

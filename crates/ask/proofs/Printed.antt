@@ -33,7 +33,7 @@ use Rattle.needs.specs.declared.Needs.{Needs}
 use Rattle.routes.specs.declared.Open.{Open}
 use Rattle.routes.specs.declared.Route as R
 use Rattle.routes.specs.Opening.{caller_in}
-use Rattle.routes.specs.Listing.{no_route, open-all, routes_in}
+use Rattle.routes.specs.Listing.{no_route, open_all, routes_in}
 use Rattle.routes.proofs.Agreed.{all_unmap}
 use Rattle.sides.specs.Sides.{words_of}
 use Rattle.print.specs.Writing.{furthest}
@@ -74,7 +74,7 @@ module _ (m : Memory) (safe : T (memory_sound m)) (ws own roles profile : List â
   n = needs_of m.names (query_in (words_of own ws profile) fs)
 
   abbrev o : Open
-  o = open-all n ws roles profile gs
+  o = open_all n ws roles profile gs
 
   abbrev who : M.Caller
   who = caller_in roles profile

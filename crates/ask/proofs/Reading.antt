@@ -137,23 +137,23 @@ module _ {M : Type 1} {𝓤 : Ura M} (𝓛 : Logic 𝓤) (mem : Memory → SProp
   wants_said t n = ex_e 𝓤 _ (λ zs. snd∗ 𝓤 (sem 𝓛 (lasts wants.ended tt (t, tt) zs)) (fact 𝓤 (n ≡ t.needs)))
 
   -- the call of `open_all`
-  abbrev pub open-args : Needs → Bor (List Grant) × (Needs × (Bor (List ℕ) × (Bor (List ℕ) × (Caller × Unit {0}))))
-  open-args n = (gs, (n, (ns, (ws, (who, tt)))))
+  abbrev pub open_args : Needs → Bor (List Grant) × (Needs × (Bor (List ℕ) × (Bor (List ℕ) × (Caller × Unit {0}))))
+  open_args n = (gs, (n, (ns, (ws, (who, tt)))))
 
-  abbrev pub open-vals : Val → Vals opens.signature (κ₀, (κ₂, (κ₁, tt)))
-  open-vals u = (gsv ∷ [], (u ∷ [], (nsv ∷ [], (wsv ∷ [], (cv ∷ [], tt)))))
+  abbrev pub open_vals : Val → Vals opens.signature (κ₀, (κ₂, (κ₁, tt)))
+  open_vals u = (gsv ∷ [], (u ∷ [], (nsv ∷ [], (wsv ∷ [], (cv ∷ [], tt)))))
 
   abbrev pub to_open : Needs → Val → (Open 𝓛 mem run).Ghost
-  to_open n u = (((κ₀, (κ₂, (κ₁, tt))), (q₀, (q₂, (q₁, tt))), tt, open-args n, open-vals u), tt)
+  to_open n u = (((κ₀, (κ₂, (κ₁, tt))), (q₀, (q₂, (q₁, tt))), tt, open_args n, open_vals u), tt)
 
-  abbrev pub open-toks : Item 𝓤
-  open-toks = ‵ (flft κ₀ q₀) ⊛ ‵ (flft κ₂ q₂) ⊛ ‵ (flft κ₁ q₁) ⊛ ‵ ftrue
+  abbrev pub open_toks : Item 𝓤
+  open_toks = ‵ (flft κ₀ q₀) ⊛ ‵ (flft κ₂ q₂) ⊛ ‵ (flft κ₁ q₁) ⊛ ‵ ftrue
 
-  asks_open : (n : Needs) (u : Val) → ent 𝓤 (⋆ 𝓛 (open-toks ∷ ‵ (owns (ShrSlice (named 0) κ₀ T.the_row ∷ goal.the_row ∷ ShrSlice (named 1) κ₂ u64 ∷ ShrSlice (named 2) κ₁ u32 ∷ P.the_row ∷ []) (open-args n) (open-vals u)) ∷ [])) ((Open 𝓛 mem run).pre (to_open n u))
-  asks_open n u = qed 𝓛 (open-toks ∷ ‵ (owns (ShrSlice (named 0) κ₀ T.the_row ∷ goal.the_row ∷ ShrSlice (named 1) κ₂ u64 ∷ ShrSlice (named 2) κ₁ u32 ∷ P.the_row ∷ []) (open-args n) (open-vals u)) ∷ []) ∵ join ! $ frame ! $ done !
+  asks_open : (n : Needs) (u : Val) → ent 𝓤 (⋆ 𝓛 (open_toks ∷ ‵ (owns (ShrSlice (named 0) κ₀ T.the_row ∷ goal.the_row ∷ ShrSlice (named 1) κ₂ u64 ∷ ShrSlice (named 2) κ₁ u32 ∷ P.the_row ∷ []) (open_args n) (open_vals u)) ∷ [])) ((Open 𝓛 mem run).pre (to_open n u))
+  asks_open n u = qed 𝓛 (open_toks ∷ ‵ (owns (ShrSlice (named 0) κ₀ T.the_row ∷ goal.the_row ∷ ShrSlice (named 1) κ₂ u64 ∷ ShrSlice (named 2) κ₁ u32 ∷ P.the_row ∷ []) (open_args n) (open_vals u)) ∷ []) ∵ join ! $ frame ! $ done !
 
   pub goes_open : (n : Needs) (u : Val) → Is goal.the_row n (u ∷ []) → ent 𝓤 (⋆ 𝓛 (‵ (flft κ₀ q₀) ∷ ‵ (flft κ₂ q₂) ∷ ‵ (flft κ₁ q₁) ∷ ‵ O_gs ∷ ‵ O_ns ∷ ‵ O_ws ∷ [])) (⋆ 𝓛 (raw ((Open 𝓛 mem run).pre (to_open n u)) ∷ ‵ O_gs ∷ ‵ O_ns ∷ ‵ O_ws ∷ []))
   goes_open n u isn = qed 𝓛 (‵ (flft κ₀ q₀) ∷ ‵ (flft κ₂ q₂) ∷ ‵ (flft κ₁ q₁) ∷ ‵ O_gs ∷ ‵ O_ns ∷ ‵ O_ws ∷ []) ∵ move ! (3 ∷ []) $ use1 𝓛 (‵ O_gs ⊛ ‵ O_gs) ((shr_slice_copy 𝓛 (named 0) κ₀ T.the_row).twice gs (gsv ∷ [])) $ split ! $ move ! (5 ∷ []) $ use1 𝓛 (‵ O_ns ⊛ ‵ O_ns) ((shr_slice_copy 𝓛 (named 2) κ₂ u64).twice ns (nsv ∷ [])) $ split ! $ move ! (7 ∷ []) $ use1 𝓛 (‵ O_ws ⊛ ‵ O_ws) ((shr_slice_copy 𝓛 (named 1) κ₁ u32).twice ws (wsv ∷ [])) $ split ! $ nothing ! $ owned ! P.the_row (Is P.the_row) (LL.makes P.the_type P'.the_plain 𝓛) who _ isw $ fjoin ! $ move ! (1 ∷ 0 ∷ []) $ fjoin ! $ move ! (2 ∷ 0 ∷ []) $ fjoin ! $ owned ! goal.the_row (Is goal.the_row) (LL.makes goal.the_type N'.the_plain 𝓛) n _ isn $ fjoin ! $ move ! (3 ∷ 0 ∷ []) $ fjoin ! $ nothing ! $ move ! (7 ∷ 0 ∷ []) $ join ! $ move ! (6 ∷ 0 ∷ []) $ join ! $ move ! (5 ∷ 0 ∷ []) $ join ! $ use2 𝓛 (raw ((Open 𝓛 mem run).pre (to_open n u))) (asks_open n u) $ move ! (0 ∷ 3 ∷ 2 ∷ 1 ∷ []) $ frame ! $ frame ! $ frame ! $ done !
 
-  pub open_said : (n : Needs) (x : Opened) → ent 𝓤 (ensured 𝓛 opens.ended (opens.clauses 𝓛 mem run) (κ₀, (κ₂, (κ₁, tt))) (open-args n) tt x) (fact 𝓤 (x ≡ opened_in n ns.now gs.now ws.now (roles_of who) (profile_of who)))
-  open_said n x = ex_e 𝓤 _ (λ zs. snd∗ 𝓤 (sem 𝓛 (lasts opens.ended (κ₀, (κ₂, (κ₁, tt))) (open-args n) zs)) (fact 𝓤 (x ≡ opened_in n ns.now gs.now ws.now (roles_of who) (profile_of who))))
+  pub open_said : (n : Needs) (x : Opened) → ent 𝓤 (ensured 𝓛 opens.ended (opens.clauses 𝓛 mem run) (κ₀, (κ₂, (κ₁, tt))) (open_args n) tt x) (fact 𝓤 (x ≡ opened_in n ns.now gs.now ws.now (roles_of who) (profile_of who)))
+  open_said n x = ex_e 𝓤 _ (λ zs. snd∗ 𝓤 (sem 𝓛 (lasts opens.ended (κ₀, (κ₂, (κ₁, tt))) (open_args n) zs)) (fact 𝓤 (x ≡ opened_in n ns.now gs.now ws.now (roles_of who) (profile_of who))))

@@ -38,7 +38,7 @@ use Rattle.needs.specs.Asking.{needs_in, needs_of}
 use Rattle.needs.specs.declared.Needs.{Needs}
 use Rattle.routes.specs.declared.Open.{Open}
 use Rattle.routes.specs.Opening.{caller_in}
-use Rattle.routes.specs.Listing.{open-all, routes_in}
+use Rattle.routes.specs.Listing.{open_all, routes_in}
 use Rattle.sides.specs.Sides.{words_of}
 use Rattle.catalogue.specs.Callers.{roles_of, profile_of}
 use Rattle.catalogue.specs.Opened.{blank, opened_in}
@@ -91,7 +91,7 @@ module _ (m : Memory) (ws : List ℕ) (who : Caller) (t : Told) {x : Opened} (fo
   n = needs_of ns (query_in w fs)
 
   abbrev o : Open
-  o = open-all n ws roles profile gs
+  o = open_all n ws roles profile gs
 
   held : caller_in roles profile ≡ caller_of who
   held = caller_held who p.caller
@@ -107,7 +107,7 @@ module _ (m : Memory) (ws : List ℕ) (who : Caller) (t : Told) {x : Opened} (fo
 
   opens_are : o ≡ x.opens
   unfolding opened_in
-  opens_are = ap (λ k. open-all k ws roles profile gs) needs_are ∙ sym (ap (λ (y : Opened). y.opens) opened)
+  opens_are = ap (λ k. open_all k ws roles profile gs) needs_are ∙ sym (ap (λ (y : Opened). y.opens) opened)
 
   -- a statement on the grants that are opened for the query, and on what it asks
   by_query : (P : Open → Needs → Type 0) → P o n → P x.opens t.needs

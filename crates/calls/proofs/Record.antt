@@ -236,9 +236,9 @@ calls_of (query ∷ es) = calls_of es
 kept_from : (f : Fixture) (es : List Event) → (happened_from f es).record_kept ≡ replay f.record_kept (calls_of es)
 unfolding happened_from happen calls_of replay
 kept_from f [] = refl
-kept_from f (call c ∷ es) = kept_from _ es
-kept_from f (grant bs ∷ es) = kept_from _ es
-kept_from f (caller bs ∷ es) = kept_from _ es
+kept_from f (call c ∷ es) = kept_from (happen f (call c)) es
+kept_from f (grant bs ∷ es) = kept_from (happen f (grant bs)) es
+kept_from f (caller bs ∷ es) = kept_from (happen f (caller bs)) es
 kept_from f (query ∷ es) = kept_from f es
 
 -- grant, caller, ask and line calls in between change none of this

@@ -153,9 +153,24 @@ window_valid (G.figures f) (some w) t u =
 
 nine : (a b c d e f g h i : Bool) → T a → T b → T c → T d → T e → T f → T g → T h → T i → T (a && b && c && d && e && f && g && h && i)
 nine true true true true true true true true true p q r s t u v w x = tt
+nine false b c d e f g h i p q r s t u v w x = elim p [ ]
+nine true false c d e f g h i p q r s t u v w x = elim q [ ]
+nine true true false d e f g h i p q r s t u v w x = elim r [ ]
+nine true true true false e f g h i p q r s t u v w x = elim s [ ]
+nine true true true true false f g h i p q r s t u v w x = elim t [ ]
+nine true true true true true false g h i p q r s t u v w x = elim u [ ]
+nine true true true true true true false h i p q r s t u v w x = elim v [ ]
+nine true true true true true true true false i p q r s t u v w x = elim w [ ]
+nine true true true true true true true true false p q r s t u v w x = elim x [ ]
 
 six : (a b c d e f : Bool) → T a → T b → T c → T d → T e → T f → T (a && b && c && d && e && f)
 six true true true true true true p q r s t u = tt
+six false b c d e f p q r s t u = elim p [ ]
+six true false c d e f p q r s t u = elim q [ ]
+six true true false d e f p q r s t u = elim r [ ]
+six true true true false e f p q r s t u = elim s [ ]
+six true true true true false f p q r s t u = elim t [ ]
+six true true true true true false p q r s t u = elim u [ ]
 
 pass_bounds : (g : GrantLine) → T (grant_bounded g) → T (short g.role) × T (every cond_bounded g.when) × T (is_limit g.from) × T (is_limit g.to) × T (is_span g.window)
 unfolding grant_bounded

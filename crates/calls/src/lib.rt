@@ -1,3 +1,2 @@
 // Definitions of the calls and of their refusals: see specs/.
 #![tactic(auto)]
-

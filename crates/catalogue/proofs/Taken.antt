@@ -17,7 +17,7 @@ use Rattle.grant.specs.declared.Grant.{Grant}
 use Rattle.needs.specs.declared.Needs.{Needs}
 use Rattle.routes.specs.declared.Open.{Open}
 use Rattle.routes.specs.Opening.{belongs_in, opened_bits}
-use Rattle.routes.specs.Listing.{none_open, with_opened, caller_bits, open-from, open-all}
+use Rattle.routes.specs.Listing.{none_open, with_opened, caller_bits, open_from, open_all}
 use Rattle.catalogue.specs.declared.Opened.{Opened}
 use Rattle.catalogue.specs.Opened.{blank, opened_in, none_opened, with_bits, opened_with}
 
@@ -91,7 +91,7 @@ module _ (n : Needs) (ns : List ℕ) (gs : List Grant) (ws roles profile : List 
 
   -- the others after them
   abbrev and_then : Opened → ℕ → List Grant → Opened
-  and_then o i hs = record { opens = open-from n ws roles profile i hs o.opens; sound = o.sound && sound_from ns ws i hs }
+  and_then o i hs = record { opens = open_from n ws roles profile i hs o.opens; sound = o.sound && sound_from ns ws i hs }
 
   pub taken_none : none_opened (length gs) (length ws) ≡ taken 0
   unfolding taken
@@ -102,20 +102,20 @@ module _ (n : Needs) (ns : List ℕ) (gs : List Grant) (ws roles profile : List 
   taken_more k = refl
 
   and_next : (o : Opened) (i : ℕ) (g : Grant) (hs : List Grant) → and_then (opened_with o n i g ns ws roles profile) (suc i) hs ≡ and_then o i (g ∷ hs)
-  unfolding opened_with with_bits open-from sound_from
+  unfolding opened_with with_bits open_from sound_from
   and_next o i g hs =
-      ap (λ (b : Bool). record { opens = open-from n ws roles profile (suc i) hs (with_opened o.opens i (caller_bits n g (words_in ws i) roles profile) g); sound = b })
+      ap (λ (b : Bool). record { opens = open_from n ws roles profile (suc i) hs (with_opened o.opens i (caller_bits n g (words_in ws i) roles profile) g); sound = b })
       (and_assoc o.sound (grant_sound ns g (words_in ws i)) (sound_from ns ws (suc i) hs))
 
   all_taken : (k : ℕ) → k ≤ length gs → and_then (taken k) k (drop k gs) ≡ opened_in n ns gs ws roles profile
-  unfolding taken opened_in none_opened open-all catalogue_sound
+  unfolding taken opened_in none_opened open_all catalogue_sound
   all_taken zero h = refl
   all_taken (suc k) h =
       and_next (taken k) k (get_or gs k blank) (drop (suc k) gs) ∙ ap (and_then (taken k) k) (sym (drop-cons gs k blank (omega arith))) ∙ all_taken k (omega arith)
 
   -- past the last place nothing is opened
-  none_past : (i : ℕ) (hs : List Grant) (o : Open) → max_grants ≤ i → open-from n ws roles profile i hs o ≡ o
-  unfolding open-from with_opened
+  none_past : (i : ℕ) (hs : List Grant) (o : Open) → max_grants ≤ i → open_from n ws roles profile i hs o ≡ o
+  unfolding open_from with_opened
   none_past i [] o h = refl
   none_past i (g ∷ hs) o h = rw (le-ltb i max_grants h) (none_past (suc i) hs o (omega arith))
 
@@ -126,7 +126,7 @@ module _ (n : Needs) (ns : List ℕ) (gs : List Grant) (ws roles profile : List 
   too_many (suc k) h = rw (too_many k h)
 
   none_after : (o : Opened) (i : ℕ) → o ≡ and_then o i []
-  unfolding open-from sound_from
+  unfolding open_from sound_from
   none_after o i = ap (λ (s : Bool). record { opens = o.opens; sound = s }) (sym (and_true o.sound))
 
   pub taken_all : (k : ℕ) → k ≡ min (length gs) max_grants → taken k ≡ opened_in n ns gs ws roles profile

@@ -5,7 +5,7 @@ use Rattle.grant.specs.Grants.{grant_sound}
 use Rattle.grant.specs.Catalogues.{catalogue_words, words_in, catalogue_sound}
 use Rattle.grant.specs.declared.Grant.{Grant}
 use Rattle.needs.specs.declared.Needs.{Needs}
-use Rattle.routes.specs.Listing.{none_open, with_opened, caller_bits, open-all}
+use Rattle.routes.specs.Listing.{none_open, with_opened, caller_bits, open_all}
 use Rattle.catalogue.specs.declared.Opened.{Opened}
 
 -- the grant past the last
@@ -14,7 +14,7 @@ blank = record { role = 0; right = 0; count = 0; streams = replicate max_streams
 
 -- all grants of a catalogue
 unfoldable pub opened_in : Needs → List ℕ → List Grant → List ℕ → List ℕ → List ℕ → Opened
-opened_in n ns gs ws roles profile = record { opens = open-all n ws roles profile gs; sound = catalogue_sound ns gs ws }
+opened_in n ns gs ws roles profile = record { opens = open_all n ws roles profile gs; sound = catalogue_sound ns gs ws }
 
 -- none yet, of so many with so many words
 unfoldable pub none_opened : ℕ → ℕ → Opened

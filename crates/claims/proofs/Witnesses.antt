@@ -141,8 +141,8 @@ unfolding scripts_compute recorded streams unit
 nine_leaves = (refl, refl)
 
 -- Two units of different voltage, at time 9: no sum is admitted yet, and nothing tells them apart.
-pub open-alike : Alike (after (until (pos 30) (pos 9))) (after (until (pos 31) (pos 9))) fitter (granted (bytes "(grant fitter sum (of test) (show test.volts) (window 10 10))"))
-open-alike = let (p, q) = nine_leaves in rw (p, q, sums_granted) sums_alike
+pub open_alike : Alike (after (until (pos 30) (pos 9))) (after (until (pos 31) (pos 9))) fitter (granted (bytes "(grant fitter sum (of test) (show test.volts) (window 10 10))"))
+open_alike = let (p, q) = nine_leaves in rw (p, q, sums_granted) sums_alike
 
 ten_leaves : (after (until (pos 30) (pos 10)) ≡ recorded 10 (unit 0 7 30 ∷ [])) × (after (until (pos 31) (pos 10)) ≡ recorded 10 (unit 0 7 31 ∷ []))
 unfolding scripts_compute recorded streams unit

@@ -1,3 +1,2 @@
 // What the definitions promise: see proofs/Claims.antt.
 #![tactic(auto)]
-

@@ -28,30 +28,30 @@ module _ (ws : List ℕ) where
     unfolding compared_in
     in_step f k h = let e = lt-ltb stop k h in rw (e, compared_in)
 
-    in-stop : (f k : ℕ) → k ≤ stop → compared_in f ws stop k ≡ []
+    in_stop : (f k : ℕ) → k ≤ stop → compared_in f ws stop k ≡ []
     unfolding compared_in
-    in-stop zero k h = refl
-    in-stop (suc f) k h = let e = le-ltb stop k h in rw (e, compared_in)
+    in_stop zero k h = refl
+    in_stop (suc f) k h = let e = le-ltb stop k h in rw (e, compared_in)
 
-    in-fuel : (f g k : ℕ) → k < f → k < g → compared_in f ws stop k ≡ compared_in g ws stop k
-    in-fuel zero g k h l = absurd (omega arith)
-    in-fuel (suc f) zero k h l = absurd (omega arith)
-    in-fuel (suc f) (suc g) k h l = go (dec_lt stop k) (λ m. in-fuel f g (prior ws k) (let r = prior_falls ws k (omega arith) in omega arith) (let r = prior_falls ws k (omega arith) in omega arith))
+    in_fuel : (f g k : ℕ) → k < f → k < g → compared_in f ws stop k ≡ compared_in g ws stop k
+    in_fuel zero g k h l = absurd (omega arith)
+    in_fuel (suc f) zero k h l = absurd (omega arith)
+    in_fuel (suc f) (suc g) k h l = go (dec_lt stop k) (λ m. in_fuel f g (prior ws k) (let r = prior_falls ws k (omega arith) in omega arith) (let r = prior_falls ws k (omega arith) in omega arith))
       where
         go : Dec (stop < k) → (stop < k → compared_in f ws stop (prior ws k) ≡ compared_in g ws stop (prior ws k)) → compared_in (suc f) ws stop k ≡ compared_in (suc g) ws stop k
         go (yes m) i = in_step f k m ∙ ap (λ l. l ++ own_compare (node_at ws k)) (i m) ∙ sym (in_step g k m)
-        go (no m) i = in-stop (suc f) k (omega arith) ∙ sym (in-stop (suc g) k (omega arith))
+        go (no m) i = in_stop (suc f) k (omega arith) ∙ sym (in_stop (suc g) k (omega arith))
 
     -- the comparisons down to a stop: those before a node, and its own
     pub compared_on : (k : ℕ) → stop < k → compared ws stop k ≡ compared ws stop (prior ws k) ++ own_compare (node_at ws k)
     unfolding compared
     compared_on k h =
         let r = prior_falls ws k (omega arith) in
-        in_step k k h ∙ ap (λ l. l ++ own_compare (node_at ws k)) (in-fuel k (suc (prior ws k)) (prior ws k) (omega arith) (omega arith))
+        in_step k k h ∙ ap (λ l. l ++ own_compare (node_at ws k)) (in_fuel k (suc (prior ws k)) (prior ws k) (omega arith) (omega arith))
 
     pub compared_off : (k : ℕ) → k ≤ stop → compared ws stop k ≡ []
     unfolding compared
-    compared_off k h = in-stop (suc k) k h
+    compared_off k h = in_stop (suc k) k h
 
   -- ---- places that are not lent
 

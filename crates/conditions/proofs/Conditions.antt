@@ -47,8 +47,8 @@ unfolding nodes_of map_cond size tests cond_depth store
 around_not ks = record { words = λ a. refl; inner = λ a. refl; depth = λ a. refl; put = λ a b ws. refl }
 
 -- counts are at most 256
-pub in-few : {A : Type 0} {ks : List ℕ} {k : Kind A} {s : Bytes} {b level : ℕ} {o : Option (Read A)} {ws ws' : List ℕ} {r : Seen} → ReadIn ks k s b level o ws ws' r → r.count ≤ 256
-in-few {ks} {k} {s} {b} {level} {o} j = told_few ks k s b level o j.is
+pub in_few : {A : Type 0} {ks : List ℕ} {k : Kind A} {s : Bytes} {b level : ℕ} {o : Option (Read A)} {ws ws' : List ℕ} {r : Seen} → ReadIn ks k s b level o ws ws' r → r.count ≤ 256
+in_few {ks} {k} {s} {b} {level} {o} j = told_few ks k s b level o j.is
 
 -- after a space there is a place
 pub space_next : (s : Bytes) (p : ℕ) {x : ℕ} → x ≡ get_or s p 0 → x ≡ 32 → length s ≤ 512 → Fits w64 (p + 1)

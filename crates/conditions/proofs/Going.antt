@@ -92,27 +92,27 @@ before_last d [] c = refl
 before_last d (e ∷ ds) c = ap (more d) (before_last e ds c)
 
 -- with some conditions in front
-abbrev pub in-front : List (Cond Test) → Read (Conds Test) → Option (Read (Conds Test))
-in-front ds cs = some (record { what = before ds cs.what; left = cs.left })
+abbrev pub in_front : List (Cond Test) → Read (Conds Test) → Option (Read (Conds Test))
+in_front ds cs = some (record { what = before ds cs.what; left = cs.left })
 
 unfoldable pub going : List (Cond Test) → Reader (Conds Test)
 going [] bs = any_conds bs
 going (d ∷ ds) [] = none
-going (d ∷ ds) (x ∷ xs) = cond (eqb 32 x) (bind (any_conds (x ∷ xs)) (in-front (d ∷ ds))) (some (record { what = conds_of d ds; left = x ∷ xs }))
+going (d ∷ ds) (x ∷ xs) = cond (eqb 32 x) (bind (any_conds (x ∷ xs)) (in_front (d ∷ ds))) (some (record { what = conds_of d ds; left = x ∷ xs }))
 
 going_one : (c : Cond Test) (l : Bytes) → read_more any_conds c l ≡ going (c ∷ []) l
 unfolding read_more going before conds_of
 going_one c [] = refl
 going_one c (x ∷ xs) = refl
 
-going_more : (d : Cond Test) (ds : List (Cond Test)) (c : Cond Test) (l : Bytes) → bind (read_more any_conds c l) (in-front (d ∷ ds)) ≡ going (d ∷ (ds ++ (c ∷ []))) l
+going_more : (d : Cond Test) (ds : List (Cond Test)) (c : Cond Test) (l : Bytes) → bind (read_more any_conds c l) (in_front (d ∷ ds)) ≡ going (d ∷ (ds ++ (c ∷ []))) l
 unfolding read_more going bind
 going_more d ds c [] = refl
 going_more d ds c (x ∷ xs) = go (eqb 32 x) (any_conds (x ∷ xs))
   where
     go : (t : Bool) (o : Option (Read (Conds Test)))
-        → bind (cond t (bind o (λ cs. some (record { what = more c cs.what; left = cs.left }))) (some (record { what = last c; left = x ∷ xs }))) (in-front (d ∷ ds))
-        ≡ cond t (bind o (in-front (d ∷ (ds ++ (c ∷ []))))) (some (record { what = conds_of d (ds ++ (c ∷ [])); left = x ∷ xs }))
+        → bind (cond t (bind o (λ cs. some (record { what = more c cs.what; left = cs.left }))) (some (record { what = last c; left = x ∷ xs }))) (in_front (d ∷ ds))
+        ≡ cond t (bind o (in_front (d ∷ (ds ++ (c ∷ []))))) (some (record { what = conds_of d (ds ++ (c ∷ [])); left = x ∷ xs }))
     go true none = refl
     go true (some cs) = ap (λ y. some (record { what = y; left = cs.left })) (before_more (d ∷ ds) c cs.what)
     go false o = ap (λ y. some (record { what = y; left = x ∷ xs })) (before_last d ds c)
@@ -124,14 +124,14 @@ module _ (s : Bytes) (p : ℕ) (l : p < length s) where
     going_on [] c e = conds_step (drop p s) ∙ rw (space_is s p refl z, e) (going_one c.what c.left)
     going_on (d ∷ ds) c e =
         let q : any_conds (drop p s) ≡ read_more any_conds c.what c.left = conds_step (drop p s) ∙ rw (space_is s p refl z, e) in
-        rw (byte_here s p l z) (ap (λ o. bind o (in-front (d ∷ ds))) (ap any_conds (sym (byte_here s p l z)) ∙ q) ∙ going_more d ds c.what c.left)
+        rw (byte_here s p l z) (ap (λ o. bind o (in_front (d ∷ ds))) (ap any_conds (sym (byte_here s p l z)) ∙ q) ∙ going_more d ds c.what c.left)
 
     going_none : (ds : List (Cond Test)) → any_cond (drop (p + 1) s) ≡ none → going ds (drop p s) ≡ none
     unfolding going bind
     going_none [] e = conds_step (drop p s) ∙ rw (space_is s p refl z, e)
     going_none (d ∷ ds) e =
         let q : any_conds (drop p s) ≡ none = conds_step (drop p s) ∙ rw (space_is s p refl z, e) in
-        rw (byte_here s p l z) (ap (λ o. bind o (in-front (d ∷ ds))) (ap any_conds (sym (byte_here s p l z)) ∙ q))
+        rw (byte_here s p l z) (ap (λ o. bind o (in_front (d ∷ ds))) (ap any_conds (sym (byte_here s p l z)) ∙ q))
 
   going_end : (d : Cond Test) (ds : List (Cond Test)) → (get_or s p 0 ≡ 32 → ⊥) → going (d ∷ ds) (drop p s) ≡ some (record { what = conds_of d ds; left = drop p s })
   unfolding going

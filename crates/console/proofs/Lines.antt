@@ -10,7 +10,7 @@ use lib.Seq.{drop-cons}
 use borrow.Author.Tests.{eq-eqb, ne_eqb}
 use Rattle.lists.proofs.Laws.{append_nil}
 use Rattle.syntax.specs.Grammar.{Bytes}
-use Rattle.console.specs.Lines.{in-front, lines_of, line_end, Ends, ended, begun, closing}
+use Rattle.console.specs.Lines.{in_front, lines_of, line_end, Ends, ended, begun, closing}
 
 -- ---- a loop that looks for it
 
@@ -46,8 +46,8 @@ pub ruleset ahead_ends = (ahead_start, ahead_more, ahead_here, ahead_none)
 
 -- ---- the lines of a text
 
-front_lines : (b : ℕ) (l : Bytes) (ls ms : List Bytes) → ms ≡ l ∷ ls → in-front b ms ≡ (b ∷ l) ∷ ls
-unfolding in-front
+front_lines : (b : ℕ) (l : Bytes) (ls ms : List Bytes) → ms ≡ l ∷ ls → in_front b ms ≡ (b ∷ l) ∷ ls
+unfolding in_front
 front_lines b l ls ms e = rw e
 
 -- where there is a line feed, the bytes before it are the first line, and those after it hold the others
@@ -58,13 +58,13 @@ line_cut (b ∷ bs) h = go (eqb b 10) h (line_cut bs)
   where
     go : (c : Bool) → cond c 0 (suc (line_end bs)) < suc (length bs)
         → (line_end bs < length bs → lines_of bs ≡ take (line_end bs) bs ∷ lines_of (drop (line_end bs + 1) bs))
-        → cond c ([] ∷ lines_of bs) (in-front b (lines_of bs)) ≡ take (cond c 0 (suc (line_end bs))) (b ∷ bs) ∷ lines_of (drop (cond c 0 (suc (line_end bs)) + 1) (b ∷ bs))
+        → cond c ([] ∷ lines_of bs) (in_front b (lines_of bs)) ≡ take (cond c 0 (suc (line_end bs))) (b ∷ bs) ∷ lines_of (drop (cond c 0 (suc (line_end bs)) + 1) (b ∷ bs))
     go true k i = refl
     go false k i = let f : suc (line_end bs) + 1 ≡ suc (line_end bs + 1) = omega arith in front_lines b (take (line_end bs) bs) (lines_of (drop (line_end bs + 1) bs)) (lines_of bs) (i (omega arith)) ∙ rw f
 
 -- where there is none, all of it is the last line
 pub line_rest : (b : ℕ) (bs : Bytes) → length (b ∷ bs) ≤ line_end (b ∷ bs) → lines_of (b ∷ bs) ≡ (b ∷ bs) ∷ []
-unfolding line_end lines_of in-front
+unfolding line_end lines_of in_front
 line_rest b [] h = go (eqb b 10) h
   where
     go : (c : Bool) → 1 ≤ cond c 0 1 → cond c ([] ∷ []) ((b ∷ []) ∷ []) ≡ (b ∷ []) ∷ []
@@ -74,7 +74,7 @@ line_rest b (d ∷ bs) h = go (eqb b 10) h (line_rest d bs)
   where
     go : (c : Bool) → suc (suc (length bs)) ≤ cond c 0 (suc (line_end (d ∷ bs)))
         → (suc (length bs) ≤ line_end (d ∷ bs) → lines_of (d ∷ bs) ≡ (d ∷ bs) ∷ [])
-        → cond c ([] ∷ lines_of (d ∷ bs)) (in-front b (lines_of (d ∷ bs))) ≡ (b ∷ d ∷ bs) ∷ []
+        → cond c ([] ∷ lines_of (d ∷ bs)) (in_front b (lines_of (d ∷ bs))) ≡ (b ∷ d ∷ bs) ∷ []
     go true k i = absurd (omega arith)
     go false k i = front_lines b (d ∷ bs) [] (lines_of (d ∷ bs)) (i (omega arith))
 
@@ -152,8 +152,8 @@ before_first : (w : Bytes) (ls : List Bytes) → before w ([] ∷ ls) ≡ w ∷ 
 before_first [] ls = refl
 before_first (a ∷ w) ls = ap (λ (m : Bytes). m ∷ ls) (append_nil (a ∷ w))
 
-before_front : (w : Bytes) (b : ℕ) (ls : List Bytes) → before w (in-front b ls) ≡ before (w ++ (b ∷ [])) ls
-unfolding in-front
+before_front : (w : Bytes) (b : ℕ) (ls : List Bytes) → before w (in_front b ls) ≡ before (w ++ (b ∷ [])) ls
+unfolding in_front
 before_front [] b [] = refl
 before_front (a ∷ w) b [] = refl
 before_front [] b (l ∷ ls) = refl
@@ -165,7 +165,7 @@ lines_from [] [] = refl
 lines_from (b ∷ w) [] = refl
 lines_from w (b ∷ bs) = go (eqb b 10) (λ v. lines_from v bs)
   where
-    go : (c : Bool) → ((v : Bytes) → before v (lines_of bs) ≡ ended v (bs ++ closing (begun v bs))) → before w (cond c ([] ∷ lines_of bs) (in-front b (lines_of bs)))
+    go : (c : Bool) → ((v : Bytes) → before v (lines_of bs) ≡ ended v (bs ++ closing (begun v bs))) → before w (cond c ([] ∷ lines_of bs) (in_front b (lines_of bs)))
         ≡ cond c (w ∷ ended [] (bs ++ closing (cond c (begun [] bs) (begun (w ++ (b ∷ [])) bs)))) (ended (w ++ (b ∷ [])) (bs ++ closing (cond c (begun [] bs) (begun (w ++ (b ∷ [])) bs))))
     go true i = before_first w (lines_of bs) ∙ ap (λ (ls : List Bytes). w ∷ ls) (sym (before_nothing (lines_of bs)) ∙ i [])
     go false i = before_front w b (lines_of bs) ∙ i (w ++ (b ∷ []))

@@ -4,14 +4,14 @@ use Rattle.syntax.specs.Grammar.{Bytes}
 use Rattle.console.specs.declared.Got.{Got}
 
 -- a byte in front of the first line
-unfoldable pub in-front : ℕ → List Bytes → List Bytes
-in-front b [] = (b ∷ []) ∷ []
-in-front b (l ∷ ls) = (b ∷ l) ∷ ls
+unfoldable pub in_front : ℕ → List Bytes → List Bytes
+in_front b [] = (b ∷ []) ∷ []
+in_front b (l ∷ ls) = (b ∷ l) ∷ ls
 
 -- A line feed ends each line; after the last one it may be missing.
 unfoldable pub lines_of : Bytes → List Bytes
 lines_of [] = []
-lines_of (b ∷ bs) = cond (eqb b 10) ([] ∷ lines_of bs) (in-front b (lines_of bs))
+lines_of (b ∷ bs) = cond (eqb b 10) ([] ∷ lines_of bs) (in_front b (lines_of bs))
 
 -- the place of the first line feed, or the end
 unfoldable pub line_end : Bytes → ℕ

@@ -20,7 +20,7 @@ use Rattle.model.specs.Checks.{term_cols, cond_cols, when_left, when_right, gran
 use Rattle.calls.specs.Validity.{valid_name, valid_term, valid_cond}
 use Rattle.text.specs.Words.{bytes_from, name_of}
 use Rattle.nodes.specs.declared.Node.{Node}
-use Rattle.nodes.specs.Nodes.{unbiased, coded_term, node_compare, in-mask, column_in, terms_sound}
+use Rattle.nodes.specs.Nodes.{unbiased, coded_term, node_compare, in_mask, column_in, terms_sound}
 
 -- ---- terms
 
@@ -50,23 +50,23 @@ no_name : (v : ℕ) → v ≡ 0 → valid_name (name_of v) ≡ false
 unfolding name_of bytes_from valid_name name?
 no_name v e = rw e
 
-column_masked : (mask code : ℕ) → column_in mask (col (code / 6) (code % 6)) ≡ in-mask mask code
+column_masked : (mask code : ℕ) → column_in mask (col (code / 6) (code % 6)) ≡ in_mask mask code
 unfolding column_in
 column_masked mask code =
     let e : code / 6 * 6 + code % 6 ≡ code = omega arith in
     rw (lt-ltb (code % 6) 6 (omega arith), e)
 
-unmasked : (mask code : ℕ) → 24 ≤ code → in-mask mask code ≡ false
-unfolding in-mask
+unmasked : (mask code : ℕ) → 24 ≤ code → in_mask mask code ≡ false
+unfolding in_mask
 unmasked mask code h = rw (le-ltb code 24 h)
 
 -- a column
 module _ (mask code v : ℕ) (h : code < 24) where
-  column_left : in-mask mask code ≡ left_fit mask (coded_term code v)
+  column_left : in_mask mask code ≡ left_fit mask (coded_term code v)
   unfolding left_fit when_left valid_term term_cols every
   column_left = rw (column_term code v h) (sym (and-true (column_in mask (col (code / 6) (code % 6))) ∙ column_masked mask code))
 
-  column_right : in-mask mask code ≡ right_fit mask (coded_term code v)
+  column_right : in_mask mask code ≡ right_fit mask (coded_term code v)
   unfolding right_fit when_right valid_term term_cols every
   column_right = rw (column_term code v h) (sym (and-true (column_in mask (col (code / 6) (code % 6))) ∙ column_masked mask code))
 
@@ -78,36 +78,36 @@ other_left mask false true c z n = refl
 other_left mask false false true z n = refl
 other_left mask false false false z n = refl
 
-left_is : (mask code v : ℕ) → in-mask mask code ≡ left_fit mask (coded_term code v)
+left_is : (mask code v : ℕ) → in_mask mask code ≡ left_fit mask (coded_term code v)
 unfolding coded_term
 left_is mask code v = go (dec_lt code 24)
   where
-    go : Dec (code < 24) → in-mask mask code ≡ left_fit mask (coded_term code v)
+    go : Dec (code < 24) → in_mask mask code ≡ left_fit mask (coded_term code v)
     go (yes h) = column_left mask code v h
     go (no h) = unmasked mask code (omega arith) ∙ sym (rw (le-ltb code 24 (omega arith)) (other_left mask (eqb code 24) (eqb code 25) (eqb code 26) (unbiased v) (name_of v)))
 
 -- the right side of a comparison as the nodes' test has it
 abbrev right_test : ℕ → ℕ → ℕ → Bool
-right_test mask code v = in-mask mask code || eqb code 26 && ltb v 4294967296 || eqb code 27 && valid_name (name_of v)
+right_test mask code v = in_mask mask code || eqb code 26 && ltb v 4294967296 || eqb code 27 && valid_name (name_of v)
 
 module _ (mask code v : ℕ) (zero_value : (code ≡ 26 → ⊥) → (code ≡ 27 → ⊥) → v ≡ 0) where
   right_low : code < 24 → right_test mask code v ≡ right_fit mask (coded_term code v)
-  right_low h = rw (ne_eqb code 26 (λ e. omega arith), ne_eqb code 27 (λ e. omega arith)) (or_none (in-mask mask code) ∙ column_right mask code v h)
+  right_low h = rw (ne_eqb code 26 (λ e. omega arith), ne_eqb code 27 (λ e. omega arith)) (or_none (in_mask mask code) ∙ column_right mask code v h)
     where
       or_none : (a : Bool) → ((a || false) || false) ≡ a
       or_none true = refl
       or_none false = refl
 
   right_time : code ≡ 24 → right_test mask code v ≡ right_fit mask (coded_term code v)
-  unfolding coded_term right_fit when_right in-mask
+  unfolding coded_term right_fit when_right in_mask
   right_time e = rw e
 
   right_figure : code ≡ 25 → right_test mask code v ≡ right_fit mask (coded_term code v)
-  unfolding coded_term right_fit when_right valid_term term_cols every column_in in-mask
+  unfolding coded_term right_fit when_right valid_term term_cols every column_in in_mask
   right_figure e = rw e
 
   right_number : code ≡ 26 → right_test mask code v ≡ right_fit mask (coded_term code v)
-  unfolding coded_term right_fit when_right valid_term term_cols every in-mask
+  unfolding coded_term right_fit when_right valid_term term_cols every in_mask
   right_number e = rw e (or_none (ltb v 4294967296) ∙ sym (and-true (is_value (unbiased v)) ∙ number_value v))
     where
       or_none : (a : Bool) → (a || false) ≡ a

@@ -19,7 +19,7 @@ use Rattle.schema.proofs.Tests.{streams_most}
 use Rattle.masks.specs.Masks.{bit?, inside}
 use Rattle.masks.proofs.Lists.{bit_none, inside_bits, bits_same}
 use Rattle.columns.proofs.ColumnBits.{bit_column, bit_above, figure_none}
-use Rattle.nodes.specs.Nodes.{in-mask, column_in}
+use Rattle.nodes.specs.Nodes.{in_mask, column_in}
 use Rattle.grant.specs.Grants.{column_codes, streams_mask}
 
 -- ---- lists
@@ -91,7 +91,7 @@ module _ (ns : List ℕ) where
 
     -- a column of the mask is one of theirs
     pub column_theirs : (c : Col) → column_in mask c ≡ has theirs c
-    unfolding column_in in-mask streams_mask column_codes
+    unfolding column_in in_mask streams_mask column_codes
     column_theirs figure = sym (figure_none ns ss b)
     column_theirs (col s c) = go (dec_lt c 6) (dec_lt s 4)
       where
@@ -123,7 +123,7 @@ module _ (ns : List ℕ) where
           go (no l) = absurd (rw (bit_above ns ss b i (omega arith)) at (bit_theirs i t))
 
       bit_shown : (i : ℕ) → T (bit? m i) → T (not (empty? (select (column_in m) theirs)))
-      unfolding column_in in-mask streams_mask column_codes
+      unfolding column_in in_mask streams_mask column_codes
       bit_shown i t =
           let e : i / 6 * 6 + i % 6 ≡ i = omega arith in
           let l = bit_low i t in
@@ -144,7 +144,7 @@ module _ (ns : List ℕ) where
 
 -- the mask 0 shows nothing
 pub shows_none : (cs : List Col) → select (column_in 0) cs ≡ []
-unfolding select column_in in-mask
+unfolding select column_in in_mask
 shows_none [] = refl
 shows_none (col s c ∷ cs) = rw (bit_none (s * 6 + c)) (go (ltb c 6) (ltb (s * 6 + c) 24) (shows_none cs))
   where

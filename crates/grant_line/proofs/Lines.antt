@@ -16,7 +16,7 @@ use Rattle.syntax.specs.Grammar.{Bytes, bytes, Show, Span, Test, Cond, right_wor
 use Rattle.syntax.specs.Limits.{cond_depth}
 use Rattle.syntax.specs.Readers.{Read, Reader, bind, ensure, ◌>>=◌, ◌>>◌, give, byte, read_open, read_name, read_word, rights, closes, read_some, read_cond, read_part, read_optional, read_show, read_limit, read_window, read_when, read_grant, read_body, parse_as}
 use Rattle.syntax.proofs.Steps.{from, done, bind_bind}
-use Rattle.syntax.proofs.Leaving.{Leaves, leaves_give, leaves_byte, leaves_item, byte_leaves, word_leaves, open-leaves, name_leaves, part_leaves, show_leaves, limit_leaves, window_leaves, optional_leaves}
+use Rattle.syntax.proofs.Leaving.{Leaves, leaves_give, leaves_byte, leaves_item, byte_leaves, word_leaves, open_leaves, name_leaves, part_leaves, show_leaves, limit_leaves, window_leaves, optional_leaves}
 use Rattle.text.specs.declared.Line as L
 use Rattle.text.specs.Words.{name_of}
 use Rattle.text.specs.Keywords.{closes_at, line_open}
@@ -238,7 +238,7 @@ part_agree v m k s f p =
     let d = left_drop (byte_leaves 32) s p a e in
     bind_same (read_open v a.left) _ _
     (λ o i.
-    let q = left_drop (open-leaves v) s (length s - length a.left) o (ap (read_open v) d ∙ i) in
+    let q = left_drop (open_leaves v) s (length s - length a.left) o (ap (read_open v) d ∙ i) in
     ap (λ x. bind x (λ b. bind (byte 41 b.left) (λ c. give b.what c.left))) (ap m (sym q) ∙ f (length s - length o.left) ∙ ap k q)))
 
 module _ (s : Bytes) (p : ℕ) where

@@ -36,7 +36,7 @@ use Rattle.terms.specs.Terms.{ref_code, operand_over, test_over, operand_code, o
 use Rattle.terms.proofs.Resolving.{code_alone, code_self, code_low, code_column, fine}
 use Rattle.terms.proofs.Numbers.{biased_back}
 use Rattle.nodes.specs.declared.Node.{Node}
-use Rattle.nodes.specs.Nodes.{unbiased, coded_term, numbered_op, node_compare, in-mask, column_in, terms_sound}
+use Rattle.nodes.specs.Nodes.{unbiased, coded_term, numbered_op, node_compare, in_mask, column_in, terms_sound}
 use Rattle.columns.specs.Columns.{columns_read}
 use Rattle.columns.proofs.ColumnBits.{operand_fine, listed_bit, bit_above, refs_inside}
 use Rattle.conditions.specs.Seeing.{test_node, nodes_of}
@@ -96,7 +96,7 @@ module _ (ns : List ℕ) (sound : T (schema_sound ns)) (ss : List ℕ) (b : T (e
       select_good (column_in mask) (has theirs) (low (streams_in ns)) (λ c t. column_theirs ns ss b c) theirs (cols_low ns ss b) ∙ select_every (has theirs) theirs (within_by theirs theirs (λ c t. t))
 
   listed_shown : (rs : List Ref) → T (every (fine ns) rs) → (x : Col) → T (low (streams_in ns) x) → column_in (mask_of (map (ref_code ns) rs)) x ≡ has (map (column_of d) rs) x
-  unfolding low column_in in-mask
+  unfolding low column_in in_mask
   listed_shown rs t (col s c) g =
       let h = ltb→lt s (streams_in ns) (and_l (ltb s (streams_in ns)) (ltb c 6) g) in
       let l = ltb→lt c 6 (and_r (ltb s (streams_in ns)) (ltb c 6) g) in

@@ -9,18 +9,18 @@ use lib.ListN.{length, get_or, set, take, drop, get_or-append}
 use lib.Seq.{paste, paste-zero, paste-suc, get_or-append-add, get_or-take, get_or-drop, length_paste_head, length-take-le}
 
 module _ {A : Type 0} (d s : List A) (at n : ℕ) (z : A) (hd : at + n ≤ length d) (hs : n ≤ length s) where
-  in-front : (i : ℕ) → i < at + n → get_or (paste d at s n) i z ≡ get_or (take at d ++ take n s) i z
-  in-front i h = let e = length_paste_head d at s n (omega arith) hs in get_or-append (take at d ++ take n s) (drop (at + n) d) z i (omega arith)
+  in_front : (i : ℕ) → i < at + n → get_or (paste d at s n) i z ≡ get_or (take at d ++ take n s) i z
+  in_front i h = let e = length_paste_head d at s n (omega arith) hs in get_or-append (take at d ++ take n s) (drop (at + n) d) z i (omega arith)
 
   pub paste_in : (k : ℕ) → k < n → get_or (paste d at s n) (at + k) z ≡ get_or s k z
   paste_in k h =
       let e : length (take at d) ≡ at = length-take-le at d (omega arith) in
-      in-front (at + k) (omega arith) ∙ rw e at (get_or-append-add (take at d) (take n s) k z) ∙ get_or-take n s k z h
+      in_front (at + k) (omega arith) ∙ rw e at (get_or-append-add (take at d) (take n s) k z) ∙ get_or-take n s k z h
 
   pub paste_before : (i : ℕ) → i < at → get_or (paste d at s n) i z ≡ get_or d i z
   paste_before i h =
       let e : length (take at d) ≡ at = length-take-le at d (omega arith) in
-      in-front i (omega arith) ∙ get_or-append (take at d) (take n s) z i (omega arith) ∙ get_or-take at d i z h
+      in_front i (omega arith) ∙ get_or-append (take at d) (take n s) z i (omega arith) ∙ get_or-take at d i z h
 
   pub paste_after : (i : ℕ) → at + n ≤ i → get_or (paste d at s n) i z ≡ get_or d i z
   paste_after i h =

@@ -1,3 +1,2 @@
 // Definitions on lists and tests: see specs/.
 #![tactic(auto)]
-

@@ -87,12 +87,12 @@ absent none = true
 absent (some n) = false
 
 -- a grant that keeps nothing of its streams from the query: it shows every column at every time, and has no condition but, on a pair, the query's own equality
-unfoldable pub open-to : Schema → Query ℕ → Grant → Bool
-open-to d q g =
+unfoldable pub open_to : Schema → Query ℕ → Grant → Bool
+open_to d q g =
     within (gather (columns_of d) g.of) g.shown && every (λ c. not (single g.of) && joins_by c q) g.when
     && absent g.from && absent g.to
 
 -- To unfold this is to unfold every definition above.
 unfoldable pub asked_computes : Unit {0}
-unfolding answers_compute put one_each all_show by_row own shown_by left grants_at full joins_by absent open-to
+unfolding answers_compute put one_each all_show by_row own shown_by left grants_at full joins_by absent open_to
 asked_computes = tt

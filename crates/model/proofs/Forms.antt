@@ -16,7 +16,7 @@ use Rattle.model.specs.Meaning.{value, term_value, compares, compare_holds, hold
 use Rattle.model.specs.Grants.{fill_compare, fill, limits, limited, shown_of, view}
 use Rattle.model.specs.Checks.{has, within, cond_cols, timed, no_aggregate, side, linked, allowed}
 use Rattle.model.specs.Routes.{is_col, is_equality, equated, covers, Source, Numbered, present, picked_by, seen, single, columns, keeping, over_view}
-use Rattle.model.proofs.Asked.{Rows, with_rows, all_show, shown_by, left, joins_by, absent, open-to}
+use Rattle.model.proofs.Asked.{Rows, with_rows, all_show, shown_by, left, joins_by, absent, open_to}
 use Rattle.model.proofs.Columns.{has_within, has_append_l, has_append_r, within_trans, within_by, within_select, within_present}
 use Rattle.model.proofs.Distinct.{distinct_apart, gather_distinct}
 use Rattle.model.proofs.Rowwise.{Lone, Rowwise, rowwise_select, rowwise_kept, rowwise_pairs, rowwise_view}
@@ -24,7 +24,7 @@ use Rattle.model.proofs.Ways.{header_picks}
 use Rattle.model.proofs.Rewriting.{and_true, is_eq→eq, is_col_term, stream, side_sources, some_holds}
 use Rattle.model.proofs.Widths.{meaning_wide}
 use Rattle.model.proofs.Cuts.{holds_kept, kept_kept, kept_both, holds_left, holds_right}
-use Rattle.model.proofs.OneRow.{not_empty_one, cut_pick, cut_keep, cut_join, linked_named, Fills, table, table_cols, plain_cols, view_one, whole_one, whole_two, heads, stream_cols, meets, cut_to, side_row, every_by, by_every, all_by, one_shows, one_left, all_of_stream, open-when, open-limits, open-shows, header_in, select_same, has_select_same, select_one, nothing_else, nothing, map_one, pairs_one, picked_limited}
+use Rattle.model.proofs.OneRow.{not_empty_one, cut_pick, cut_keep, cut_join, linked_named, Fills, table, table_cols, plain_cols, view_one, whole_one, whole_two, heads, stream_cols, meets, cut_to, side_row, every_by, by_every, all_by, one_shows, one_left, all_of_stream, open_when, open_limits, open_shows, header_in, select_same, has_select_same, select_one, nothing_else, nothing, map_one, pairs_one, picked_limited}
 
 -- ---- lists of grants
 
@@ -83,11 +83,11 @@ module _ (d : Schema) (gs hs : List Grant) (c : Col) where
       (λ u. or_r (same_col c figure) _ (rw (some_append_same (λ g. has (shown_of d g) c) gs hs) (or_r (some? (λ g. has (shown_of d g) c) gs) _ u)))
 
 -- a grant on one stream that is open to any query is open to every query
-open_any : (d : Schema) (p q : Query ℕ) {gs : List Grant} → All (λ (g : Grant). T (single g.of)) gs → T (every (open-to d p) gs) → T (every (open-to d q) gs)
-unfolding every open-to
+open_any : (d : Schema) (p q : Query ℕ) {gs : List Grant} → All (λ (g : Grant). T (single g.of)) gs → T (every (open_to d p) gs) → T (every (open_to d q) gs)
+unfolding every open_to
 open_any d p q all_nil h = tt
 open_any d p q (all_cons {x = g} {xs = gs} s ss) h =
-    and_both (open-to d q g) (every (open-to d q) gs)
+    and_both (open_to d q g) (every (open_to d q) gs)
     (and_both (within (gather (columns_of d) g.of) g.shown && every (λ c. not (single g.of) && joins_by c q) g.when && absent g.from) (absent g.to)
     (and_both (within (gather (columns_of d) g.of) g.shown && every (λ c. not (single g.of) && joins_by c q) g.when) (absent g.from)
     (and_both (within (gather (columns_of d) g.of) g.shown) (every (λ c. not (single g.of) && joins_by c q) g.when) (search parts)
@@ -156,10 +156,10 @@ module _ (x : Record) (who : Caller) where
         → (table x who r xs).rows
         ≡ cond (all_show who gs (with_rows x xs)) (map (kept_row (heads x who q) (left x.schema gs q)) (plain (with_rows x xs) q).rows) []
     -- open grants show every row that the query gives
-    pub open_row : T (every (open-to x.schema q) gs) → (xs : Rows) → Lone (Fills x who) (sources q) xs
+    pub open_row : T (every (open_to x.schema q) gs) → (xs : Rows) → Lone (Fills x who) (sources q) xs
         → cond (all_show who gs (with_rows x xs)) (plain (with_rows x xs) q).rows [] ≡ (plain (with_rows x xs) q).rows
     -- and every column
-    pub open-left : T (every (open-to x.schema q) gs) → T (every (shown_by x.schema gs) (heads x who q))
+    pub open_left : T (every (open_to x.schema q) gs) → T (every (shown_by x.schema gs) (heads x who q))
 
   -- one grant shows a row if its conditions hold of it
   show_one : (g : Grant) (xs : Rows) (b : Bool) (w : Row) → (view (with_rows x xs) who g).rows ≡ cond b (w ∷ []) [] → all_show who (g ∷ []) (with_rows x xs) ≡ b
@@ -177,8 +177,8 @@ module _ (x : Record) (who : Caller) where
         columns_left = all_of_stream x.schema g s of_s;
         rowwise = rowwise_view x who g s [] of_s (unfold distinct some? in tt);
         one_row = λ xs l. one xs (all_head l).0 (all_head l).1;
-        open_row = λ o xs l. ap (λ b. cond b (nth [] xs s) []) (shows xs (all_head l).0 (all_head l).1 ∙ ap (every _) (open-limits x.schema who (source s) g (opened o) (rw of_s tt)));
-        open-left = λ o. every_by (shown_by x.schema (g ∷ [])) (columns_of x.schema s) (λ c t. rw (one_shows x.schema g (s ∷ []) c (own c t)) (open-shows x.schema who (source s) g (opened o) (s ∷ []) of_s c (own c t)));
+        open_row = λ o xs l. ap (λ b. cond b (nth [] xs s) []) (shows xs (all_head l).0 (all_head l).1 ∙ ap (every _) (open_limits x.schema who (source s) g (opened o) (rw of_s tt)));
+        open_left = λ o. every_by (shown_by x.schema (g ∷ [])) (columns_of x.schema s) (λ c t. rw (one_shows x.schema g (s ∷ []) c (own c t)) (open_shows x.schema who (source s) g (opened o) (s ∷ []) of_s c (own c t)));
       }
     where
       g : Grant
@@ -190,8 +190,8 @@ module _ (x : Record) (who : Caller) where
       own : (c : Col) → T (has (columns_of x.schema s) c) → T (has (gather (columns_of x.schema) (s ∷ [])) c)
       own c t = unfold gather in has_append_l c (columns_of x.schema s) [] t
 
-      opened : T (every (open-to x.schema (source s)) (g ∷ [])) → T (open-to x.schema (source s) g)
-      opened o = unfold every in and_l (open-to x.schema (source s) g) true o
+      opened : T (every (open_to x.schema (source s)) (g ∷ [])) → T (open_to x.schema (source s) g)
+      opened o = unfold every in and_l (open_to x.schema (source s) g) true o
 
       seen_row : (xs : Rows) (l : Row) → nth [] xs s ≡ l ∷ []
           → (view (with_rows x xs) who g).rows ≡ cond (every (holds (columns_of x.schema s) l) (limits who g)) (kept_row (columns_of x.schema s) (shown_of x.schema g) l ∷ []) []
@@ -211,7 +211,7 @@ module _ (x : Record) (who : Caller) where
   -- ---- picks and keeps
 
   pub asks_pick : (c : Cond Compare) (q : Query ℕ) (gs : List Grant) (r : Query Source) → T (within (cond_cols c) (columns x.schema r)) → Asks q gs r → Asks (pick c q) gs (pick c r)
-  unfolding side sources columns header left meaning picked plain open-to joins_by
+  unfolding side sources columns header left meaning picked plain open_to joins_by
   asks_pick c q gs r w h = record {
     alone = h.alone;
     inside = h.inside;
@@ -224,11 +224,11 @@ module _ (x : Record) (who : Caller) where
     open_row = λ o xs l.
         nothing_else (all_show who gs (with_rows x xs)) _
         (λ t. unfold select in ap (select (λ t. holds (plain (with_rows x xs) q).cols t c)) (nothing (all_show who gs (with_rows x xs)) (plain (with_rows x xs) q).rows (h.open_row o xs l) t));
-    open-left = h.open-left;
+    open_left = h.open_left;
   }
 
   pub asks_keep : (cs : List Col) (q : Query ℕ) (gs : List Grant) (r : Query Source) → T (within cs (heads x who q)) → Asks q gs r → Asks (keep cs q) gs (keeping x.schema cs r)
-  unfolding side sources columns header left meaning kept plain open-to joins_by keeping
+  unfolding side sources columns header left meaning kept plain open_to joins_by keeping
   asks_keep cs q gs r w h = record {
     alone = h.alone;
     inside = h.inside;
@@ -245,7 +245,7 @@ module _ (x : Record) (who : Caller) where
     open_row = λ o xs l.
         nothing_else (all_show who gs (with_rows x xs)) _
         (λ t. ap (map (kept_row (plain (with_rows x xs) q).cols cs)) (nothing (all_show who gs (with_rows x xs)) (plain (with_rows x xs) q).rows (h.open_row o xs l) t));
-    open-left = λ o. every_by (shown_by x.schema gs) cs (λ c t. by_every (shown_by x.schema gs) c (heads x who q) (h.open-left o) (has_within c (heads x who q) cs w t));
+    open_left = λ o. every_by (shown_by x.schema gs) cs (λ c t. by_every (shown_by x.schema gs) c (heads x who q) (h.open_left o) (has_within c (heads x who q) cs w t));
   }
     where
       same : present (columns x.schema r) cs ≡ select (shown_by x.schema gs) cs
@@ -261,16 +261,16 @@ module _ (x : Record) (who : Caller) where
         distinct_apart (gather (columns_of x.schema) (sources q)) (gather (columns_of x.schema) (sources r))
         (rw (gather_append (columns_of x.schema) (sources q) (sources r)) at (gather_distinct x.schema (sources q ++ sources r) u)) c t v
 
-    in-q : T (within (heads x who q) (gather (columns_of x.schema) (sources q)))
+    in_q : T (within (heads x who q) (gather (columns_of x.schema) (sources q)))
     unfolding allowed
-    in-q = header_in x.schema q (side_free q (search parts)) (search parts)
+    in_q = header_in x.schema q (side_free q (search parts)) (search parts)
 
-    in-r : T (within (heads x who r) (gather (columns_of x.schema) (sources r)))
+    in_r : T (within (heads x who r) (gather (columns_of x.schema) (sources r)))
     unfolding allowed
-    in-r = header_in x.schema r (side_free r (search parts)) (search parts)
+    in_r = header_in x.schema r (side_free r (search parts)) (search parts)
 
     pub heads_apart : (c : Col) → T (has (heads x who q) c) → T (has (heads x who r) c) → ⊥
-    heads_apart c t v = apart c (has_within c _ (heads x who q) in-q t) (has_within c _ (heads x who r) in-r v)
+    heads_apart c t v = apart c (has_within c _ (heads x who q) in_q t) (has_within c _ (heads x who r) in_r v)
 
     pub wide_rows : (xs : Rows) → Lone (Fills x who) (sources q) xs → All (λ (t : Row). length t.values ≡ length (heads x who q)) (plain (with_rows x xs) q).rows
     unfolding plain table_of
@@ -285,8 +285,8 @@ module _ (x : Record) (who : Caller) where
     unfolding left header
     joined_columns gs hs h k =
         ap₂ ◌++◌
-        (select_same _ _ (all_by (heads x who q) (λ c t. sym (shown_l x.schema gs hs c (none_show x.schema c _ (apart c (has_within c _ (heads x who q) in-q t)) k)))))
-        (select_same _ _ (all_by (heads x who r) (λ c t. sym (shown_r x.schema gs hs c (none_show x.schema c _ (λ v. apart c v (has_within c _ (heads x who r) in-r t)) h)))))
+        (select_same _ _ (all_by (heads x who q) (λ c t. sym (shown_l x.schema gs hs c (none_show x.schema c _ (apart c (has_within c _ (heads x who q) in_q t)) k)))))
+        (select_same _ _ (all_by (heads x who r) (λ c t. sym (shown_r x.schema gs hs c (none_show x.schema c _ (λ v. apart c v (has_within c _ (heads x who r) in_r t)) h)))))
         ∙ sym (select_append (shown_by x.schema (gs ++ hs)) (heads x who q) (heads x who r))
 
     pub asks_join : (gs hs : List Grant) (y z : Query Source) → T (linked a b (columns x.schema y) (columns x.schema z)) → Asks q gs y → Asks r hs z
@@ -308,11 +308,11 @@ module _ (x : Record) (who : Caller) where
       open_row = λ o xs m.
           ap (λ c. cond c (select (λ t. holds ((plain (with_rows x xs) q).cols ++ (plain (with_rows x xs) r).cols) t (equality a b)) (paired xs)) []) (shows xs)
           ∙ all_there (all_show who gs (with_rows x xs)) (all_show who hs (with_rows x xs)) _ (plain (with_rows x xs) q).rows (plain (with_rows x xs) r).rows
-          (h.open_row (open-q o) xs (all_left (sources q) (sources r) m)) (k.open_row (open-r o) xs (all_right (sources q) (sources r) m));
-      open-left = λ o.
+          (h.open_row (open_q o) xs (all_left (sources q) (sources r) m)) (k.open_row (open_r o) xs (all_right (sources q) (sources r) m));
+      open_left = λ o.
           every_append (shown_by x.schema (gs ++ hs)) (heads x who q) (heads x who r)
-          (every_weaken (shown_by x.schema gs) _ (λ c t. shown_more_l x.schema gs hs c t) (heads x who q) (h.open-left (open-q o)))
-          (every_weaken (shown_by x.schema hs) _ (λ c t. shown_more_r x.schema gs hs c t) (heads x who r) (k.open-left (open-r o)));
+          (every_weaken (shown_by x.schema gs) _ (λ c t. shown_more_l x.schema gs hs c t) (heads x who q) (h.open_left (open_q o)))
+          (every_weaken (shown_by x.schema hs) _ (λ c t. shown_more_r x.schema gs hs c t) (heads x who r) (k.open_left (open_r o)));
     }
       where
         lefts : columns x.schema y ++ columns x.schema z ≡ left x.schema (gs ++ hs) (join a b q r)
@@ -336,11 +336,11 @@ module _ (x : Record) (who : Caller) where
         wider_r : (cs : List Col) → T (within cs (gather (columns_of x.schema) (sources r))) → T (within cs (gather (columns_of x.schema) (sources q ++ sources r)))
         wider_r cs t = rw (gather_append (columns_of x.schema) (sources q) (sources r)) (within_by cs _ (λ c v. has_append_r c (gather (columns_of x.schema) (sources q)) _ (has_within c _ cs t v)))
 
-        open-q : T (every (open-to x.schema (join a b q r)) (gs ++ hs)) → T (every (open-to x.schema q) gs)
-        open-q o = open_any x.schema (join a b q r) q (h.alone (unfold allowed in search parts)) (every_append_l (open-to x.schema (join a b q r)) gs hs o)
+        open_q : T (every (open_to x.schema (join a b q r)) (gs ++ hs)) → T (every (open_to x.schema q) gs)
+        open_q o = open_any x.schema (join a b q r) q (h.alone (unfold allowed in search parts)) (every_append_l (open_to x.schema (join a b q r)) gs hs o)
 
-        open-r : T (every (open-to x.schema (join a b q r)) (gs ++ hs)) → T (every (open-to x.schema r) hs)
-        open-r o = open_any x.schema (join a b q r) r (k.alone (unfold allowed in search parts)) (every_append_r (open-to x.schema (join a b q r)) gs hs o)
+        open_r : T (every (open_to x.schema (join a b q r)) (gs ++ hs)) → T (every (open_to x.schema r) hs)
+        open_r o = open_any x.schema (join a b q r) r (k.alone (unfold allowed in search parts)) (every_append_r (open_to x.schema (join a b q r)) gs hs o)
 
         all_there : (m n : Bool) (p : Row → Bool) (ls rs : List Row) → cond m ls [] ≡ ls → cond n rs [] ≡ rs
             → cond (m && n) (select p (gather (λ e. map (both e) rs) ls)) [] ≡ select p (gather (λ e. map (both e) rs) ls)
@@ -451,10 +451,10 @@ module _ (x : Record) (who : Caller) where
       admits_equal t = some_holds who.profile cols (both l m) a b g.when _ (search parts) t
 
       -- and an open grant has no other
-      equal_admits : T (open-to x.schema (join a b q r) g) → T equal → T admits
-      unfolding open-to joins_by
+      equal_admits : T (open_to x.schema (join a b q r) g) → T equal → T admits
+      unfolding open_to joins_by
       equal_admits o t =
-          rw (open-when x.schema who (join a b q r) g o)
+          rw (open_when x.schema who (join a b q r) g o)
           (every_map (λ c. not (single g.of) && is_equality a b c) (holds cols (both l m)) (fill who.profile)
           (λ c h. eq_back who.profile cols (both l m) a b c (search parts) t) g.when (search parts))
 
@@ -502,8 +502,8 @@ module _ (x : Record) (who : Caller) where
             ∙ ap (λ rs. cond admits rs []) (map_one (kept_row heads_both (left x.schema (g ∷ []) (join a b q r))) (meets x who q l && meets x who r m && equal) (kept_row cols heads_both (both l m))
             ∙ ap (λ v. cond (meets x who q l && meets x who r m && equal) (v ∷ []) []) (kept_kept cols heads_both (left x.schema (g ∷ []) (join a b q r)) (both l m) (unfold left header in within_select _ heads_both))))
 
-        open-pair : T (open-to x.schema (join a b q r) g) → cond (all_show who (g ∷ []) (with_rows x xs)) (plain (with_rows x xs) (join a b q r)).rows [] ≡ (plain (with_rows x xs) (join a b q r)).rows
-        open-pair o =
+        open_pair : T (open_to x.schema (join a b q r) g) → cond (all_show who (g ∷ []) (with_rows x xs)) (plain (with_rows x xs) (join a b q r)).rows [] ≡ (plain (with_rows x xs) (join a b q r)).rows
+        open_pair o =
             ap₂ (λ c rs. cond c rs []) shows_row own_row
             ∙ without_it admits (meets x who q l && meets x who r m) equal (kept_row cols heads_both (both l m) ∷ []) (equal_admits o)
             ∙ sym own_row
@@ -516,9 +516,9 @@ module _ (x : Record) (who : Caller) where
       columns_left = unfold over_view keeping columns header in kept_columns;
       rowwise = rw streams (unfold over_view keeping meaning in rowwise_kept (stream q ∷ stream r ∷ []) keeps_of (rowwise_picks (picks r) (picked_by (picks q) (seen (join a b q r) n)) (rowwise_picks (picks q) (seen (join a b q r) n) (unfold seen meaning in rowwise_view x who g (stream q) (stream r ∷ []) of_pair two_streams))));
       one_row = λ xs h. lone xs h (λ l m i j e f. one_pair l m i j xs e f);
-      open_row = λ o xs h. lone xs h (λ l m i j e f. open-pair l m i j xs e f (unfold every in and_l (open-to x.schema (join a b q r) g) true o));
-      open-left = λ o. unfold header in every_by (shown_by x.schema (g ∷ [])) heads_both (λ c t. rw (one_shows x.schema g (sources q ++ sources r) c (in_both c t))
-          (open-shows x.schema who (join a b q r) g (unfold every in and_l (open-to x.schema (join a b q r) g) true o) (sources q ++ sources r) (of_pair ∙ sym streams) c (in_both c t)));
+      open_row = λ o xs h. lone xs h (λ l m i j e f. open_pair l m i j xs e f (unfold every in and_l (open_to x.schema (join a b q r) g) true o));
+      open_left = λ o. unfold header in every_by (shown_by x.schema (g ∷ [])) heads_both (λ c t. rw (one_shows x.schema g (sources q ++ sources r) c (in_both c t))
+          (open_shows x.schema who (join a b q r) g (unfold every in and_l (open_to x.schema (join a b q r) g) true o) (sources q ++ sources r) (of_pair ∙ sym streams) c (in_both c t)));
     }
       where
         lone : {X : Type 0} (xs : Rows) → Lone (Fills x who) (sources q ++ sources r) xs

@@ -394,8 +394,8 @@ module _ (d : Schema) (who : Caller) (catalogue : List Grant) where
         named : asked_cols q ++ asked_cols r ≡ gather cond_cols (picks q ++ picks r)
         named = ap₂ ◌++◌ (side_asked q side_q) (side_asked r side_r) ∙ sym (gather_append cond_cols (picks q) (picks r))
 
-        in-streams : T (within (asked_cols q ++ asked_cols r) (gather (columns_of d) (sources q ++ sources r)))
-        in-streams =
+        in_streams : T (within (asked_cols q ++ asked_cols r) (gather (columns_of d) (sources q ++ sources r)))
+        in_streams =
             rw (gather_append (columns_of d) (sources q) (sources r))
             (within_both (asked_cols q) (asked_cols r) _
             (within_by (asked_cols q) _ (λ c t. has_append_l c (gather (columns_of d) (sources q)) _ (has_within c _ (asked_cols q) (asked_in d q side_q (unfold allowed in search parts)) t)))
@@ -404,7 +404,7 @@ module _ (d : Schema) (who : Caller) (catalogue : List Grant) where
         shown_same : (g : Grant) → within (gather cond_cols (picks q ++ picks r)) (shown_of d g) ≡ every (shown_by d (g ∷ [])) (asked_cols q ++ asked_cols r)
         shown_same g =
             ap (λ cs. within cs (shown_of d g)) (sym named)
-            ∙ unfold within in every_same _ _ (all_by (asked_cols q ++ asked_cols r) (λ c t. sym (one_shows d g (sources q ++ sources r) c (has_within c _ (asked_cols q ++ asked_cols r) in-streams t))))
+            ∙ unfold within in every_same _ _ (all_by (asked_cols q ++ asked_cols r) (λ c t. sym (one_shows d g (sources q ++ sources r) c (has_within c _ (asked_cols q ++ asked_cols r) in_streams t))))
 
         test : (g : Grant) → readable d (join a b q r) g ≡ reads g.right && (same_list g.of (sources q ++ sources r) && asks g)
         test g =

@@ -16,7 +16,7 @@ use Rattle.model.specs.Meaning.{holds, picked, kept_row, kept, both, pairs, equa
 use Rattle.model.specs.Grants.{fill, limit, limits, whole, limited, shown_of, view}
 use Rattle.model.specs.Checks.{has, within, term_cols, cond_cols, no_aggregate, side, linked, allowed}
 use Rattle.model.specs.Routes.{Source, present, picked_by, single, columns}
-use Rattle.model.proofs.Asked.{Rows, with_rows, shown_by, joins_by, absent, open-to}
+use Rattle.model.proofs.Asked.{Rows, with_rows, shown_by, joins_by, absent, open_to}
 use Rattle.model.proofs.Columns.{same_col→eq, same_col_refl, has_within, has_append, has_append_l, has_append_r, within_by, within_trans, within_both}
 use Rattle.model.proofs.Distinct.{columns_distinct}
 use Rattle.model.proofs.Cuts.{holds_kept, kept_kept, kept_self, kept_both}
@@ -136,13 +136,13 @@ cut_keep hs ls cs ms h k true rs =
     ∙ sym (map-map (kept_row cs ms) (kept_row hs cs) rs)
 cut_keep hs ls cs ms h k false rs = refl
 
-module _ (hs is ls ms : List Col) (apart : (c : Col) → T (has hs c) → T (has is c) → ⊥) (in-l : T (within ls hs)) (in-r : T (within ms is))
+module _ (hs is ls ms : List Col) (apart : (c : Col) → T (has hs c) → T (has is c) → ⊥) (in-l : T (within ls hs)) (in_r : T (within ms is))
     (e : Cond Compare) (named : T (within (cond_cols e) (ls ++ ms))) (rs ts : List Row) (wide : All (λ (r : Row). length r.values ≡ length hs) rs) where
   both_cut : gather (λ l. map (both l) (map (kept_row is ms) ts)) (map (kept_row hs ls) rs) ≡ map (kept_row (hs ++ is) (ls ++ ms)) (gather (λ l. map (both l) ts) rs)
   both_cut =
       gather_map (λ l. map (both l) (map (kept_row is ms) ts)) (kept_row hs ls) rs
       ∙ gather_same (all_weaken (λ l w. map-map (both (kept_row hs ls l)) (kept_row is ms) ts
-      ∙ ap (λ f. map f ts) (fun_ext (λ r. sym (kept_both hs is apart l r w ls ms in-l in-r)))
+      ∙ ap (λ f. map f ts) (fun_ext (λ r. sym (kept_both hs is apart l r w ls ms in-l in_r)))
       ∙ sym (map-map (kept_row (hs ++ is) (ls ++ ms)) (both l) ts)) wide)
       ∙ sym (map_gather (kept_row (hs ++ is) (ls ++ ms)) (λ l. map (both l) ts) rs)
 
@@ -321,20 +321,20 @@ no_limits who ws none none h k = append_nil _
 no_limits who ws none (some n) h k = absurd k
 no_limits who ws (some m) t h k = absurd h
 
-module _ (d : Schema) (who : Caller) (q : Query ℕ) (g : Grant) (h : T (open-to d q g)) where
+module _ (d : Schema) (who : Caller) (q : Query ℕ) (g : Grant) (h : T (open_to d q g)) where
   -- its times limit nothing
-  pub open-when : limits who g ≡ map (fill who.profile) g.when
-  unfolding open-to limits
-  open-when = no_limits who g.when g.from g.to (search parts) (search parts)
+  pub open_when : limits who g ≡ map (fill who.profile) g.when
+  unfolding open_to limits
+  open_when = no_limits who g.when g.from g.to (search parts) (search parts)
 
   -- and on one stream it has no condition
-  pub open-limits : T (single g.of) → limits who g ≡ []
-  unfolding open-to
-  open-limits s =
-      open-when ∙ ap (map (fill who.profile)) (every_none (λ c. not (single g.of) && joins_by c q) g.when (λ c t. T_not (single g.of) (and_l (not (single g.of)) _ t) s) (search parts))
+  pub open_limits : T (single g.of) → limits who g ≡ []
+  unfolding open_to
+  open_limits s =
+      open_when ∙ ap (map (fill who.profile)) (every_none (λ c. not (single g.of) && joins_by c q) g.when (λ c t. T_not (single g.of) (and_l (not (single g.of)) _ t) s) (search parts))
 
-  pub open-shows : (ss : List ℕ) → g.of ≡ ss → (c : Col) → T (has (gather (columns_of d) ss) c) → T (has (shown_of d g) c)
-  unfolding open-to has
-  open-shows ss e c t =
+  pub open_shows : (ss : List ℕ) → g.of ≡ ss → (c : Col) → T (has (gather (columns_of d) ss) c) → T (has (shown_of d g) c)
+  unfolding open_to has
+  open_shows ss e c t =
       rw (shown_column d g ss e c t)
       (has_within c g.shown (gather (columns_of d) g.of) (search parts) (subst (λ l. T (has (gather (columns_of d) l) c)) (sym e) t))

@@ -15,7 +15,7 @@ use Rattle.model.specs.Grants.{view}
 use Rattle.model.specs.Checks.{has, within, cond_cols, no_aggregate, allowed, placed}
 use Rattle.model.specs.Routes.{equated, covers, Source, Route, Numbered, columns, over_view, readable, summing, summed, ways, routes}
 use Rattle.model.specs.Answers.{route_table}
-use Rattle.model.proofs.Asked.{Rows, one_each, with_rows, all_show, by_row, own, shown_by, left, grants_at, full, joins_by, open-to}
+use Rattle.model.proofs.Asked.{Rows, one_each, with_rows, all_show, by_row, own, shown_by, left, grants_at, full, joins_by, open_to}
 use Rattle.model.proofs.Columns.{empty_nil, within_by}
 use Rattle.model.proofs.Distinct.{distinct_l, distinct_r, columns_distinct}
 use Rattle.model.proofs.Cuts.{kept_kept, kept_self, kept_both}
@@ -108,10 +108,10 @@ module _ (x : Record) (who : Caller) where
           ∙ sym (map_gather cut _ (one_each (sources q) x.rows))
           ∙ ap (map cut) (sym (by_row_rows gs q))
 
-  open-rows : (q : Query ℕ) (gs : List Grant) (r : Query Source) → T (no_aggregate q) → T (distinct eqb (sources q)) → T (full x (sources q)) → Asks x who q gs r → T (every (open-to x.schema q) gs)
+  open_rows : (q : Query ℕ) (gs : List Grant) (r : Query Source) → T (no_aggregate q) → T (distinct eqb (sources q)) → T (full x (sources q)) → Asks x who q gs r → T (every (open_to x.schema q) gs)
       → by_row x who gs q ≡ plain x q
   unfolding by_row
-  open-rows q gs r a u f h o = λ i. record { cols = sym (plain_cols x who q x.rows) i; rows = same i }
+  open_rows q gs r a u f h o = λ i. record { cols = sym (plain_cols x who q x.rows) i; rows = same i }
     where
       same : (by_row x who gs q).rows ≡ (plain x q).rows
       same =
@@ -160,7 +160,7 @@ module _ (x : Record) (who : Caller) where
   Answers q gs r =
       (columns x.schema r ≡ left x.schema gs q)
       × (table x who r x.rows ≡ kept (left x.schema gs q) (own x who gs q))
-      × (T (every (open-to x.schema q) gs) → T (every (shown_by x.schema gs) (header (columns_of x.schema) q)) × (own x who gs q ≡ plain x q))
+      × (T (every (open_to x.schema q) gs) → T (every (shown_by x.schema gs) (header (columns_of x.schema) q)) × (own x who gs q ≡ plain x q))
 
   abbrev Claim : Query ℕ → List Grant → Query Source → Type 0
   Claim q gs r = T (allowed (columns_of x.schema) q) → T (distinct eqb (sources q)) → T (full x (sources q)) → (T (no_aggregate q) → Asks x who q gs r) × Answers q gs r
@@ -169,14 +169,14 @@ module _ (x : Record) (who : Caller) where
   answers q gs r a u f h = (
     h.columns_left,
     asked_rows q gs r u f h ∙ ap (kept (left x.schema gs q)) (sym (own_by_row gs q a)),
-    λ o. (h.open-left o, own_by_row gs q a ∙ open-rows q gs r a u f h o),
+    λ o. (h.open_left o, own_by_row gs q a ∙ open_rows q gs r a u f h o),
   )
 
   claim : (q : Query ℕ) (gs : List Grant) (r : Query Source) → T (no_aggregate q) → T (distinct eqb (sources q)) → T (full x (sources q)) → Asks x who q gs r → (T (no_aggregate q) → Asks x who q gs r) × Answers q gs r
   claim q gs r a u f h = (λ t. h, answers q gs r a u f h)
 
   pick_answers : (c : Cond Compare) (q : Query ℕ) (gs : List Grant) (r : Query Source) → T (within (cond_cols c) (columns x.schema r)) → Answers q gs r → Answers (pick c q) gs (pick c r)
-  unfolding columns header left meaning own plain open-to joins_by
+  unfolding columns header left meaning own plain open_to joins_by
   pick_answers c q gs r w (e, t, o) = (
     e,
     ap (picked c) t ∙ picked_kept c (left x.schema gs q) (own x who gs q) (subst (λ ls. T (within (cond_cols c) ls)) e w),
@@ -194,9 +194,9 @@ module _ (x : Record) (who : Caller) where
 
   aggregate_answers : (f : Fn) (c : Col) (size offset : ℕ) (q : Query ℕ) (gs : List Grant) (r : Query Source) → T (has (left x.schema gs q) c)
       → aggregated x.clock f c size offset (table x who r x.rows) ≡ kept (figure ∷ []) (own x who gs (aggregate f c size offset q))
-      → (T (every (open-to x.schema q) gs) → own x who gs q ≡ plain x q)
+      → (T (every (open_to x.schema q) gs) → own x who gs q ≡ plain x q)
       → Answers (aggregate f c size offset q) gs (aggregate f c size offset r)
-  unfolding columns header left select shown_by same_col meaning own plain open-to joins_by every
+  unfolding columns header left select shown_by same_col meaning own plain open_to joins_by every
   aggregate_answers f c size offset q gs r h e o = (refl, e, λ t. (tt, ap (aggregated x.clock f c size offset) (o t)))
 
   -- below an aggregate grant's figures
@@ -263,7 +263,7 @@ pub way_columns : (d : Schema) (who : Caller) (catalogue : List Grant) (q : Quer
 way_columns d who catalogue q w = all_weaken (λ r h. h.0) (way_claims (record { clock = 0; schema = d; rows = [] }) who catalogue q w (no_rows (sources q)))
   where
     no_rows : (ss : List ℕ) → T (full (record { clock = 0; schema = d; rows = [] }) ss)
-    no_rows ss = unfold full nth every in all_every _ (all_weaken (λ s u. tt) (all_any ss))
+    no_rows ss = unfold full nth every in all_every (λ s. every (λ (r : Row). eqb (length r.values) (length (columns_of d s))) []) (all_weaken (λ s u. tt) (all_any ss))
 
 -- ---- the claims
 
@@ -276,7 +276,7 @@ views_plain x who catalogue q w f = all_weaken (λ r h. h.1) (claims x who catal
 
 -- A route whose grants keep nothing from the query gives the plain meaning of the caller's own query.
 pub open_plain : (x : Record) (who : Caller) (catalogue : List Grant) (q : Query ℕ) → T (placed x.schema q) → T (full x (sources q))
-    → All (λ (r : Route). T (every (open-to x.schema q) (grants_at catalogue r.grants)) → route_table x who r ≡ plain x q) (routes x.schema who catalogue q)
+    → All (λ (r : Route). T (every (open_to x.schema q) (grants_at catalogue r.grants)) → route_table x who r ≡ plain x q) (routes x.schema who catalogue q)
 unfolding route_table placed left
 open_plain x who catalogue q w f = all_weaken (λ r h o. h.1 ∙ same (grants_at catalogue r.grants) (h.2 o).0 (h.2 o).1) (claims x who catalogue q w f)
   where

@@ -44,7 +44,7 @@ not_among x [] h = all_nil
 not_among x (y ∷ xs) h =
     all_cons (λ e. T_not (eqb x y) (not_or_l (eqb x y) _ h) (rw e (eqb_refl y))) (not_among x xs (not_or_r (eqb x y) _ h))
 
-all_swap : {A B : Type 0} {R : A → B → Type 0} {xs : List A} (ys : List B) → All (λ x. All (R x) ys) xs → All (λ y. All (λ x. R x y) xs) ys
+all_swap : {A B : Type 0} {R : A → B → Type 0} (ys : List B) {xs : List A} → All (λ x. All (R x) ys) xs → All (λ y. All (λ x. R x y) xs) ys
 all_swap ys all_nil = all_weaken (λ y h. all_nil) (all_any ys)
 all_swap ys (all_cons h hs) = all_weaken (λ y k. all_cons k.0 k.1) (all_both h (all_swap ys hs))
 

@@ -15,7 +15,7 @@ use Rattle.model.specs.Checks.{placed}
 use Rattle.model.specs.Routes.{Source, over_view, routes}
 use Rattle.model.specs.Rewriting.{rewritten}
 use Rattle.model.specs.Answers.{route_table, answer_cells, answers_compute}
-use Rattle.model.proofs.Asked.{grants_at, full, open-to, asked_computes}
+use Rattle.model.proofs.Asked.{grants_at, full, open_to, asked_computes}
 
 abbrev two : Stream
 two = record { name = []; columns = [] ∷ [] ∷ [] }
@@ -56,9 +56,9 @@ unfolding meaning_computes
 windows_sample = refl
 
 -- the row at 9 is in the window from 8 to 11 alone, which is open at 10
-open-sample : (plain x (aggregate sum (col 1 1) 3 2 (source 1))).rows ≡ record { at = 5; values = negsuc 0 ∷ [] } ∷ []
+open_sample : (plain x (aggregate sum (col 1 1) 3 2 (source 1))).rows ≡ record { at = 5; values = negsuc 0 ∷ [] } ∷ []
 unfolding meaning_computes
-open-sample = refl
+open_sample = refl
 
 -- ---- under grants
 
@@ -123,18 +123,18 @@ y =
       rows = (at 1 (pos 1) (pos 10) ∷ at 2 (pos 1) (pos 20) ∷ at 3 (pos 1) (pos 30) ∷ []) ∷ (at 4 (pos 1) (pos 5) ∷ at 5 (pos 1) (pos 6) ∷ at 6 (pos 1) (pos 7) ∷ []) ∷ [];
     }
 
-abbrev open-on : Right → List ℕ → List (Cond Compare) → Grant
-open-on r ss cs = record { role = 7 ∷ []; right = r; of = ss; shown = col 0 0 ∷ col 0 1 ∷ col 1 0 ∷ col 1 1 ∷ []; when = cs; from = none; to = none; size = 0; offset = 0 }
+abbrev open_on : Right → List ℕ → List (Cond Compare) → Grant
+open_on r ss cs = record { role = 7 ∷ []; right = r; of = ss; shown = col 0 0 ∷ col 0 1 ∷ col 1 0 ∷ col 1 1 ∷ []; when = cs; from = none; to = none; size = 0; offset = 0 }
 
 abbrev equal : List (Cond Compare)
 equal = is (column (col 1 0)) (column (col 0 0)) ∷ []
 
-abbrev open-grants : List Grant
-open-grants = open-on read (0 ∷ []) [] ∷ open-on read (1 ∷ []) [] ∷ open-on read (0 ∷ 1 ∷ []) equal ∷ open-on (figures sum) (0 ∷ 1 ∷ []) equal ∷ []
+abbrev open_grants : List Grant
+open_grants = open_on read (0 ∷ []) [] ∷ open_on read (1 ∷ []) [] ∷ open_on read (0 ∷ 1 ∷ []) equal ∷ open_on (figures sum) (0 ∷ 1 ∷ []) equal ∷ []
 
 -- each route's grants and rows
 abbrev answers_of : Query ℕ → List (List ℕ × List Row)
-answers_of q = map (λ r. (r.grants, (route_table y who r).rows)) (routes y.schema who open-grants q)
+answers_of q = map (λ r. (r.grants, (route_table y who r).rows)) (routes y.schema who open_grants q)
 
 -- the same rows by grants side by side and by the grant on the pair
 abbrev both_ways : List Row → List (List ℕ × List Row)
@@ -155,9 +155,9 @@ unfolding answers_compute
 two_picks_plain = refl
 
 -- the claims of Questions.antt hold here: the query is placed, the rows have all their values, and both routes' grants are open to the query
-open-here : (placed y.schema two_picks && full y (sources two_picks)) ∷ map (λ r. every (open-to y.schema two_picks) (grants_at open-grants r.grants)) (routes y.schema who open-grants two_picks) ≡ true ∷ true ∷ true ∷ []
+open_here : (placed y.schema two_picks && full y (sources two_picks)) ∷ map (λ r. every (open_to y.schema two_picks) (grants_at open_grants r.grants)) (routes y.schema who open_grants two_picks) ≡ true ∷ true ∷ true ∷ []
 unfolding asked_computes
-open-here = refl
+open_here = refl
 
 two_picks_sample : answers_of two_picks ≡ both_ways (middle_row ∷ [])
 unfolding answers_compute
@@ -197,6 +197,6 @@ unfolding answers_compute
 timed_sample = refl
 
 -- over the pair's view, which carries only the joined time, the pick would let all three pairs through, where the query's own answer has one row
-timed_witness : map length ((meaning y.clock (λ (s : Source). view y who s.grant) (over_view y.schema timed_pick (record { no = 3; grant = open-on read (0 ∷ 1 ∷ []) equal }))).rows ∷ (plain y timed_pick).rows ∷ []) ≡ 3 ∷ 1 ∷ []
+timed_witness : map length ((meaning y.clock (λ (s : Source). view y who s.grant) (over_view y.schema timed_pick (record { no = 3; grant = open_on read (0 ∷ 1 ∷ []) equal }))).rows ∷ (plain y timed_pick).rows ∷ []) ≡ 3 ∷ 1 ∷ []
 unfolding answers_compute
 timed_witness = refl

@@ -19,15 +19,14 @@ use Rattle.model.proofs.Conditions.{true_map}
 
 -- ---- the caller's values
 
--- An entry's value is that of the entry of its name.
-pub entry_of : (p : List Entry) (e : Entry) → T (distinct (λ a b. same_list a.name b.name) p) → Memᴰ e p → entry_value p e.name ≡ e.value
+value_of_entry : (e : Entry) (p : List Entry) → T (distinct (λ a b. same_list a.name b.name) p) → Memᴰ e p → entry_value p e.name ≡ e.value
 unfolding entry_value distinct some?
-entry_of p e d (Memᴰ.head {x = a} {xs = es} q) = rw q (go (same_list a.name a.name) (same_list_refl a.name))
+value_of_entry e p d (Memᴰ.head {x = a} {xs = es} q) = rw q (go (same_list a.name a.name) (same_list_refl a.name))
   where
     go : (b : Bool) → T b → cond b a.value (entry_value es a.name) ≡ a.value
     go true t = refl
     go false t = absurd t
-entry_of p e d (Memᴰ.tail {x = a} {xs = es} m) = go (same_list a.name e.name) (λ t. T_not (some? (λ b. same_list a.name b.name) es) (search parts) (among es m t)) (entry_of es e (search parts) m)
+value_of_entry e p d (Memᴰ.tail {x = a} {xs = es} m) = go (same_list a.name e.name) (λ t. T_not (some? (λ b. same_list a.name b.name) es) (search parts) (among es m t)) (value_of_entry e es (search parts) m)
   where
     among : (bs : List Entry) → Memᴰ e bs → T (same_list a.name e.name) → T (some? (λ b. same_list a.name b.name) bs)
     among bs (Memᴰ.head {x = b} {xs = cs} q) t = or_l (same_list a.name b.name) _ (rw q at t)
@@ -36,6 +35,10 @@ entry_of p e d (Memᴰ.tail {x = a} {xs = es} m) = go (same_list a.name e.name) 
     go : (b : Bool) → (T b → ⊥) → entry_value es e.name ≡ e.value → cond b a.value (entry_value es e.name) ≡ e.value
     go true f i = absurd (f tt)
     go false f i = i
+
+-- An entry's value is that of the entry of its name.
+pub entry_of : (p : List Entry) (e : Entry) → T (distinct (λ a b. same_list a.name b.name) p) → Memᴰ e p → entry_value p e.name ≡ e.value
+entry_of p e d m = value_of_entry e p d m
 
 -- what a term of a grant's condition stands for, of a row and a caller
 unfoldable pub granted_value : List Entry → List Col → Row → Term → ℤ

@@ -1,3 +1,2 @@
 // Definitions of queries, grants, views, routes and answers: see specs/.
 #![tactic(auto)]
-

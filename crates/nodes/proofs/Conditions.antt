@@ -19,7 +19,7 @@ use Rattle.syntax.specs.Limits.{is_value}
 use Rattle.calls.specs.Validity.{valid_name, valid_term, valid_cond}
 use Rattle.text.specs.Words.{name_of}
 use Rattle.nodes.specs.declared.Node.{Node}
-use Rattle.nodes.specs.Nodes.{node_words, node_at, unbiased, coded_term, node_compare, link, some_conds, first_cond, headed, cond_in, list_in, conditions_of, comparing, reaches, linked, in-mask, column_in, terms_sound, node_sound, all_sound, shallow_conds, nodes_sound}
+use Rattle.nodes.specs.Nodes.{node_words, node_at, unbiased, coded_term, node_compare, link, some_conds, first_cond, headed, cond_in, list_in, conditions_of, comparing, reaches, linked, in_mask, column_in, terms_sound, node_sound, all_sound, shallow_conds, nodes_sound}
 use Rattle.nodes.proofs.Words.{words_plain}
 use Rattle.nodes.proofs.Puts.{words_some}
 use Rattle.nodes.proofs.Reaching.{link_falls, list_step, list_stop, reaches_step, reaches_stop}
@@ -47,21 +47,21 @@ pub column_term : (code v : ℕ) → code < 24 → coded_term code v ≡ column 
 unfolding coded_term
 column_term code v h = rw (lt-ltb code 24 h)
 
-column_masked : (mask code : ℕ) → T (in-mask mask code) → T (column_in mask (col (code / 6) (code % 6)))
+column_masked : (mask code : ℕ) → T (in_mask mask code) → T (column_in mask (col (code / 6) (code % 6)))
 unfolding column_in
 column_masked mask code t =
     let e : code / 6 * 6 + code % 6 ≡ code = omega arith in
     and_both (ltb (code % 6) 6) _ (lt→ltb (code % 6) 6 (omega arith)) (rw e t)
 
-below_24 : (mask code : ℕ) → T (in-mask mask code) → code < 24
-unfolding in-mask
+below_24 : (mask code : ℕ) → T (in_mask mask code) → code < 24
+unfolding in_mask
 below_24 mask code t = ltb→lt code 24 (search parts)
 
-left_column : (mask code v : ℕ) → T (in-mask mask code) → T (left_sound mask (coded_term code v))
+left_column : (mask code v : ℕ) → T (in_mask mask code) → T (left_sound mask (coded_term code v))
 unfolding left_sound when_left valid_term term_cols every
 left_column mask code v t = rw (column_term code v (below_24 mask code t)) (and_both (column_in mask (col (code / 6) (code % 6))) true (column_masked mask code t) tt)
 
-right_column : (mask code v : ℕ) → T (in-mask mask code) → T (right_sound mask (coded_term code v))
+right_column : (mask code v : ℕ) → T (in_mask mask code) → T (right_sound mask (coded_term code v))
 unfolding right_sound when_right valid_term term_cols every
 right_column mask code v t = rw (column_term code v (below_24 mask code t)) (and_both (column_in mask (col (code / 6) (code % 6))) true (column_masked mask code t) tt)
 
@@ -81,8 +81,8 @@ unfolding terms_sound test_sound node_compare
 compare_sound mask n t =
     and_both (left_sound mask (coded_term n.left n.value)) (right_sound mask (coded_term n.right n.value))
     (left_column mask n.left n.value (search parts))
-    (or_cases (in-mask mask n.right || eqb n.right 26 && ltb n.value 4294967296) (eqb n.right 27 && valid_name (name_of n.value)) (and_r (in-mask mask n.left) _ t)
-    (λ b. or_cases (in-mask mask n.right) (eqb n.right 26 && ltb n.value 4294967296) b
+    (or_cases (in_mask mask n.right || eqb n.right 26 && ltb n.value 4294967296) (eqb n.right 27 && valid_name (name_of n.value)) (and_r (in_mask mask n.left) _ t)
+    (λ b. or_cases (in_mask mask n.right) (eqb n.right 26 && ltb n.value 4294967296) b
     (λ a. right_column mask n.right n.value a)
     (λ a. rw (eqb→eq n.right 26 (search parts)) (right_number mask n.value (ltb→lt n.value 4294967296 (search parts)))))
     (λ a. rw (eqb→eq n.right 27 (search parts)) (right_entry mask n.value (search parts))))

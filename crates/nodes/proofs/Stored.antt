@@ -251,8 +251,8 @@ further : (ok : Node → Bool) (vs ws : List ℕ) (b m : ℕ) → b ≤ m → Sa
 further ok vs ws b m l h s p = passes_same ok vs ws m (λ i o. sym (h i o)) (s (passes_same ok ws vs b (λ i o. h i (omega arith)) p))
 
 -- a condition in front of a chain
-in-front : (c : Cond Node) (vs ws : List ℕ) (b m k : ℕ) (ds : List (Cond Compare)) → b < m → Same ws vs m → Stored c vs b m → Chain ws m k ds → Chain ws b k (map_cond node_compare c ∷ ds)
-in-front c vs ws b m k ds l h s t = chain_join (chain_same (λ j i. sym (h j i)) (alone c vs b m l s)) t
+in_front : (c : Cond Node) (vs ws : List ℕ) (b m k : ℕ) (ds : List (Cond Compare)) → b < m → Same ws vs m → Stored c vs b m → Chain ws m k ds → Chain ws b k (map_cond node_compare c ∷ ds)
+in_front c vs ws b m k ds l h s t = chain_join (chain_same (λ j i. sym (h j i)) (alone c vs b m l s)) t
 
 all_more : (c : Cond Node) (cs : Conds Node) (b : ℕ) (ws : List ℕ) → Stored c (store c b ws) b (b + size c) → StoredAll cs (store_all cs (b + size c) (store c b ws)) (b + size c) (b + size c + sizes cs)
     → StoredAll (more c cs) (store_all cs (b + size c) (store c b ws)) b (b + (size c + sizes cs))
@@ -263,7 +263,7 @@ all_more c cs b ws s t =
     let w = store_all cs (b + size c) u in
     let h = same_all cs (b + size c) u in
     rw e (record {
-      chain = in-front c u w b (b + size c) (b + size c + sizes cs) _ (omega (arith, size_some c)) h s t.chain;
+      chain = in_front c u w b (b + size c) (b + size c + sizes cs) _ (omega (arith, size_some c)) h s t.chain;
       sound = λ ok d g p. t.sound ok d (every_append_r ok (tests c) (tests_of cs) g) (further ok u w b (b + size c) (omega arith) h (s.sound ok d (every_append_l ok (tests c) (tests_of cs) g)) p);
     })
 
@@ -317,7 +317,7 @@ stored_from (c ∷ cs) b ws h l room =
     let s : Stored c u b (b + size c) = stored_cond c b ws (search parts) (omega arith) (omega arith) in
     let t : StoredList cs w (b + size c) (b + size c + list_size cs) = stored_from cs (b + size c) u (search parts) (omega arith) (omega (arith, length_store c b ws)) in
     rw e (record {
-      chain = in-front c u w b (b + size c) (b + size c + list_size cs) _ (omega (arith, size_some c)) k s t.chain;
+      chain = in_front c u w b (b + size c) (b + size c + list_size cs) _ (omega (arith, size_some c)) k s t.chain;
       sound = λ ok d g p. t.sound ok d (search parts) (further ok u w b (b + size c) (omega arith) k (s.sound ok d (search parts)) p);
     })
 

@@ -13,7 +13,7 @@ use Rattle.calls.specs.Validity.{valid_name}
 use Rattle.text.specs.Words.{name_of}
 use Rattle.masks.specs.Masks.{bit?}
 use Rattle.nodes.specs.declared.Node.{Node}
-use Rattle.nodes.specs.Nodes.{node_of, node_at, node_words, link, comparing, reaches, linked, in-mask, terms_sound, node_sound, conditions_of, all_sound, shallow_conds, nodes_sound}
+use Rattle.nodes.specs.Nodes.{node_of, node_at, node_words, link, comparing, reaches, linked, in_mask, terms_sound, node_sound, conditions_of, all_sound, shallow_conds, nodes_sound}
 use Rattle.nodes.proofs.Puts.{words_some}
 use Rattle.nodes.proofs.Reaching.{link_falls, reaches_step, reaches_stop, reaches_fuel}
 
@@ -120,22 +120,22 @@ pub ruleset linked_ends = (linked_test, linked_right, linked_low, linked_high, l
 
 -- ---- terms
 
-pub mask_past : (mask code : ℕ) → 24 ≤ code → false ≡ in-mask mask code
-unfolding in-mask
+pub mask_past : (mask code : ℕ) → 24 ≤ code → false ≡ in_mask mask code
+unfolding in_mask
 mask_past mask code h = rw (le-ltb code 24 h)
 
-pub mask_bit : (mask code : ℕ) {x : Bool} → code < 24 → x ≡ bit? mask code → x ≡ in-mask mask code
-unfolding in-mask
+pub mask_bit : (mask code : ℕ) {x : Bool} → code < 24 → x ≡ bit? mask code → x ≡ in_mask mask code
+unfolding in_mask
 mask_bit mask code h e = rw (lt-ltb code 24 h) e
 
 pub ruleset mask_ends = (mask_past, mask_bit)
 
-module _ (mask : ℕ) (n : Node) {x : Bool} (p : x ≡ in-mask mask n.left) where
+module _ (mask : ℕ) (n : Node) {x : Bool} (p : x ≡ in_mask mask n.left) where
   pub terms_left : not x ≡ true → false ≡ terms_sound mask n
   unfolding terms_sound
   terms_left f = rw (sym p ∙ not-true x f)
 
-  module _ (t : not x ≡ false) {y : Bool} (q : y ≡ in-mask mask n.right) where
+  module _ (t : not x ≡ false) {y : Bool} (q : y ≡ in_mask mask n.right) where
     pub terms_column : y ≡ true → true ≡ terms_sound mask n
     unfolding terms_sound
     terms_column g = rw (sym p ∙ not-false x t, sym q ∙ g)

@@ -104,18 +104,18 @@ linked ws k n =
     (eqb n.right 0 && leb 7 n.head && leb n.head 9 && ltb (suc b) k && reaches k ws b (k - 1) && (ltb n.head 9 || eqb (link ws (k - 1)) b))
 
 -- a column of a mask
-unfoldable pub in-mask : ℕ → ℕ → Bool
-in-mask mask code = ltb code time_code && bit? mask code
+unfoldable pub in_mask : ℕ → ℕ → Bool
+in_mask mask code = ltb code time_code && bit? mask code
 
 unfoldable pub column_in : ℕ → Col → Bool
-column_in mask (col s c) = ltb c max_columns && in-mask mask (s * max_columns + c)
+column_in mask (col s c) = ltb c max_columns && in_mask mask (s * max_columns + c)
 column_in mask figure = false
 
 -- the terms of a grant's comparison: a column, and a column, a number or a profile entry
 unfoldable pub terms_sound : ℕ → Node → Bool
 terms_sound mask n =
-    in-mask mask n.left
-    && (in-mask mask n.right || eqb n.right number_code && ltb n.value 4294967296 || eqb n.right entry_code && valid_name (name_of n.value))
+    in_mask mask n.left
+    && (in_mask mask n.right || eqb n.right number_code && ltb n.value 4294967296 || eqb n.right entry_code && valid_name (name_of n.value))
 
 -- a node has the link that its head asks for, and passes a test where it is a comparison
 unfoldable pub node_sound : (Node → Bool) → List ℕ → ℕ → Node → Bool

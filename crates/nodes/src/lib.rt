@@ -2,7 +2,7 @@
 #![tactic(auto)]
 
 ghost use Rattle.std.specs.Prelude.{◌≡◌, Bool, suc, ◌+◌, ◌*◌, ◌-◌, ◌≤◌, T, length, get_or};
-ghost use Rattle.nodes.specs.Nodes.{node_of, node_at, node_words, link, conditions_of, comparing, reaches, linked, in-mask, terms_sound, node_sound, all_sound, max_nesting, shallow_conds, nodes_sound};
+ghost use Rattle.nodes.specs.Nodes.{node_of, node_at, node_words, link, conditions_of, comparing, reaches, linked, in_mask, terms_sound, node_sound, all_sound, max_nesting, shallow_conds, nodes_sound};
 ghost use Rattle.nodes.specs.Storing.{head_word, put_value, put_node};
 
 use terms::Term;
@@ -202,7 +202,7 @@ fn links_well(words: &[u32], k: usize, n: Node) -> bool
 
 // Whether a term is a column of a mask.
 fn masked(mask: u32, code: u32) -> bool
-    ensures { result ≡ in-mask mask code }
+    ensures { result ≡ in_mask mask code }
 {
     if Term::TIME <= code {
         return false;

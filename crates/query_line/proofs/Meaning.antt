@@ -270,11 +270,11 @@ module _ (ns : List ℕ) (sound : T (schema_sound ns)) where
     unfolding with_parts
     words_after r i is e = let k = parts_words ns is (with_part ns r i) e in omega arith
 
-    in-header : (a b : Ref) (xs ys : List Col) → linked (column_of d a) (column_of d b) xs ys ≡ true
+    in_header : (a b : Ref) (xs ys : List Col) → linked (column_of d a) (column_of d b) xs ys ≡ true
         → ((x : Ref) → T (fine ns x) → T (has xs (column_of d x)) → coded_col (ref_code ns x) ≡ column_of d x) → ((x : Ref) → T (fine ns x) → T (has ys (column_of d x)) → coded_col (ref_code ns x) ≡ column_of d x)
         → T (fine ns a) → T (fine ns b) → (coded_col (ref_code ns a) ≡ column_of d a) × (coded_col (ref_code ns b) ≡ column_of d b)
     unfolding linked
-    in-header a b xs ys e f g s t = go (has xs (column_of d a)) (has ys (column_of d b)) (has xs (column_of d b)) (has ys (column_of d a)) refl refl refl refl e
+    in_header a b xs ys e f g s t = go (has xs (column_of d a)) (has ys (column_of d b)) (has xs (column_of d b)) (has ys (column_of d a)) refl refl refl refl e
       where
         go : (p q u v : Bool) → has xs (column_of d a) ≡ p → has ys (column_of d b) ≡ q → has xs (column_of d b) ≡ u → has ys (column_of d a) ≡ v → (p && q || u && v) ≡ true
             → (coded_col (ref_code ns a) ≡ column_of d a) × (coded_col (ref_code ns b) ≡ column_of d b)
@@ -379,7 +379,7 @@ module _ (ns : List ℕ) (sound : T (schema_sound ns)) where
         let oq : (with_parts ns (with_parts ns r1 ps) qs).over ≡ false = ap (λ v. v.over) (sym wa) ∙ o in
         let wp = parts_words ns qs (with_parts ns r1 ps) oq in
         let we : (with_parts ns r1 (ps ++ qs)).words ≡ (with_parts ns (with_parts ns r1 ps) qs).words = ap (λ v. v.words) wa in
-        let hs = in-header x y hp hq li (col_back (run_parts ns ps begun).top.mask hp fp.shows) (col_back (run_parts ns qs begun).top.mask hq fq.shows) kn.0 kn.1 in
+        let hs = in_header x y hp hq li (col_back (run_parts ns ps begun).top.mask hp fp.shows) (col_back (run_parts ns qs begun).top.mask hq fq.shows) kn.0 kn.1 in
         let ll = length_parts ns ps r1 ws in
         let lp = f r1 ws tp ap1 (and_l (keeps (distinct same_col) (resolve d p)) _ k) op (omega arith) room (agrees_first ns vs ps qs r1 ws o a) in
         let lq = g (with_parts ns r1 ps) (store_parts ns r1 ws ps) tq aq (and_r (keeps (distinct same_col) (resolve d p)) _ k) oq (omega arith) (omega arith) (agrees_rest ns vs ps qs r1 ws a) in

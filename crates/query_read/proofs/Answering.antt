@@ -452,7 +452,7 @@ module _ (ns : List ℕ) (s : Bytes) (at : ℕ) (ws₀ ws : List ℕ) (second : 
                 let j = (afterwards l).further (not-false k.ok go) in
                 let y = few x b c in
                 let u : k.nest - 1 + 1 ≡ k.nest = omega arith in
-                let m : stack (set second (k.nest - 1) false) k.nest ≡ false ∷ stack second (k.nest - 1) = ap (stack (set second (k.nest - 1) false)) (sym u) ∙ stack_push second (k.nest - 1) false (open-few k.nest f n (cost ns x) c l) in
+                let m : stack (set second (k.nest - 1) false) k.nest ≡ false ∷ stack second (k.nest - 1) = ap (stack (set second (k.nest - 1) false)) (sym u) ∙ stack_push second (k.nest - 1) false (open_few k.nest f n (cost ns x) c l) in
                 record {
                   read = on_read (rest (stack second nest) (drop o.next s)) x e g ∙ ap (answer ns s v) t ∙ ap (λ st. answer ns s v (within st (drop k.at s))) (sym m);
                   stored = λ q. on_stored (rest (stack second nest) (drop o.next s)) x e g h q ∙ ap (stored_on ns v vs) t ∙ ap (λ st. stored_on ns v vs (within st (drop k.at s))) (sym m);
@@ -463,8 +463,8 @@ module _ (ns : List ℕ) (s : Bytes) (at : ℕ) (ws₀ ws : List ℕ) (second : 
                   places = length-set second (k.nest - 1) false ∙ inv.places;
                 })
               where
-                open-few : (m : ℕ) → m ≤ nest → 5 * nest ≤ p → (c : ℕ) → p + c ≤ o.next → o.next ≤ length s → m - 1 < length second
-                open-few m f n c h l = let i = inv.places in omega arith
+                open_few : (m : ℕ) → m ≤ nest → 5 * nest ≤ p → (c : ℕ) → p + c ≤ o.next → o.next ≤ length s → m - 1 < length second
+                open_few m f n c h l = let i = inv.places in omega arith
 
             pub walk_less : (k.nest ≡ 0 → ⊥) → p < length s → length s - k.at < length s - p
             walk_less z i = ended (λ x e b c l g h. let f = (afterwards l).forward (not-false k.ok go) (omega arith) in let t = cost_some ns x in omega arith)

@@ -31,7 +31,7 @@ use Rattle.text.specs.Keywords.{kind_number, kind_coded, coded, numbered, word_a
 use Rattle.text.specs.Readings.{any_cond, any_items, any_some}
 use Rattle.text.proofs.Runs.{first_byte, run_from, place_left}
 use Rattle.text.proofs.Views.{view_none, view_here, left_drop}
-use Rattle.text.proofs.Places.{byte_inside, byte_is, byte_not, space_is, space_not, close_is, close_not, name_not, name_is, number_not, number_is, open-not, open_is, kind_is, equal_word}
+use Rattle.text.proofs.Places.{byte_inside, byte_is, byte_not, space_is, space_not, close_is, close_not, name_not, name_is, number_not, number_is, open_not, open_is, kind_is, equal_word}
 use Rattle.text.proofs.Fuel.{any_cond_leaves, no_form_next, items_step}
 use Rattle.items.specs.Items.{code_short}
 use Rattle.terms.specs.declared.Reference.{Reference}
@@ -74,7 +74,7 @@ module _ (s : Bytes) (at : ℕ) {o : ℕ} (p : o ≡ opening-at s at 0x3d) where
       go false t d = g (eqb-false (get_or s at 0) 32 t) (d ∙ rw t)
 
   opening_none : {X : Type 0} → o ≡ 0 → (byte 32 (drop at s) ≡ none → X) → (byte 32 (drop at s) ≡ some (record { what = tt; left = drop (at + 1) s }) → read_open (G.op_word G.eq) (drop (at + 1) s) ≡ none → X) → X
-  opening_none z f g = opening_by (λ b d. g (space_is s at refl b) (open-not s (at + 1) equal_word d z)) (λ b d. f (space_not s at refl b))
+  opening_none z f g = opening_by (λ b d. g (space_is s at refl b) (open_not s (at + 1) equal_word d z)) (λ b d. f (space_not s at refl b))
 
   opening_some : {X : Type 0} → (o ≡ 0 → ⊥) → (byte 32 (drop at s) ≡ some (record { what = tt; left = drop (at + 1) s }) → read_open (G.op_word G.eq) (drop (at + 1) s) ≡ some (record { what = G.op_word G.eq; left = drop o s }) → X) → X
   opening_some n g = opening_by (λ b d. g (space_is s at refl b) (open_is s (at + 1) equal_word d n)) (λ b d. absurd (n d))

@@ -14,7 +14,7 @@ use Rattle.syntax.specs.Grammar.{Bytes, Form, Fn, Ref, fn_word, put_open}
 use Rattle.syntax.specs.Readers.{Read, Reader, bind, ◌>>=◌, ◌>>◌, give, byte, read_head, read_open, read_name, read_int, read_ref, form_next, Kind, k_in, k_pick, k_keep, k_join, k_fn, kind_word, kinds, read_rest}
 use Rattle.syntax.proofs.Steps.{from, done, bind_bind, head_read}
 use Rattle.syntax.proofs.Conditions.{cond_read}
-use Rattle.syntax.proofs.Leaving.{Leaves, left_within, ends_both, byte_less, leaves_byte, leaves_item, leaves_give, head_leaves, open-leaves, name_leaves, int_leaves, ref_leaves}
+use Rattle.syntax.proofs.Leaving.{Leaves, left_within, ends_both, byte_less, leaves_byte, leaves_item, leaves_give, head_leaves, open_leaves, name_leaves, int_leaves, ref_leaves}
 use Rattle.text.specs.Readings.{any_cond, any_some, any_form}
 use Rattle.text.proofs.Runs.{inside as in-text}
 use Rattle.text.proofs.Places.{byte_is, byte_not}
@@ -142,7 +142,7 @@ within_own st bs =
 
 -- ---- how much of the text a part takes
 
-ruleset leaving = (leaves_byte, leaves_item, leaves_give, open-leaves, name_leaves, int_leaves, ref_leaves, any_cond_leaves)
+ruleset leaving = (leaves_byte, leaves_item, leaves_give, open_leaves, name_leaves, int_leaves, ref_leaves, any_cond_leaves)
 
 part_leaves : (k : Kind) → Leaves (read_part k)
 unfolding read_part
@@ -196,7 +196,7 @@ part_cost ns k_keep bs r e =
 part_cost ns k_join bs r e =
     from _ _ e (λ u p q. from _ _ q (λ o i j. from _ _ j (λ v k l. from _ _ l (λ a m n. from _ _ n (λ w x y. from _ _ y (λ b f g. from _ _ g (λ h s t. from _ _ t (λ c d z.
     let a1 = byte_less 32 bs u p in
-    let a2 = left_within (open-leaves (G.op_word G.eq)) u.left o i in
+    let a2 = left_within (open_leaves (G.op_word G.eq)) u.left o i in
     let a3 = byte_less 32 o.left v k in
     let a4 = left_within ref_leaves v.left a m in
     let a5 = byte_less 32 a.left w x in

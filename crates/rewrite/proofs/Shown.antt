@@ -26,7 +26,7 @@ use Rattle.masks.proofs.Bits.{bit_or_lem}
 use Rattle.masks.proofs.Lists.{inside_bits}
 use Rattle.orders.specs.Orders.{codes_in, order_of, order_within}
 use Rattle.orders.proofs.Codes.{codes_fit, codes_of, codes_within}
-use Rattle.nodes.specs.Nodes.{in-mask, column_in}
+use Rattle.nodes.specs.Nodes.{in_mask, column_in}
 use Rattle.columns.proofs.ColumnBits.{bit_above}
 use Rattle.grant.specs.Grants.{column_codes, streams_mask}
 use Rattle.grant.proofs.Masked.{column_theirs}
@@ -70,7 +70,7 @@ Low mask = (c : ℕ) → 24 ≤ c → bit? mask c ≡ false
 
 module _ (mask : ℕ) (low : Low mask) where
   shown_code : (c : ℕ) → column_in mask (coded_col c) ≡ bit? mask c
-  unfolding column_in in-mask coded_col
+  unfolding column_in in_mask coded_col
   shown_code c = go (dec_lt c 24)
     where
       go : Dec (c < 24) → column_in mask (cond (ltb c 24) (col (c / 6) (c % 6)) figure) ≡ bit? mask c
@@ -169,7 +169,7 @@ module _ (ns : List ℕ) where
 
     -- it shows columns of theirs alone
     pub mask_theirs : (c : Col) → T (column_in mask c) → T (has (gather (columns_of (schema_of ns)) ss) c)
-    unfolding column_in in-mask
+    unfolding column_in in_mask
     mask_theirs figure t = absurd t
     mask_theirs (col s c) t =
         let code = s * 6 + c in
@@ -179,7 +179,7 @@ module _ (ns : List ℕ) where
         rw (column_theirs ns ss b (col s c)) at z
 
 column_or : (a b : ℕ) (c : Col) → column_in (bit_or a b) c ≡ (column_in a c || column_in b c)
-unfolding column_in in-mask
+unfolding column_in in_mask
 column_or a b figure = refl
 column_or a b (col s c) = rw (bit_or_lem a b (s * 6 + c)) (go (ltb c 6) (ltb (s * 6 + c) 24) (bit? a (s * 6 + c)) (bit? b (s * 6 + c)))
   where

@@ -66,8 +66,8 @@ module _ (n width at room : ℕ) (some : 1 ≤ width) where
   pub after_fits : n ≤ room / width → at ≤ room → room ≤ 67108864 → Fits w32 (at + 4 + n * width)
   after_fits h k l = let a = product h in record { fits = omega arith }
 
-  pub in-room : n ≤ room / width → (k : ℕ) → Counted k (room / width) n → Counted (at + (4 + k * width)) room (at + 4 + n * width)
-  in-room h k c =
+  pub in_room : n ≤ room / width → (k : ℕ) → Counted k (room / width) n → Counted (at + (4 + k * width)) room (at + 4 + n * width)
+  in_room h k c =
       record {
         exact = λ l. let e = c.exact ((le-div_iff_mul-le some).1 (omega arith)) in same e;
         beyond = λ l. go (dec_le k (room / width)) l;
@@ -80,4 +80,4 @@ module _ (n width at room : ℕ) (some : 1 ≤ width) where
       go (yes a) l = let e = same (c.exact a) in omega arith
       go (no a) l = let b = c.beyond (omega arith) in absurd (omega arith)
 
-pub ruleset after_ends = (past_room, in-room)
+pub ruleset after_ends = (past_room, in_room)

@@ -24,7 +24,7 @@ use Rattle.needs.specs.declared.Needs.{Needs}
 use Rattle.routes.specs.declared.Open.{Open}
 use Rattle.routes.specs.declared.Route as R
 use Rattle.routes.specs.Opening.{caller_in}
-use Rattle.routes.specs.Listing.{open-all, routes_in}
+use Rattle.routes.specs.Listing.{open_all, routes_in}
 use Rattle.plan.proofs.Shapes.{query_offset}
 use Rattle.plan.specs.declared.Plan.{Plan}
 use Rattle.plan.specs.Plans.{plan_in, planned, plan_streams}
@@ -50,7 +50,7 @@ module _ (m : Memory) (safe : T (memory_sound m)) (ws own roles profile : List â
   n = needs_of ns q
 
   abbrev o : Open
-  o = open-all n ws roles profile gs
+  o = open_all n ws roles profile gs
 
   abbrev plan_at : R.Route â†’ Plan
   plan_at y = way_plan ns (way_of o n y) fs

@@ -33,7 +33,7 @@ use Rattle.needs.specs.declared.Needs.{Needs}
 use Rattle.routes.specs.declared.Open.{Open}
 use Rattle.routes.specs.declared.Route as R
 use Rattle.routes.specs.Opening.{caller_in}
-use Rattle.routes.specs.Listing.{open-all, numbers_of, routes_in}
+use Rattle.routes.specs.Listing.{open_all, numbers_of, routes_in}
 use Rattle.routes.proofs.Places.{Held}
 use Rattle.routes.proofs.Agreed.{Standing, Granting, on_one, on_two, on_both, on_told, routes_placed, routes_known, all_unmap}
 use Rattle.rewrite.specs.declared.Restriction.{Restriction}
@@ -90,7 +90,7 @@ module _ (x : Record) (ns ws own roles profile : List ℕ) (fs : List Form) (c :
   n = needs_of ns q
 
   abbrev o : Open
-  o = open-all n ws roles profile gs
+  o = open_all n ws roles profile gs
 
   few : length gs ≤ max_grants
   unfolding catalogue_sound

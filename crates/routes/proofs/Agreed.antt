@@ -36,7 +36,7 @@ use Rattle.openings.proofs.Made.{route_of, routes_made}
 use Rattle.routes.specs.declared.Open.{Open}
 use Rattle.routes.specs.declared.Route as R
 use Rattle.routes.specs.Opening.{streams_asked, caller_in, side_opened, right_opened, pair_opened, figures_opened}
-use Rattle.routes.specs.Listing.{open-all, side_route, lone_route, gate_of, leaves_some, places_in, right_sides, side_routes, opened_routes, routes_by, routes_in, numbers_of}
+use Rattle.routes.specs.Listing.{open_all, side_route, lone_route, gate_of, leaves_some, places_in, right_sides, side_routes, opened_routes, routes_by, routes_in, numbers_of}
 use Rattle.routes.proofs.Listed.{by_kinds}
 use Rattle.routes.proofs.Owned.{belongs_is, tidy_laid}
 use Rattle.routes.proofs.Shown.{hs}
@@ -91,7 +91,7 @@ module _ (ns ws roles profile : List ℕ) (gs : List D.Grant) (q : Query ℕ) (p
   n = needs_of ns q
 
   abbrev o : Open
-  o = open-all n ws roles profile gs
+  o = open_all n ws roles profile gs
 
   abbrev ss : List Slot
   ss = slots ws 0 gs

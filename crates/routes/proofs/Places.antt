@@ -22,7 +22,7 @@ use Rattle.grant.specs.declared.Grant.{Grant}
 use Rattle.needs.specs.declared.Needs.{Needs}
 use Rattle.routes.specs.declared.Open.{Open}
 use Rattle.routes.specs.Opening.{belongs_in, side_opened, right_opened, pair_opened, figures_opened, opened_bits}
-use Rattle.routes.specs.Listing.{none_open, bit_also, with_opened, caller_bits, open-from, open-all, places_in}
+use Rattle.routes.specs.Listing.{none_open, bit_also, with_opened, caller_bits, open_from, open_all, places_in}
 use Rattle.routes.proofs.Listed.{bit_with}
 
 -- ---- grants with their places
@@ -106,15 +106,15 @@ module _ (n : Needs) (ws roles profile : List ℕ) where
     abbrev stands : ℕ → List Grant → ℕ → Bool
     stands i gs j = some? (λ (s : Slot). test s && eqb s.place j) (slots ws i gs)
 
-    open-bit : (i : ℕ) (gs : List Grant) (o : Open) (j : ℕ) → i + length gs ≤ 24 → bit? (field (open-from n ws roles profile i gs o)) j ≡ (bit? (field o) j || stands i gs j)
-    unfolding open-from slots some?
-    open-bit i [] o j h = none (bit? (field o) j)
+    open_bit : (i : ℕ) (gs : List Grant) (o : Open) (j : ℕ) → i + length gs ≤ 24 → bit? (field (open_from n ws roles profile i gs o)) j ≡ (bit? (field o) j || stands i gs j)
+    unfolding open_from slots some?
+    open_bit i [] o j h = none (bit? (field o) j)
       where
         none : (b : Bool) → b ≡ (b || false)
         none true = refl
         none false = refl
-    open-bit i (g ∷ gs) o j h =
-        open-bit (suc i) gs (with_opened o i (caller_bits n g (words_in ws i) roles profile) g) j (omega arith)
+    open_bit i (g ∷ gs) o j h =
+        open_bit (suc i) gs (with_opened o i (caller_bits n g (words_in ws i) roles profile) g) j (omega arith)
         ∙ ap (λ b. b || stands (suc i) gs j)
         (ap (λ (m : ℕ). bit? m j) (law o i (caller_bits n g (words_in ws i) roles profile) g (omega arith)) ∙ also_bit (caller_bits n g (words_in ws i) roles profile) k (field o) i j (omega arith)
         ∙ ap (λ b. bit? (field o) j || (b && eqb i j)) (is (record { place = i; grant = g; words = words_in ws i })))
@@ -185,10 +185,10 @@ module _ (n : Needs) (ws roles profile : List ℕ) where
         go true f r = rw (here ∙ f, f) (ap (λ l. i ∷ l) r)
         go false f r = rw (here ∙ f, f) r
 
-    pub bits_placed : (gs : List Grant) (o : Open) → length gs ≤ 24 → field o ≡ 0 → places_in (field (open-from n ws roles profile 0 gs o)) ≡ map (λ (s : Slot). s.place) (select test (slots ws 0 gs))
+    pub bits_placed : (gs : List Grant) (o : Open) → length gs ≤ 24 → field o ≡ 0 → places_in (field (open_from n ws roles profile 0 gs o)) ≡ map (λ (s : Slot). s.place) (select test (slots ws 0 gs))
     unfolding bits_from
     bits_placed gs o h e =
-        select_same _ _ (all_weaken (λ j u. open-bit 0 gs o j (omega arith) ∙ ap (λ b. b || stands 0 gs j) (ap (λ (m : ℕ). bit? m j) e ∙ bit_none j)) (all_any (count_from 0 32)))
+        select_same _ _ (all_weaken (λ j u. open_bit 0 gs o j (omega arith) ∙ ap (λ b. b || stands 0 gs j) (ap (λ (m : ℕ). bit? m j) e ∙ bit_none j)) (all_any (count_from 0 32)))
         ∙ places_are 0 32 gs (omega arith)
 
   -- ---- the four masks
@@ -262,35 +262,35 @@ module _ (n : Needs) (ws roles profile : List ℕ) where
     to_law = rw (lt-ltb p 24 h)
 
   module _ (gs : List Grant) (h : length gs ≤ 24) where
-    pub left_places : places_in (open-all n ws roles profile gs).left ≡ map (λ (s : Slot). s.place) (select (λ (s : Slot). mine s && side_opened n s.grant n.left) (slots ws 0 gs))
-    unfolding open-all
+    pub left_places : places_in (open_all n ws roles profile gs).left ≡ map (λ (s : Slot). s.place) (select (λ (s : Slot). mine s && side_opened n s.grant n.left) (slots ws 0 gs))
+    unfolding open_all
     left_places = bits_placed (λ (o : Open). o.left) 0 left_law (λ (s : Slot). mine s && side_opened n s.grant n.left) (λ s. caller_bit s 0 _ (four s).0) gs none_open h (unfold none_open in refl)
 
-    pub right_places : places_in (open-all n ws roles profile gs).right ≡ map (λ (s : Slot). s.place) (select (λ (s : Slot). mine s && right_opened n s.grant) (slots ws 0 gs))
-    unfolding open-all
+    pub right_places : places_in (open_all n ws roles profile gs).right ≡ map (λ (s : Slot). s.place) (select (λ (s : Slot). mine s && right_opened n s.grant) (slots ws 0 gs))
+    unfolding open_all
     right_places = bits_placed (λ (o : Open). o.right) 1 right_law (λ (s : Slot). mine s && right_opened n s.grant) (λ s. caller_bit s 1 _ (four s).1) gs none_open h (unfold none_open in refl)
 
-    pub pair_places : places_in (open-all n ws roles profile gs).pair ≡ map (λ (s : Slot). s.place) (select (λ (s : Slot). mine s && pair_opened n s.grant s.words) (slots ws 0 gs))
-    unfolding open-all
+    pub pair_places : places_in (open_all n ws roles profile gs).pair ≡ map (λ (s : Slot). s.place) (select (λ (s : Slot). mine s && pair_opened n s.grant s.words) (slots ws 0 gs))
+    unfolding open_all
     pair_places = bits_placed (λ (o : Open). o.pair) 2 pair_law (λ (s : Slot). mine s && pair_opened n s.grant s.words) (λ s. caller_bit s 2 _ (four s).2) gs none_open h (unfold none_open in refl)
 
-    pub figures_places : places_in (open-all n ws roles profile gs).figures ≡ map (λ (s : Slot). s.place) (select (λ (s : Slot). mine s && figures_opened n s.grant s.words) (slots ws 0 gs))
-    unfolding open-all
+    pub figures_places : places_in (open_all n ws roles profile gs).figures ≡ map (λ (s : Slot). s.place) (select (λ (s : Slot). mine s && figures_opened n s.grant s.words) (slots ws 0 gs))
+    unfolding open_all
     figures_places = bits_placed (λ (o : Open). o.figures) 3 figures_law (λ (s : Slot). mine s && figures_opened n s.grant s.words) (λ s. caller_bit s 3 _ (four s).3) gs none_open h (unfold none_open in refl)
 
   -- ---- what stands in a place
 
   -- one of the lists of numbers, and the number of a grant that goes into it
   module _ (field : Open → List ℕ) (value : Grant → ℕ) (law : (o : Open) (p bits : ℕ) (g : Grant) → p < 24 → field (with_opened o p bits g) ≡ set (field o) p (value g)) where
-    number_kept : (i : ℕ) (gs : List Grant) (o : Open) (j : ℕ) → i + length gs ≤ 24 → j < i → get_or (field (open-from n ws roles profile i gs o)) j 0 ≡ get_or (field o) j 0
-    unfolding open-from
+    number_kept : (i : ℕ) (gs : List Grant) (o : Open) (j : ℕ) → i + length gs ≤ 24 → j < i → get_or (field (open_from n ws roles profile i gs o)) j 0 ≡ get_or (field o) j 0
+    unfolding open_from
     number_kept i [] o j h l = refl
     number_kept i (g ∷ gs) o j h l =
         number_kept (suc i) gs (with_opened o i (caller_bits n g (words_in ws i) roles profile) g) j (omega arith) (omega arith)
         ∙ ap (λ (xs : List ℕ). get_or xs j 0) (law o i (caller_bits n g (words_in ws i) roles profile) g (omega arith)) ∙ get_or-set_other (field o) i j (value g) 0 (λ e. omega arith)
 
-    numbers_placed : (i : ℕ) (gs : List Grant) (o : Open) → i + length gs ≤ 24 → length (field o) ≡ 24 → All (λ (s : Slot). get_or (field (open-from n ws roles profile i gs o)) s.place 0 ≡ value s.grant) (slots ws i gs)
-    unfolding open-from slots
+    numbers_placed : (i : ℕ) (gs : List Grant) (o : Open) → i + length gs ≤ 24 → length (field o) ≡ 24 → All (λ (s : Slot). get_or (field (open_from n ws roles profile i gs o)) s.place 0 ≡ value s.grant) (slots ws i gs)
+    unfolding open_from slots
     numbers_placed i [] o h l = all_nil
     numbers_placed i (g ∷ gs) o h l =
         let p = with_opened o i (caller_bits n g (words_in ws i) roles profile) g in
@@ -299,15 +299,15 @@ module _ (n : Needs) (ws roles profile : List ℕ) where
         (number_kept (suc i) gs p i (omega arith) (omega arith) ∙ ap (λ (xs : List ℕ). get_or xs i 0) e ∙ get_or-set_same (field o) i (value g) 0 (omega arith))
         (numbers_placed (suc i) gs p (omega arith) (ap length e ∙ length-set (field o) i (value g) ∙ l))
 
-  pub all_held : (gs : List Grant) → length gs ≤ 24 → All (λ (s : Slot). Held (open-all n ws roles profile gs) s.place s.grant) (slots ws 0 gs)
-  unfolding open-all
+  pub all_held : (gs : List Grant) → length gs ≤ 24 → All (λ (s : Slot). Held (open_all n ws roles profile gs) s.place s.grant) (slots ws 0 gs)
+  unfolding open_all
   all_held gs h =
       all_weaken (λ s k. record { shown = k.0.0; words = k.0.1; from = k.1.0; to = k.1.1 })
       (all_both (all_both (of (λ (o : Open). o.shown) (λ (g : Grant). g.shown) shown_law none_shown) (of (λ (o : Open). o.words) (λ (g : Grant). g.words) words_law none_words))
       (all_both (of (λ (o : Open). o.from) (λ (g : Grant). g.from) from_law none_from) (of (λ (o : Open). o.to) (λ (g : Grant). g.to) to_law none_to)))
     where
       of : (field : Open → List ℕ) (value : Grant → ℕ) → ((o : Open) (p bits : ℕ) (g : Grant) → p < 24 → field (with_opened o p bits g) ≡ set (field o) p (value g)) → length (field none_open) ≡ 24
-          → All (λ (s : Slot). get_or (field (open-from n ws roles profile 0 gs none_open)) s.place 0 ≡ value s.grant) (slots ws 0 gs)
+          → All (λ (s : Slot). get_or (field (open_from n ws roles profile 0 gs none_open)) s.place 0 ≡ value s.grant) (slots ws 0 gs)
       of field value law l = numbers_placed field value law 0 gs none_open (omega arith) l
 
       none_shown : length none_open.shown ≡ 24

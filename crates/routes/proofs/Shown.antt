@@ -27,7 +27,7 @@ use Rattle.masks.specs.Masks.{bit?, inside, mask_of}
 use Rattle.masks.proofs.Bits.{bit_and_lem, bit_or_lem, bit_past}
 use Rattle.masks.proofs.Lists.{bits_same, bit_none, bit_mask, inside_bits, bits_inside, inside_every}
 use Rattle.columns.proofs.ColumnBits.{bit_column, figure_none}
-use Rattle.nodes.specs.Nodes.{in-mask, column_in}
+use Rattle.nodes.specs.Nodes.{in_mask, column_in}
 use Rattle.grant.specs.Grants.{streams_of, grant_of, column_codes, streams_mask, shown_sound, grant_sound}
 use Rattle.grant.specs.declared.Grant.{Grant}
 use Rattle.grant.proofs.Masked.{low, declared_stream, cols_low, column_theirs}
@@ -248,7 +248,7 @@ module _ (ns : List ℕ) where
 
     -- of its streams' columns it shows those of its mask
     shows_masked : (c : Col) → has (shown_of (schema_of ns) (grant_of ns g ws)) c ≡ column_in g.shown c
-    unfolding shown_of grant_of column_in in-mask some? has
+    unfolding shown_of grant_of column_in in_mask some? has
     shows_masked c =
         has_select_both (λ c. has (select (column_in g.shown) (gather hs (streams_of g))) c) c (gather hs (streams_of g))
         ∙ ap (λ b. has (gather hs (streams_of g)) c && b) (has_select_both (column_in g.shown) c (gather hs (streams_of g)))
@@ -267,7 +267,7 @@ module _ (ns : List ℕ) where
         wider figure u = absurd u
 
     pub shows_bit : (s k : ℕ) → s < 4 → k < 6 → has (shown_of (schema_of ns) (grant_of ns g ws)) (col s k) ≡ bit? g.shown (s * 6 + k)
-    unfolding column_in in-mask
+    unfolding column_in in_mask
     shows_bit s k a b = shows_masked (col s k) ∙ rw (lt-ltb k 6 b, lt-ltb (s * 6 + k) 24 (omega arith))
 
     -- a bit of its mask is a column of one of its streams

@@ -57,12 +57,12 @@ unfoldable pub caller_bits : Needs → Grant → List ℕ → List ℕ → List 
 caller_bits n g ws roles profile = cond (belongs_in g ws roles profile) (opened_bits n g ws) 0
 
 -- the grants of a catalogue from a place on, one after the other
-unfoldable pub open-from : Needs → List ℕ → List ℕ → List ℕ → ℕ → List Grant → Open → Open
-open-from n ws roles profile i [] o = o
-open-from n ws roles profile i (g ∷ gs) o = open-from n ws roles profile (suc i) gs (with_opened o i (caller_bits n g (words_in ws i) roles profile) g)
+unfoldable pub open_from : Needs → List ℕ → List ℕ → List ℕ → ℕ → List Grant → Open → Open
+open_from n ws roles profile i [] o = o
+open_from n ws roles profile i (g ∷ gs) o = open_from n ws roles profile (suc i) gs (with_opened o i (caller_bits n g (words_in ws i) roles profile) g)
 
-unfoldable pub open-all : Needs → List ℕ → List ℕ → List ℕ → List Grant → Open
-open-all n ws roles profile gs = open-from n ws roles profile 0 gs none_open
+unfoldable pub open_all : Needs → List ℕ → List ℕ → List ℕ → List Grant → Open
+open_all n ws roles profile gs = open_from n ws roles profile 0 gs none_open
 
 -- ---- routes
 

@@ -31,7 +31,7 @@ use Rattle.column_masks.specs.Columns.{compared_at}
 use Rattle.selection.specs.declared.Scope.{Scope}
 use Rattle.selection.specs.Scopes.{times_fit, scope_fits, scope_columns, scope_row, meets, time_limits, timely}
 use Rattle.time_masks.specs.Times.{in_span, timed}
-use Rattle.selection.specs.Evaluating.{relate, left_time, time_at, Lent, past, low_of, high_of, in-limits, clock_at}
+use Rattle.selection.specs.Evaluating.{relate, left_time, time_at, Lent, past, low_of, high_of, in_limits, clock_at}
 use Rattle.nodes.specs.Nodes.{numbered_op}
 use Rattle.selection.proofs.Sides.{row_time}
 use Rattle.selection.proofs.Relating.{above}
@@ -140,8 +140,8 @@ every_join p (x ∷ xs) ys = ap (λ b. p x && b) (every_join p xs ys) ∙ and_as
     and_assoc false b c = refl
 
 -- what they ask of a time
-pub limits_ask : (ds : List Col) (r : Row) (from to : ℕ) → every (holds ds r) (time_limits from to) ≡ in-limits from to r.at
-unfolding time_limits in-limits
+pub limits_ask : (ds : List Col) (r : Row) (from to : ℕ) → every (holds ds r) (time_limits from to) ≡ in_limits from to r.at
+unfolding time_limits in_limits
 limits_ask ds r from to = every_join (holds ds r) (limit ge (limit_of from)) (limit le (limit_of to)) ∙ ap₂ ◌&&◌ (first_limit ds r from) (last_limit ds r to)
 
 -- the time of a row beside the left one
@@ -192,9 +192,9 @@ and_none false = refl
 -- ---- the rows of a scope
 
 module _ (sc : Scope) (ts : List ℕ) (from to : ℕ) where
-  row_ask : (vs : List ℤ) (i : ℕ) → meets sc ts vs (time_limits from to) i ≡ in-limits from to (time_at sc ts i)
+  row_ask : (vs : List ℤ) (i : ℕ) → meets sc ts vs (time_limits from to) i ≡ in_limits from to (time_at sc ts i)
   unfolding meets
-  row_ask vs i = limits_ask (scope_columns sc) (scope_row sc ts vs i) from to ∙ ap (in-limits from to) (row_time sc vs ts i)
+  row_ask vs i = limits_ask (scope_columns sc) (scope_row sc ts vs i) from to ∙ ap (in_limits from to) (row_time sc vs ts i)
 
   -- whatever the values are
   pub limits_any : (us vs : List ℤ) (i : ℕ) → meets sc ts us (time_limits from to) i ≡ meets sc ts vs (time_limits from to) i
@@ -202,26 +202,26 @@ module _ (sc : Scope) (ts : List ℕ) (from to : ℕ) where
 
   -- whether the time of a row is within them
   abbrev asked : ℕ → Bool
-  asked i = in-limits from to (time_at sc ts i)
+  asked i = in_limits from to (time_at sc ts i)
 
   module _ {left : ℕ} {d : Bool} (el : left ≡ left_time sc ts) (ed : d ≡ past to left) where
     late_is : (v : Bool) → d ≡ v → past to (left_time sc ts) ≡ v
     late_is v f = ap (past to) (sym el) ∙ sym ed ∙ f
 
     pub limited_none : {x : Rows} → d ≡ true → x ≡ no_rows → x ≡ rows_of asked 0 sc.rows
-    unfolding in-limits time_at
+    unfolding in_limits time_at
     limited_none {x} l f = f ∙ rows_none 0 sc.rows ∙ rows_alike (λ i. false) asked 0 sc.rows (λ i c d. sym (late i))
       where
-        late : (i : ℕ) → in-limits from to (min (max (left_time sc ts) (get_or ts (sc.stream * max_rows + i) 0)) top) ≡ false
+        late : (i : ℕ) → in_limits from to (min (max (left_time sc ts) (get_or ts (sc.stream * max_rows + i) 0)) top) ≡ false
         late i =
             ap (λ c. cond (leb from top) (leb from (min (max (left_time sc ts) (get_or ts (sc.stream * max_rows + i) 0)) top)) true && c) (never_met from to (left_time sc ts) (get_or ts (sc.stream * max_rows + i) 0) (late_is true l))
             ∙ and_none (cond (leb from top) (leb from (min (max (left_time sc ts) (get_or ts (sc.stream * max_rows + i) 0)) top)) true)
 
     pub limited_some : {low high : ℕ} {x : Rows} → d ≡ false → low ≡ low_of from left → high ≡ high_of to → x ≡ rows_of (timed ts low high) (sc.stream * 128) sc.rows → x ≡ rows_of asked 0 sc.rows
-    unfolding timed in_span in-limits time_at
+    unfolding timed in_span in_limits time_at
     limited_some {low} {high} {x} l g eh f = f ∙ sym (rows_shift asked (timed ts low high) (sc.stream * 128) sc.rows near)
       where
-        near : (i : ℕ) → in-limits from to (min (max (left_time sc ts) (get_or ts (sc.stream * max_rows + i) 0)) top) ≡ timed ts low high (sc.stream * 128 + i)
+        near : (i : ℕ) → in_limits from to (min (max (left_time sc ts) (get_or ts (sc.stream * max_rows + i) 0)) top) ≡ timed ts low high (sc.stream * 128 + i)
         near i =
             let t = get_or ts (sc.stream * max_rows + i) 0 in
             ap₂ ◌&&◌ (first_met from to (left_time sc ts) t ∙ ap (λ (k : ℕ). leb k t) (ap (low_of from) (sym el) ∙ sym g)) (last_met from to (left_time sc ts) t (late_is false l) ∙ ap (λ (k : ℕ). eqb k no_time || leb t k) (sym eh))
@@ -247,15 +247,15 @@ and_swap false false = refl
 
 module _ (sc : Scope) (ts : List ℕ) (n : ℕ) (v : ℤ) (y : ℕ) (e : v ≡ pos y) (h : y ≤ top) {x : Rows} where
   pub time_same : x ≡ rows_of (asked sc ts y y) 0 n → x ≡ rows_of (compared_at eq (clock_at sc ts) (λ i. v)) 0 n
-  unfolding in-limits compared_at clock_at compares
+  unfolding in_limits compared_at clock_at compares
   time_same f = f ∙ rows_alike (asked sc ts y y) (compared_at eq (clock_at sc ts) (λ i. v)) 0 n (λ i a b. rw (e, le-leb y top h) (and_swap (leb y (time_at sc ts i)) (leb (time_at sc ts i) y)))
 
   pub time_first : x ≡ rows_of (asked sc ts y 4294967295) 0 n → x ≡ rows_of (compared_at ge (clock_at sc ts) (λ i. v)) 0 n
-  unfolding in-limits compared_at clock_at compares
+  unfolding in_limits compared_at clock_at compares
   time_first f = f ∙ rows_alike (asked sc ts y 4294967295) (compared_at ge (clock_at sc ts) (λ i. v)) 0 n (λ i a b. rw (e, le-leb y top h) (and_true (leb y (time_at sc ts i))))
 
   pub time_last : x ≡ rows_of (asked sc ts 4294967295 y) 0 n → x ≡ rows_of (compared_at le (clock_at sc ts) (λ i. v)) 0 n
-  unfolding in-limits compared_at clock_at compares
+  unfolding in_limits compared_at clock_at compares
   time_last f = f ∙ rows_alike (asked sc ts 4294967295 y) (compared_at le (clock_at sc ts) (λ i. v)) 0 n (λ i a b. rw (e, le-leb y top h))
 
 -- a value that is not below 0, as a number

@@ -132,8 +132,8 @@ pub record Carried (ws : List ℕ) (stop j : ℕ) (any? : Bool) (sc : Scope) (ts
 -- ---- times within two
 
 -- what a first and a last time ask of one; above the highest there is no limit
-unfoldable pub in-limits : ℕ → ℕ → ℕ → Bool
-in-limits from to t = cond (leb from top) (leb from t) true && cond (leb to top) (leb t to) true
+unfoldable pub in_limits : ℕ → ℕ → ℕ → Bool
+in_limits from to t = cond (leb from top) (leb from t) true && cond (leb to top) (leb t to) true
 
 -- a time is past the last one that is asked
 unfoldable pub past : ℕ → ℕ → Bool

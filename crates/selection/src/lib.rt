@@ -14,7 +14,7 @@ ghost use Rattle.rows.specs.Masks.{rows_of};
 ghost use Rattle.column_masks.specs.Columns.{strip, strip_lent};
 ghost use Rattle.selection.specs.Scopes.{times_fit, scope_fits, profile_in, cond_at, selected, selected_all, timely};
 ghost use Rattle.time_masks.specs.Times.{column_end, clocked};
-ghost use Rattle.selection.specs.Evaluating.{relate, left_time, side_value, Stands, Lent, left_named, wide, narrow, Taken, Leads, passing, list_passing, list_at, start_of, joined_of, past, low_of, high_of, in-limits, time_at, clock_at, bare, parted, lists, Carried};
+ghost use Rattle.selection.specs.Evaluating.{relate, left_time, side_value, Stands, Lent, left_named, wide, narrow, Taken, Leads, passing, list_passing, list_at, start_of, joined_of, past, low_of, high_of, in_limits, time_at, clock_at, bare, parted, lists, Carried};
 
 use cells::Datum;
 use grant::Grant;
@@ -777,7 +777,7 @@ fn too_late(to: u32, left: u32) -> bool
 // The rows whose time is within two, of which each may be no limit.
 fn limited(from: u32, to: u32, sc: Scope, times: &[u32]) -> Rows
     requires { (sc.stream < max_streams) × (sc.rows ≤ max_rows) × (places_size ≤ length times.now) }
-    ensures { result ≡ rows_of (λ i. in-limits from to (time_at sc times.now i)) 0 sc.rows }
+    ensures { result ≡ rows_of (λ i. in_limits from to (time_at sc times.now i)) 0 sc.rows }
 {
     let left = left_time(sc, times);
     if too_late(to, left) {

@@ -10,7 +10,7 @@ use lib.ListN.{length, length-append}
 use lib.Dec.{T, ltb, leb→le, nltb→le}
 use Rattle.syntax.specs.Grammar.{Bytes, bytes, Op, eq, ne, lt, le, gt, ge, Ref, dotted, time, figure, Operand, ref, number, Test, Cond, test, all, any, neg, Conds, last, more, Form, rows, pick, keep, join, aggregate, Show, everything, listed, Span, GrantLine, Entry, Verb, stream, grant, clock, row, clear, caller, ask, line, Body, op_word, fn_word, right_word, verb_word, digits_from, put_nat, put_int, put_name, put_ref, put_operand, put_items, put_cond, put_conds, put_equality, put_form, put_show, put_part, put_when, put_limit, put_window, put_grant, put_entry, put_body, put_line, line_text, query_text}
 use Rattle.syntax.specs.Limits.{top, is_value}
-use Rattle.syntax.proofs.Lengths.{open-length}
+use Rattle.syntax.proofs.Lengths.{open_length}
 
 unfoldable pub int_length : ℤ → ℕ
 int_length z = length (put_int z [])
@@ -130,10 +130,10 @@ mutual
   unfolding cond_length test_length put_cond
 
   pub put_cond_length : (c : Cond Test) (rest : Bytes) → length (put_cond c rest) ≡ cond_length c + length rest
-  put_cond_length (test t) rest = simp (open-length, put_ref_length, put_operand_length) (omega arith)
-  put_cond_length (all cs) rest = let h = put_conds_length cs (41 ∷ rest) in simp open-length (omega arith)
-  put_cond_length (any cs) rest = let h = put_conds_length cs (41 ∷ rest) in simp open-length (omega arith)
-  put_cond_length (neg c) rest = let h = put_cond_length c (41 ∷ rest) in simp open-length (omega arith)
+  put_cond_length (test t) rest = simp (open_length, put_ref_length, put_operand_length) (omega arith)
+  put_cond_length (all cs) rest = let h = put_conds_length cs (41 ∷ rest) in simp open_length (omega arith)
+  put_cond_length (any cs) rest = let h = put_conds_length cs (41 ∷ rest) in simp open_length (omega arith)
+  put_cond_length (neg c) rest = let h = put_cond_length c (41 ∷ rest) in simp open_length (omega arith)
 
   pub put_conds_length : (cs : Conds Test) (rest : Bytes) → length (put_conds cs rest) ≡ conds_length cs + length rest
   put_conds_length (last c) rest = let h = put_cond_length c rest in omega arith
@@ -141,18 +141,18 @@ mutual
 
 pub put_equality_length : (a b : Ref) (rest : Bytes) → length (put_equality a b rest) ≡ equality_length a b + length rest
 unfolding equality_length put_equality op_word
-put_equality_length a b rest = simp (open-length, put_ref_length) (omega arith)
+put_equality_length a b rest = simp (open_length, put_ref_length) (omega arith)
 
 pub put_form_length : (f : Form) (rest : Bytes) → length (put_form f rest) ≡ form_length f + length rest
 unfolding form_length put_form put_name
-put_form_length (rows s) rest = simp (open-length, length-append) (omega arith)
-put_form_length (pick c q) rest = let h = put_form_length q (41 ∷ rest) in simp (open-length, put_cond_length) (omega arith)
-put_form_length (keep rs q) rest = let h = put_form_length q (41 ∷ rest) in simp (open-length, put_items_length put_ref ref_length put_ref_length) (omega arith)
+put_form_length (rows s) rest = simp (open_length, length-append) (omega arith)
+put_form_length (pick c q) rest = let h = put_form_length q (41 ∷ rest) in simp (open_length, put_cond_length) (omega arith)
+put_form_length (keep rs q) rest = let h = put_form_length q (41 ∷ rest) in simp (open_length, put_items_length put_ref ref_length put_ref_length) (omega arith)
 put_form_length (join a b q r) rest =
     let h = put_form_length q (32 ∷ put_form r (41 ∷ rest)) in
     let k = put_form_length r (41 ∷ rest) in
-    simp (open-length, put_equality_length) (omega arith)
-put_form_length (aggregate f c size offset q) rest = let h = put_form_length q (41 ∷ rest) in simp (open-length, put_ref_length, put_int_length) (omega arith)
+    simp (open_length, put_equality_length) (omega arith)
+put_form_length (aggregate f c size offset q) rest = let h = put_form_length q (41 ∷ rest) in simp (open_length, put_ref_length, put_int_length) (omega arith)
 
 pub query_text_length : (f : Form) → length (query_text f) ≡ form_length f
 unfolding query_text
@@ -165,7 +165,7 @@ put_show_length (listed rs) rest = put_items_length put_ref ref_length put_ref_l
 
 pub put_part_length : (w : Bytes) (put : Bytes → Bytes) (n : ℕ) → ((rest : Bytes) → length (put rest) ≡ n + length rest) → (rest : Bytes) → length (put_part w put rest) ≡ part_length w n + length rest
 unfolding part_length put_part
-put_part_length w put n law rest = let h = law (41 ∷ rest) in simp open-length (omega arith)
+put_part_length w put n law rest = let h = law (41 ∷ rest) in simp open_length (omega arith)
 
 pub put_when_length : (cs : List (Cond Test)) (rest : Bytes) → length (put_when cs rest) ≡ when_length cs + length rest
 unfolding when_length put_when
@@ -193,7 +193,7 @@ put_grant_length g rest =
 
 pub put_entry_length : (e : Entry) (rest : Bytes) → length (put_entry e rest) ≡ entry_length e + length rest
 unfolding entry_length put_entry put_name
-put_entry_length e rest = simp (open-length, length-append, put_int_length) (omega arith)
+put_entry_length e rest = simp (open_length, length-append, put_int_length) (omega arith)
 
 pub put_body_length : (v : Verb) (b : Body v) (rest : Bytes) → length (put_body v b rest) ≡ body_length v b + length rest
 unfolding body_length put_body put_name
@@ -210,7 +210,7 @@ put_body_length line l rest = simp (put_int_length, put_form_length) (omega arit
 
 pub put_line_length : (v : Verb) (b : Body v) (rest : Bytes) → length (put_line v b rest) ≡ line_length v b + length rest
 unfolding line_length put_line
-put_line_length v b rest = let h = put_body_length v b (41 ∷ rest) in simp open-length (omega arith)
+put_line_length v b rest = let h = put_body_length v b (41 ∷ rest) in simp open_length (omega arith)
 
 pub line_text_length : (v : Verb) (b : Body v) → length (line_text v b) ≡ line_length v b
 unfolding line_text

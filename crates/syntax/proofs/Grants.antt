@@ -12,7 +12,7 @@ use Rattle.lists.specs.Lists.{every, empty?, same_list}
 use Rattle.lists.proofs.Laws.{and_l, and_both, parts, T_true, T_false, cond_cases, All, all_both, same_list_refl, every_all}
 use Rattle.syntax.specs.Grammar.{Bytes, bytes, min, max, count, avg, sum, Right, read, figures, Ref, Test, Cond, Show, everything, listed, Span, GrantLine, letter, name?, ref?, cond?, some_all, show?, grant?, fn_word, right_word, put_int, put_name, put_ref, put_open, put_items, put_cond, put_show, put_part, put_when, put_limit, put_window, put_grant}
 use Rattle.syntax.specs.Readers.{Read, Reader, bind, ensure, ◌>>◌, give, byte, run, past, among, plain, itself, read_word, read_name, read_ref, read_some, closes, read_cond, rights, word_opens, part_opens, read_part, read_optional, read_star, star_next, read_show, read_limit, read_window, read_when, read_grant}
-use Rattle.syntax.proofs.Steps.{Printed, Reads, Follows, space, close, from, done, byte_step, item_step, give_step, nest_step, given_step, reads_as, byte_put, item_put, run_put, stops_plain, Known, word_put, word_read, lone_word, open-put, open-read}
+use Rattle.syntax.proofs.Steps.{Printed, Reads, Follows, space, close, from, done, byte_step, item_step, give_step, nest_step, given_step, reads_as, byte_put, item_put, run_put, stops_plain, Known, word_put, word_read, lone_word, open_put, open_read}
 use Rattle.syntax.proofs.Lexical.{name_put, name_read, number_put, number_read}
 use Rattle.syntax.proofs.Terms.{Starts, ref_put, ref_read, ref_first}
 use Rattle.syntax.proofs.Items.{some_every, some_filled, items_follow, some_put, some_read}
@@ -23,12 +23,12 @@ use Rattle.syntax.proofs.Conditions.{size, cond_put, cond_read}
 pub part_put : {A : Type 0} (w : Bytes) (inner : Reader A) (put : Bytes → Bytes) {a : A} {rest : Bytes} → T (every plain w) → Follows (put (41 ∷ rest))
     → inner (put (41 ∷ rest)) ≡ some (record { what = a; left = 41 ∷ rest }) → read_part w inner (put_part w put rest) ≡ some (record { what = a; left = rest })
 unfolding read_part put_part give
-part_put w inner put p f e = byte_put 32 _ (item_put _ _ (open-put w p f) (item_put _ _ e (byte_put 41 _ refl)))
+part_put w inner put p f e = byte_put 32 _ (item_put _ _ (open_put w p f) (item_put _ _ e (byte_put 41 _ refl)))
 
 pub part_read : {A : Type 0} {good : A → Bool} {put : A → Bytes → Bytes} {inner : Reader A} (w : Bytes) → Reads good put inner
     → Reads good (λ a. put_part w (put a)) (read_part w inner)
 unfolding read_part put_part
-part_read w s = byte_step 32 _ (item_step _ (open-read w) (λ o u. item_step _ s (λ a g. byte_step 41 _ (give_step _ g (λ l. refl)))))
+part_read w s = byte_step 32 _ (item_step _ (open_read w) (λ o u. item_step _ s (λ a g. byte_step 41 _ (give_step _ g (λ l. refl)))))
 
 pub part_follow : (w : Bytes) (put : Bytes → Bytes) (rest : Bytes) → Follows (put_part w put rest)
 unfolding put_part
@@ -66,7 +66,7 @@ pub limit_read : (w : Bytes) → Reads (λ n. true) (put_limit w) (read_limit w)
 unfolding read_limit read_part put_limit put_part
 limit_read w =
     optional_read w none tt (λ l. refl)
-    (byte_step 32 _ (item_step _ (open-read w) (λ o u. nest_step _ _ _ (item_step _ number_read (λ n g. given_step _ _ (byte_step 41 _ (give_step _ tt (λ l. refl))))))))
+    (byte_step 32 _ (item_step _ (open_read w) (λ o u. nest_step _ _ _ (item_step _ number_read (λ n g. given_step _ _ (byte_step 41 _ (give_step _ tt (λ l. refl))))))))
 
 pub window_put : (s : Option Span) {rest : Bytes} → part_opens (bytes "window") rest ≡ false → read_window (put_window s rest) ≡ some (record { what = s; left = rest })
 unfolding read_window put_window give every plain
@@ -79,7 +79,7 @@ pub window_read : Reads (λ s. true) put_window read_window
 unfolding read_window read_part put_window put_part
 window_read =
     optional_read (bytes "window") none tt (λ l. refl)
-    (byte_step 32 _ (item_step _ (open-read (bytes "window")) (λ o u. nest_step _ _ _ (item_step _ number_read (λ n g. nest_step _ _ _ (item_step _ number_read (λ m h.
+    (byte_step 32 _ (item_step _ (open_read (bytes "window")) (λ o u. nest_step _ _ _ (item_step _ number_read (λ n g. nest_step _ _ _ (item_step _ number_read (λ m h.
     given_step _ _ (byte_step 41 _ (give_step _ tt (λ l. refl))))))))))
 
 -- ---- conditions

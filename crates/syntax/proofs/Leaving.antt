@@ -80,9 +80,9 @@ module _ {H : Type 0} (word : H → Bytes) (hs : List H) where
   unfolding put_open
   head_less bs r e = let l = ap length ((head_read word hs).taken bs r e).1 in omega (arith, length-append (word r.what) r.left)
 
-pub open-leaves : (w : Bytes) → Leaves (read_open w)
+pub open_leaves : (w : Bytes) → Leaves (read_open w)
 unfolding read_open
-open-leaves w = head_leaves itself (w ∷ [])
+open_leaves w = head_leaves itself (w ∷ [])
 
 pub name_leaves : Leaves read_name
 unfolding put_name
@@ -142,7 +142,7 @@ module _ {A : Type 0} (ends : Bytes → Bool) {item : Reader A} (leaves : Leaves
   some_leaves k = record { front = λ bs r e. from _ _ e (λ xs p q. ensured (not (empty? xs.what)) q (λ t d. subst (λ x. Ends bs x.left) d ((items_leaves k).front bs xs p))) }
 
 -- `search leaving` finds what a reader leaves by its steps
-ruleset leaving = (leaves_give, leaves_byte, leaves_item, open-leaves, name_leaves, int_leaves, ref_leaves, operand_leaves, number_leaves)
+ruleset leaving = (leaves_give, leaves_byte, leaves_item, open_leaves, name_leaves, int_leaves, ref_leaves, operand_leaves, number_leaves)
 
 -- ---- conditions
 

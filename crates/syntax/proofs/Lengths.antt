@@ -38,13 +38,13 @@ unfolding put_operand
 operand_room (ref r) rest = ref_room r rest
 operand_room (number z) rest = int_room z rest
 
-pub open-room : (w rest : Bytes) → length rest < length (put_open w rest)
+pub open_room : (w rest : Bytes) → length rest < length (put_open w rest)
 unfolding put_open
-open-room w rest = let h = append_room w rest in omega arith
+open_room w rest = let h = append_room w rest in omega arith
 
 pub part_room : (w : Bytes) (put : Bytes → Bytes) (rest : Bytes) → length (put (41 ∷ rest)) + 2 ≤ length (put_part w put rest)
 unfolding put_part
-part_room w put rest = let h = open-room w (put (41 ∷ rest)) in omega arith
+part_room w put rest = let h = open_room w (put (41 ∷ rest)) in omega arith
 
 pub items_room : {A : Type 0} (put : A → Bytes → Bytes) → ((x : A) (rest : Bytes) → length rest ≤ length (put x rest)) → (xs : List A) (rest : Bytes)
     → length xs + length rest ≤ length (put_items put xs rest)
@@ -59,12 +59,12 @@ mutual
 
   pub cond_room : (c : Cond Test) (rest : Bytes) → size c + length rest ≤ length (put_cond c rest)
   cond_room (test t) rest =
-      let h = open-room (op_word t.op) (32 ∷ put_ref t.left (32 ∷ put_operand t.right (41 ∷ rest))) in
+      let h = open_room (op_word t.op) (32 ∷ put_ref t.left (32 ∷ put_operand t.right (41 ∷ rest))) in
       let k = ref_room t.left (32 ∷ put_operand t.right (41 ∷ rest)) in
       let l = operand_room t.right (41 ∷ rest) in omega arith
-  cond_room (all cs) rest = let h = open-room (bytes "and") (put_conds cs (41 ∷ rest)) in let k = conds_room cs (41 ∷ rest) in omega arith
-  cond_room (any cs) rest = let h = open-room (bytes "or") (put_conds cs (41 ∷ rest)) in let k = conds_room cs (41 ∷ rest) in omega arith
-  cond_room (neg c) rest = let h = open-room (bytes "not") (32 ∷ put_cond c (41 ∷ rest)) in let k = cond_room c (41 ∷ rest) in omega arith
+  cond_room (all cs) rest = let h = open_room (bytes "and") (put_conds cs (41 ∷ rest)) in let k = conds_room cs (41 ∷ rest) in omega arith
+  cond_room (any cs) rest = let h = open_room (bytes "or") (put_conds cs (41 ∷ rest)) in let k = conds_room cs (41 ∷ rest) in omega arith
+  cond_room (neg c) rest = let h = open_room (bytes "not") (32 ∷ put_cond c (41 ∷ rest)) in let k = cond_room c (41 ∷ rest) in omega arith
 
   pub conds_room : (cs : Conds Test) (rest : Bytes) → sizes cs + length rest ≤ length (put_conds cs rest)
   conds_room (last c) rest = let k = cond_room c rest in omega arith
@@ -86,24 +86,24 @@ sized n (c ∷ cs) rest h =
 
 pub form_room : (q : Form) (rest : Bytes) → form_size q + length rest ≤ length (put_form q rest)
 unfolding put_form put_equality
-form_room (rows s) rest = let h = open-room (bytes "in") (32 ∷ put_name s (41 ∷ rest)) in let k = name_room s (41 ∷ rest) in omega arith
+form_room (rows s) rest = let h = open_room (bytes "in") (32 ∷ put_name s (41 ∷ rest)) in let k = name_room s (41 ∷ rest) in omega arith
 form_room (pick c q) rest =
-    let h = open-room (bytes "pick") (32 ∷ put_cond c (32 ∷ put_form q (41 ∷ rest))) in
+    let h = open_room (bytes "pick") (32 ∷ put_cond c (32 ∷ put_form q (41 ∷ rest))) in
     let k = cond_room c (32 ∷ put_form q (41 ∷ rest)) in
     let l = form_room q (41 ∷ rest) in omega arith
 form_room (keep rs q) rest =
-    let h = open-room (bytes "keep") (put_items put_ref rs (32 ∷ put_form q (41 ∷ rest))) in
+    let h = open_room (bytes "keep") (put_items put_ref rs (32 ∷ put_form q (41 ∷ rest))) in
     let k = items_room put_ref ref_room rs (32 ∷ put_form q (41 ∷ rest)) in
     let l = form_room q (41 ∷ rest) in omega arith
 form_room (join a b q r) rest =
-    let h = open-room (bytes "join") (32 ∷ put_open (op_word eq) (32 ∷ put_ref a (32 ∷ put_ref b (41 ∷ (32 ∷ put_form q (32 ∷ put_form r (41 ∷ rest))))))) in
-    let e = open-room (op_word eq) (32 ∷ put_ref a (32 ∷ put_ref b (41 ∷ (32 ∷ put_form q (32 ∷ put_form r (41 ∷ rest)))))) in
+    let h = open_room (bytes "join") (32 ∷ put_open (op_word eq) (32 ∷ put_ref a (32 ∷ put_ref b (41 ∷ (32 ∷ put_form q (32 ∷ put_form r (41 ∷ rest))))))) in
+    let e = open_room (op_word eq) (32 ∷ put_ref a (32 ∷ put_ref b (41 ∷ (32 ∷ put_form q (32 ∷ put_form r (41 ∷ rest)))))) in
     let t = ref_room a (32 ∷ put_ref b (41 ∷ (32 ∷ put_form q (32 ∷ put_form r (41 ∷ rest))))) in
     let u = ref_room b (41 ∷ (32 ∷ put_form q (32 ∷ put_form r (41 ∷ rest)))) in
     let k = form_room q (32 ∷ put_form r (41 ∷ rest)) in
     let l = form_room r (41 ∷ rest) in omega arith
 form_room (aggregate f c z w q) rest =
-    let h = open-room (fn_word f) (32 ∷ put_ref c (32 ∷ put_int z (32 ∷ put_int w (32 ∷ put_form q (41 ∷ rest))))) in
+    let h = open_room (fn_word f) (32 ∷ put_ref c (32 ∷ put_int z (32 ∷ put_int w (32 ∷ put_form q (41 ∷ rest))))) in
     let t = ref_room c (32 ∷ put_int z (32 ∷ put_int w (32 ∷ put_form q (41 ∷ rest)))) in
     let u = int_room z (32 ∷ put_int w (32 ∷ put_form q (41 ∷ rest))) in
     let v = int_room w (32 ∷ put_form q (41 ∷ rest)) in
@@ -146,7 +146,7 @@ grant_room g rest n l =
 pub entry_room : (e : Entry) (rest : Bytes) → length rest ≤ length (put_entry e rest)
 unfolding put_entry
 entry_room e rest =
-    let h = open-room (bytes "self") (32 ∷ put_name e.name (32 ∷ put_int e.value (41 ∷ rest))) in
+    let h = open_room (bytes "self") (32 ∷ put_name e.name (32 ∷ put_int e.value (41 ∷ rest))) in
     let k = name_room e.name (32 ∷ put_int e.value (41 ∷ rest)) in
     let l = int_room e.value (41 ∷ rest) in omega arith
 
@@ -206,15 +206,15 @@ op_some le = omega arith
 op_some gt = omega arith
 op_some ge = omega arith
 
-pub open-length : (w rest : Bytes) → length (put_open w rest) ≡ suc (length w + length rest)
+pub open_length : (w rest : Bytes) → length (put_open w rest) ≡ suc (length w + length rest)
 unfolding put_open
-open-length w rest = ap suc (length-append w rest)
+open_length w rest = ap suc (length-append w rest)
 
 -- a comparison is nine bytes or more
 pub test_long : (t : Test) (rest : Bytes) → T (test? t) → 9 + length rest ≤ length (put_cond (test t) rest)
 unfolding put_cond test?
 test_long t rest h =
-    let e = open-length (op_word t.op) (32 ∷ put_ref t.left (32 ∷ put_operand t.right (41 ∷ rest))) in
+    let e = open_length (op_word t.op) (32 ∷ put_ref t.left (32 ∷ put_operand t.right (41 ∷ rest))) in
     let w = op_some t.op in
     let l = ref_some t.left (32 ∷ put_operand t.right (41 ∷ rest)) (search parts) in
     let r = operand_some t.right (41 ∷ rest) (search parts) in

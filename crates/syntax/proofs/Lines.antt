@@ -12,24 +12,24 @@ use Rattle.lists.specs.Lists.{every, empty?, same_list}
 use Rattle.lists.proofs.Laws.{and_both, parts, all_any, every_all}
 use Rattle.syntax.specs.Grammar.{Bytes, bytes, Form, Entry, Verb, stream, grant, clock, row, clear, caller, ask, line, Body, Line, name?, some_all, form?, entry?, body?, verb_word, put_int, put_name, put_items, put_form, put_grant, put_entry, put_body, put_line, line_text, query_text}
 use Rattle.syntax.specs.Readers.{Reader, bind, ensure, give, among, plain, read_name, read_int, read_items, read_some, closes, read_form, read_entry, verbs, read_body, read_as, parse, parse_as, verb_of, parse_line, parse_query}
-use Rattle.syntax.proofs.Steps.{Reads, Follows, space, close, from, ensured, done, byte_step, item_step, give_step, bind_put, byte_put, item_put, Known, head_put, open-put, open-read}
+use Rattle.syntax.proofs.Steps.{Reads, Follows, space, close, from, ensured, done, byte_step, item_step, give_step, bind_put, byte_put, item_put, Known, head_put, open_put, open_read}
 use Rattle.syntax.proofs.Lexical.{name_put, name_read, int_put, int_read, number_put, number_read}
 use Rattle.syntax.proofs.Items.{items_follow, items_put, items_read, some_put, some_read}
 use Rattle.syntax.proofs.Queries.{form_put, form_read}
 use Rattle.syntax.proofs.Grants.{part_put, part_read, part_follow, names_closed_put, grant_put, grant_read}
-use Rattle.syntax.proofs.Lengths.{name_room, int_room, open-room, part_room, items_room, form_room, grant_room, entry_room}
+use Rattle.syntax.proofs.Lengths.{name_room, int_room, open_room, part_room, items_room, form_room, grant_room, entry_room}
 
 -- ---- entries and lists
 
 pub entry_put : (e : Entry) {rest : Bytes} → T (entry? e) → read_entry (put_entry e rest) ≡ some (record { what = e; left = rest })
 unfolding entry? read_entry put_entry give every plain
 entry_put e t =
-    item_put _ _ (open-put (bytes "self") tt space) (byte_put 32 _ (item_put _ _ (name_put e.name t space) (byte_put 32 _ (item_put _ _ (int_put e.value close) (byte_put 41 _ refl)))))
+    item_put _ _ (open_put (bytes "self") tt space) (byte_put 32 _ (item_put _ _ (name_put e.name t space) (byte_put 32 _ (item_put _ _ (int_put e.value close) (byte_put 41 _ refl)))))
 
 pub entry_read : Reads entry? put_entry read_entry
 unfolding entry? read_entry put_entry
 entry_read =
-    item_step _ (open-read (bytes "self")) (λ o u. byte_step 32 _ (item_step _ name_read (λ n g. byte_step 32 _ (item_step _ int_read (λ z h. byte_step 41 _ (give_step _ g (λ l. refl)))))))
+    item_step _ (open_read (bytes "self")) (λ o u. byte_step 32 _ (item_step _ name_read (λ n g. byte_step 32 _ (item_step _ int_read (λ z h. byte_step 41 _ (give_step _ g (λ l. refl)))))))
 
 pub roles_put : (k : ℕ) (ns : List Bytes) {rest : Bytes} → T (every name? ns) → length ns < k
     → read_items closes read_name k (put_items put_name ns (41 ∷ rest)) ≡ some (record { what = ns; left = 41 ∷ rest })
@@ -109,8 +109,8 @@ verb_plain v = (verb_known v).1
 pub as_put : (k : ℕ) (v : Verb) (b : Body v) {rest : Bytes} → T (body? v b) → length (put_line v b rest) ≤ k → read_as v k (put_line v b rest) ≡ some (record { what = b; left = rest })
 unfolding read_as put_line give
 as_put k v b {rest} t h =
-    let a = open-room (verb_word v) (put_body v b (41 ∷ rest)) in
-    item_put _ _ (open-put (verb_word v) (verb_plain v) (body_follow v b rest)) (item_put _ _ (body_put k v b t (omega arith)) (byte_put 41 _ refl))
+    let a = open_room (verb_word v) (put_body v b (41 ∷ rest)) in
+    item_put _ _ (open_put (verb_word v) (verb_plain v) (body_follow v b rest)) (item_put _ _ (body_put k v b t (omega arith)) (byte_put 41 _ refl))
 
 -- ---- what is read was printed
 
@@ -134,7 +134,7 @@ body_read k line = item_step _ number_read (λ r s. byte_step 32 _ (item_step _ 
 
 pub as_read : (v : Verb) (k : ℕ) → Reads (body? v) (put_line v) (λ r. read_as v k r)
 unfolding read_as put_line
-as_read v k = item_step _ (open-read (verb_word v)) (λ o u. item_step _ (body_read k v) (λ b t. byte_step 41 _ (give_step _ t (λ l. refl))))
+as_read v k = item_step _ (open_read (verb_word v)) (λ o u. item_step _ (body_read k v) (λ b t. byte_step 41 _ (give_step _ t (λ l. refl))))
 
 -- ---- whole texts
 

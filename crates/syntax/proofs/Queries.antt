@@ -11,7 +11,7 @@ use Rattle.lists.specs.Lists.{every, same_list}
 use Rattle.lists.proofs.Laws.{and_l, and_both, parts, T_false, every_all}
 use Rattle.syntax.specs.Grammar.{Bytes, eq, min, max, count, avg, sum, Ref, Test, Cond, Form, rows, pick, keep, join, aggregate, letter, ref?, cond?, some_all, form?, op_word, fn_word, put_ref, put_open, put_items, put_cond, put_equality, put_form}
 use Rattle.syntax.specs.Readers.{Reader, ◌>>=◌, give, among, plain, read_ref, read_some, opens, form_next, read_cond, Kind, k_in, k_pick, k_keep, k_join, k_fn, kind_word, kinds, read_rest, read_form}
-use Rattle.syntax.proofs.Steps.{Takes, Reads, space, close, byte_step, item_step, give_step, bind_put, byte_put, item_put, Known, head_put, head_read, open-put, open-read}
+use Rattle.syntax.proofs.Steps.{Takes, Reads, space, close, byte_step, item_step, give_step, bind_put, byte_put, item_put, Known, head_put, head_read, open_put, open_read}
 use Rattle.syntax.proofs.Lexical.{name_put, name_read, int_put, int_read}
 use Rattle.syntax.proofs.Terms.{Starts, ref_put, ref_read, ref_first}
 use Rattle.syntax.proofs.Items.{some_every, some_filled, items_follow, some_put, some_read}
@@ -87,7 +87,7 @@ form_put (join a b q r) (suc k) {rest} g l =
     let gq : T (form? q) = search parts in
     let gr : T (form? r) = search parts in
     bind_put _ _ (head_put kind_word kinds k_join (kind_known k_join) space)
-    (byte_put 32 _ (item_put _ _ (open-put (op_word eq) tt space) (byte_put 32 _ (item_put _ _ (ref_put a ga space) (byte_put 32 _ (item_put _ _ (ref_put b gb close)
+    (byte_put 32 _ (item_put _ _ (open_put (op_word eq) tt space) (byte_put 32 _ (item_put _ _ (ref_put a ga space) (byte_put 32 _ (item_put _ _ (ref_put b gb close)
     (byte_put 41 _ (byte_put 32 _ (item_put _ _ (form_put q k {rest = 32 ∷ put_form r (41 ∷ rest)} gq (omega arith)) (byte_put 32 _ (item_put _ _ (form_put r k {rest = 41 ∷ rest} gr (omega arith)) (byte_put 41 _ refl))))))))))))
 form_put (aggregate f c z w q) zero g l = absurd (omega arith)
 form_put (aggregate f c z w q) (suc k) {rest} g l =
@@ -113,7 +113,7 @@ module _ (conds : Reader (Cond Test)) (cols : Reader (List Ref)) (forms : Reader
   rest_read k_keep =
       item_step _ cols-read (λ rs gr. byte_step 32 _ (item_step _ forms-read (λ q gq. byte_step 41 _ (give_step _ (and_both (some_all ref? rs) (form? q) gr gq) (λ l. refl)))))
   rest_read k_join =
-      byte_step 32 _ (item_step _ (open-read (op_word eq)) (λ o u. byte_step 32 _ (item_step _ ref_read (λ a ga. byte_step 32 _ (item_step _ ref_read (λ b gb. byte_step 41 _ (byte_step 32 _
+      byte_step 32 _ (item_step _ (open_read (op_word eq)) (λ o u. byte_step 32 _ (item_step _ ref_read (λ a ga. byte_step 32 _ (item_step _ ref_read (λ b gb. byte_step 41 _ (byte_step 32 _
       (item_step _ forms-read (λ q gq. byte_step 32 _ (item_step _ forms-read (λ r gr. byte_step 41 _ (give_step _ (join_good a b q r ga gb gq gr) (λ l. refl)))))))))))))
   rest_read (k_fn f) =
       byte_step 32 _ (item_step _ ref_read (λ c gc. byte_step 32 _ (item_step _ int_read (λ z gz. byte_step 32 _ (item_step _ int_read (λ w gw. byte_step 32 _

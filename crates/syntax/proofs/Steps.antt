@@ -182,9 +182,9 @@ module _ {H : Type 0} (word : H → Bytes) where
   unfolding read_head put_open
   head_read hs = byte_step 40 _ (record { taken = λ bs r e. (tt, ap (λ l. 40 ∷ l) ((word_read hs).taken bs r e).1) })
 
-pub open-put : (w : Bytes) {rest : Bytes} → T (every plain w) → Follows rest → read_open w (put_open w rest) ≡ some (record { what = w; left = rest })
+pub open_put : (w : Bytes) {rest : Bytes} → T (every plain w) → Follows rest → read_open w (put_open w rest) ≡ some (record { what = w; left = rest })
 unfolding read_open itself among
-open-put w p f = head_put itself (w ∷ []) w (rw (T_true (same_list w w) (same_list_refl w)), p) f
+open_put w p f = head_put itself (w ∷ []) w (rw (T_true (same_list w w) (same_list_refl w)), p) f
 
 -- a table of one word
 pub lone_word : (w : Bytes) → Reads (λ o. true) (λ o rest. w ++ rest) (read_word itself (w ∷ []))
@@ -197,6 +197,6 @@ lone_word w =
           (λ t c. absurd (none-ne-some h c)));
     }
 
-pub open-read : (w : Bytes) → Reads (λ o. true) (λ o rest. put_open w rest) (read_open w)
+pub open_read : (w : Bytes) → Reads (λ o. true) (λ o rest. put_open w rest) (read_open w)
 unfolding read_open read_head put_open
-open-read w = byte_step 40 _ (record { taken = λ bs r e. (tt, ap (λ l. 40 ∷ l) ((lone_word w).taken bs r e).1) })
+open_read w = byte_step 40 _ (record { taken = λ bs r e. (tt, ap (λ l. 40 ∷ l) ((lone_word w).taken bs r e).1) })

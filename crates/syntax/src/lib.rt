@@ -1,3 +1,2 @@
 // Definitions of the lines' texts: see specs/.
 #![tactic(auto)]
-

@@ -9,7 +9,7 @@ use lib.ListN.{length, drop, length-drop}
 use Rattle.lists.specs.Lists.{empty?}
 use Rattle.syntax.specs.Grammar.{Bytes, bytes, Test, Cond, Conds, Ref, Form}
 use Rattle.syntax.specs.Readers.{Reader, bind, ensure, ◌>>=◌, ◌>>◌, byte, read_head, read_name, read_ref, read_items, read_some, closes, form_next, Head, compare, and, or, not_of, head_word, heads, read_headed, read_more, read_cond, read_conds, Kind, k_in, k_pick, k_keep, k_join, k_fn, kind_word, kinds, read_rest, read_form, read_part, read_optional, read_show, read_when, read_grant}
-use Rattle.syntax.proofs.Leaving.{Leaves, left_within, byte_less, head_less, word_leaves, open-leaves, name_leaves, int_leaves, ref_leaves, items_leaves, some_leaves, cond_leaves, conds_leaves, form_leaves, part_leaves, show_leaves, limit_leaves, window_leaves, when_leaves, grant_leaves}
+use Rattle.syntax.proofs.Leaving.{Leaves, left_within, byte_less, head_less, word_leaves, open_leaves, name_leaves, int_leaves, ref_leaves, items_leaves, some_leaves, cond_leaves, conds_leaves, form_leaves, part_leaves, show_leaves, limit_leaves, window_leaves, when_leaves, grant_leaves}
 use Rattle.text.specs.Readings.{any_items, any_some, any_cond, any_conds, any_form, any_show, any_when, any_grant}
 
 -- two readers read alike what has at most some bytes
@@ -40,7 +40,7 @@ agree_item m k f g c h i =
 
 agree_part : {A : Type 0} {n : ℕ} (w : Bytes) (p q : Reader A) → Leaves q → Agree n p q → Agree n (read_part w p) (read_part w q)
 unfolding read_part
-agree_part {n} w p q c h = agree_byte 32 _ _ (agree_item _ _ _ _ (open-leaves w) (agree_same n _) (λ o. agree_item _ _ _ _ c h (λ a. agree_same n _)))
+agree_part {n} w p q c h = agree_byte 32 _ _ (agree_item _ _ _ _ (open_leaves w) (agree_same n _) (λ o. agree_item _ _ _ _ c h (λ a. agree_same n _)))
 
 agree_optional : {A : Type 0} {n : ℕ} (w : Bytes) (absent : A) (p q : Reader A) → Agree n p q → Agree n (read_optional w absent p) (read_optional w absent q)
 unfolding read_optional
@@ -184,7 +184,7 @@ conds_step (b ∷ bs) =
 
 module _ {n : ℕ} (cond cond' : Reader (Cond Test)) (cols cols' : Reader (List Ref)) (form form' : Reader Form) (c : Leaves cond') (d : Leaves cols') (f : Leaves form')
     (p : Agree n cond cond') (q : Agree n cols cols') (r : Agree n form form') where
-  ruleset agreeing = (agree_byte, agree_item, agree_same, open-leaves, name_leaves, int_leaves, ref_leaves)
+  ruleset agreeing = (agree_byte, agree_item, agree_same, open_leaves, name_leaves, int_leaves, ref_leaves)
 
   fuel_rest : (h : Kind) → Agree n (read_rest cond cols form h) (read_rest cond' cols' form' h)
   unfolding read_rest

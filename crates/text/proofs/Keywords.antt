@@ -176,28 +176,28 @@ pub ruleset word_ends = (word_from, word_room)
 -- ---- an opening bracket and a word
 
 module _ (s : Bytes) (at c : ℕ) where
-  pub open-zero : c ≡ 0 → 0 ≡ opened_at s at c
+  pub open_zero : c ≡ 0 → 0 ≡ opened_at s at c
   unfolding opened_at
-  open-zero z = rw z
+  open_zero z = rw z
 
   module _ (k : c ≡ 0 → ⊥) {b : ℕ} (p : b ≡ get_or s at 0) where
-    pub open-other : (b ≡ 40 → ⊥) → 0 ≡ opened_at s at c
+    pub open_other : (b ≡ 40 → ⊥) → 0 ≡ opened_at s at c
     unfolding opened_at place read_open read_head ◌>>◌ byte ensure bind
-    open-other n = rw (ne_eqb c 0 k) (go (drop at s) refl)
+    open_other n = rw (ne_eqb c 0 k) (go (drop at s) refl)
       where
         go : (bs : Bytes) → drop at s ≡ bs → 0 ≡ place s (read_open (name_of c) bs)
         go [] f = refl
         go (x ∷ xs) f = rw (ne_eqb 40 x (λ h. n (p ∙ sym (first_byte s at) ∙ rw f (sym h))))
 
     module _ (z : b ≡ 40) where
-      pub open-inside : at < length s
-      open-inside = inside s at (omega arith)
+      pub open_inside : at < length s
+      open_inside = inside s at (omega arith)
 
       module _ (f : Fits w64 c) {w : Word} (q : WordAt s (at + 1) w) where
         open_is : opened_at s at c ≡ cond (eqb c w.code) w.next 0
         unfolding opened_at place read_open read_head read_word itself among ◌>>◌ byte ensure bind word_at class_of
         open_is =
-            let h = open-inside in
+            let h = open_inside in
             let same = named_word c (run plain (drop (at + 1) s)) (omega arith) (omega arith) q.narrow in
             let next = run_place Plain s (at + 1) refl (omega arith) in
             rw (ne_eqb c 0 k, drop-cons s at 0 h, eq-eqb 40 (get_or s at 0) (sym z ∙ p), sym (add-one at), same, q.is) (go (eqb c (word_code (run plain (drop (at + 1) s)))) next)
@@ -207,13 +207,13 @@ module _ (s : Bytes) (at c : ℕ) where
             go true e = e
             go false e = refl
 
-        pub open-unlike : (w.code ≡ c → ⊥) → 0 ≡ opened_at s at c
-        open-unlike n = sym (open_is ∙ rw (ne_eqb c w.code (λ e. n (sym e))))
+        pub open_unlike : (w.code ≡ c → ⊥) → 0 ≡ opened_at s at c
+        open_unlike n = sym (open_is ∙ rw (ne_eqb c w.code (λ e. n (sym e))))
 
-        pub open-here : w.code ≡ c → w.next ≡ opened_at s at c
-        open-here e = sym (open_is ∙ rw (eq-eqb c w.code (sym e)))
+        pub open_here : w.code ≡ c → w.next ≡ opened_at s at c
+        open_here e = sym (open_is ∙ rw (eq-eqb c w.code (sym e)))
 
-pub ruleset open_ends = (open-zero, open-other, open-unlike, open-here)
+pub ruleset open_ends = (open_zero, open_other, open_unlike, open_here)
 
 -- ---- the same after a space
 

@@ -12,7 +12,7 @@ use Rattle.syntax.specs.Readers.{Read, bind, ◌>>=◌, ◌>>◌, give, byte, re
 use Rattle.text.specs.declared.Line.{Line}
 use Rattle.text.specs.Keywords.{opened_at, line_open}
 use Rattle.text.specs.Readings.{any_form, whole, closed}
-use Rattle.text.proofs.Places.{Spells, open-not, open_is}
+use Rattle.text.proofs.Places.{Spells, open_not, open_is}
 
 -- a line after its first word
 after_open : {A : Type 0} (o : Option (Read A))
@@ -43,7 +43,7 @@ module _ (v : Verb) (s : Bytes) {c : ℕ} (k : Spells c (verb_word v)) {o : Line
 
   pub as_unopened : o.at ≡ 0 → o.long ≡ false → parse_as v s ≡ none
   unfolding parse_as parse read_as ◌>>=◌ bind
-  as_unopened z h = rw (open-not s 0 k (at_short (sym long_is ∙ h)) z)
+  as_unopened z h = rw (open_not s 0 k (at_short (sym long_is ∙ h)) z)
 
   -- a line whose first word was read is not too long
   pub opened_short : (o.at ≡ 0 → ⊥) → ltb max_line (length s) ≡ false

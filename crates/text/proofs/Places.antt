@@ -19,7 +19,7 @@ use Rattle.syntax.specs.Grammar.{Bytes, bytes, eq, stream, grant, clock, row, cl
 use Rattle.syntax.specs.Readers.{Read, Reader, bind, ensure, ◌>>=◌, ◌>>◌, give, byte, run, past, plain, among, read_word, read_head, itself, read_open, read_name, read_int, head_word, heads, rights, kind_word, kinds, word_opens, part_opens, read_part}
 use Rattle.syntax.specs.Limits.{short}
 use Rattle.syntax.proofs.Steps.{from, done, run_past}
-use Rattle.syntax.proofs.Leaving.{open-leaves, head_less}
+use Rattle.syntax.proofs.Leaving.{open_leaves, head_less}
 use Rattle.text.specs.declared.Class.{Class}
 use Rattle.text.specs.declared.Class.TheVariants.{Plain}
 use Rattle.text.specs.declared.Word.{Word}
@@ -126,9 +126,9 @@ spelt_above : {c : ℕ} {w : Bytes} → Spells c w → 0 < c
 spelt_above {w} k = let h = word_above w k.keyword in let e = k.code in omega arith
 
 -- an opening bracket and a keyword, as readers see them
-open-what : (w bs : Bytes) (r : Read Bytes) → read_open w bs ≡ some r → r.what ≡ w
+open_what : (w bs : Bytes) (r : Read Bytes) → read_open w bs ≡ some r → r.what ≡ w
 unfolding read_open read_head read_word ◌>>◌ among itself
-open-what w bs r e =
+open_what w bs r e =
     from _ _ e (λ b p q. from _ _ q (λ h u v. cond_cases (same_list w (run plain b.left)) (some w) none u
     (λ t d. done (λ x. x.what ≡ w) v (done (λ x. x ≡ w) d refl)) (λ t d. absurd (none-ne-some h d))))
 
@@ -154,20 +154,20 @@ opens_is w (b ∷ bs) r e = go (eqb 40 b) (same_list w (run plain bs)) refl e
     go true false f e = absurd (none-ne-some r (rw f at e))
     go false y f e = absurd (none-ne-some r e)
 
-open-less : (w bs : Bytes) (r : Read Bytes) → read_open w bs ≡ some r → length r.left < length bs
+open_less : (w bs : Bytes) (r : Read Bytes) → read_open w bs ≡ some r → length r.left < length bs
 unfolding read_open
-open-less w bs r e = head_less itself (w ∷ []) bs r e
+open_less w bs r e = head_less itself (w ∷ []) bs r e
 
 module _ (s : Bytes) (p : ℕ) {c : ℕ} {w : Bytes} (k : Spells c w) {r : ℕ} (e : r ≡ opened_at s p c) where
   at_place : r ≡ place s (read_open w (drop p s))
   unfolding opened_at
   at_place = let h = spelt_above k in e ∙ rw (ne_eqb c 0 (λ z. omega arith), spelt_name k)
 
-  pub open-not : r ≡ 0 → read_open w (drop p s) ≡ none
-  open-not z = place_none (open-leaves w) (open-less w) s p at_place z
+  pub open_not : r ≡ 0 → read_open w (drop p s) ≡ none
+  open_not z = place_none (open_leaves w) (open_less w) s p at_place z
 
   pub open_is : (r ≡ 0 → ⊥) → read_open w (drop p s) ≡ some (record { what = w; left = drop r s })
-  open_is n = place_some (open-leaves w) (open-less w) s p at_place n (λ x f. f ∙ ap (λ y. some (record { what = y; left = drop r s })) (open-what w (drop p s) _ f))
+  open_is n = place_some (open_leaves w) (open_less w) s p at_place n (λ x f. f ∙ ap (λ y. some (record { what = y; left = drop r s })) (open_what w (drop p s) _ f))
 
 -- ---- words of a table
 
@@ -229,10 +229,10 @@ module _ (s : Bytes) (p : ℕ) {c : ℕ} {w : Bytes} (k : Spells c w) {r : ℕ} 
 
   pub part_absent : {A : Type 0} (inner : Reader A) → r ≡ 0 → read_part w inner (drop p s) ≡ none
   unfolding read_part ◌>>◌ ◌>>=◌ bind
-  part_absent inner z = part_cases (λ y f. rw f) (λ f l d. rw (f, open-not s (p + 1) k d z))
+  part_absent inner z = part_cases (λ y f. rw f) (λ f l d. rw (f, open_not s (p + 1) k d z))
 
   pub part_unopened : r ≡ 0 → part_opens w (drop p s) ≡ false
-  part_unopened z = part_cases (λ y f. parts_not f) (λ f l d. parts_is f ∙ opens_not w (drop (p + 1) s) (open-not s (p + 1) k d z))
+  part_unopened z = part_cases (λ y f. parts_not f) (λ f l d. parts_is f ∙ opens_not w (drop (p + 1) s) (open_not s (p + 1) k d z))
 
   pub part_present : {A : Type 0} (inner : Reader A) → (r ≡ 0 → ⊥) → read_part w inner (drop p s) ≡ bind (inner (drop r s)) (λ a. bind (byte 41 a.left) (λ u. some (record { what = a.what; left = u.left })))
   unfolding read_part ◌>>◌ ◌>>=◌ give bind

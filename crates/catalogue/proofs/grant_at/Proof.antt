@@ -57,8 +57,8 @@ abbrev size : ℕ
 size = 56
 
 -- the offset of element i fits
-in-room : {i n : ℕ} → i < n → n * size < 2 ^ 63 → Fits w64 (i * size)
-in-room l g = record { fits = omega (arith, l, g) }
+in_room : {i n : ℕ} → i < n → n * size < 2 ^ 63 → Fits w64 (i * size)
+in_room l g = record { fits = omega (arith, l, g) }
 
 abbrev val : Grant → Val
 val = LL.val T.the_type T'.the_laws
@@ -121,7 +121,7 @@ module _ {M : Type 1} {𝓤 : Ura M} (𝓛 : Logic 𝓤) (mem : Memory → SProp
         first ! $ branches ! (load ! (from ! (stop !)) (look ! 10 refl))
         (λ (y : Holds (ltb i (length ys))).
         let l = ltb→lt i (length ys) y in
-        let f = in-room l gn.1 in
+        let f = in_room l gn.1 in
         assigns ! (bin ! (load ! (from ! (stop !)) (look ! 14 refl)) (lit ! tt) f) (from ! (stop !)) (init ! 6 refl (tt, f)) $
         assigns ! (bin ! (load ! (from ! (fld ! refl (stop !))) (look_in ! 16 (sub ! 0 refl (whole !)))) (load ! (from ! (stop !)) (look ! 6 refl)) tt) (from ! (stop !)) (init ! 4 refl (tt, tt)) $
         rewrite ! 4 (λ (p : ℕ). ‵ (fat full_share ty_ptr l₇ 0 (vptr b p))) (sym (place_is size o i)) refl $

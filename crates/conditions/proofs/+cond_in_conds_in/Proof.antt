@@ -3,7 +3,7 @@ use Prim.Native.Nat.{ℕ, ◌+◌, ◌*◌, ◌-◌, ◌<◌}
 use lib.ListN.{length}
 use native.Mathlib.Omega.{arith}
 use borrow.Author.Rules.{rules}
-use Rattle.conditions.proofs.Conditions.{in-few, space_next, cond_ends}
+use Rattle.conditions.proofs.Conditions.{in_few, space_next, cond_ends}
 use Rattle.conditions.proofs.Going.{Going, conds_ends}
 use borrow.Fn.Kinds.{In}
 use borrow.Fn.PlainCycle.{Measures, is, falls, and}
@@ -80,7 +80,7 @@ pub +cond-in-conds-in-spec : {M : Type 1} → statement M
     {- conds-in-requires -}
     (λ c κs. search rules)
     {- closed-requires -}
-    (λ c κs. search in-few)
+    (λ c κs. search in_few)
     {- same-length-2 -}
     (λ c. search rules)
     {- returns-4 -}
@@ -98,7 +98,7 @@ pub +cond-in-conds-in-spec : {M : Type 1} → statement M
     {- cond-in-requires -}
     (λ c κs. search rules)
     {- closed-requires-2 -}
-    (λ c κs. search in-few)
+    (λ c κs. search in_few)
     {- same-length-3 -}
     (λ c. search rules)
     {- returns-6 -}

@@ -184,7 +184,7 @@ module _ {M : Type 1} {𝓤 : Ura M} (𝓛 : Logic 𝓤) (mem : Memory → SProp
       (known_read : Triple 𝓤 (C #ask·read-query) (S.Read 𝓛 mem run)) (known-wants : Triple 𝓤 (C the-asks-#ask) (S.Wants 𝓛 mem run)) (known-open : Triple 𝓤 (C #catalogue·open-all) (S.Open 𝓛 mem run)) (known-inner : Triple 𝓤 (C #ask·lined) (Inner 𝓛 mem run)) where
     walk : ent 𝓤 (on_entry 𝓛 outer.signature (κ₀, (κ₁, (κ₂, (κ₃, (κ₄, (κ₅, (κ₆, tt))))))) (q₀, (q₁, (q₂, (q₃, (q₄, (q₅, (q₆, tt))))))) a at) (WpFn 𝓤 H C Λ code.function (gsv ∷ wsv ∷ lv ∷ nsv ∷ tsv ∷ vsv ∷ cv ∷ zv ∷ bsv ∷ csv ∷ []) Post)
     walk =
-        qed 𝓛 ((‵ (flft κ₀ q₀) ⊛ ‵ (flft κ₁ q₁) ⊛ ‵ (flft κ₂ q₂) ⊛ ‵ (flft κ₃ q₃) ⊛ ‵ (flft κ₄ q₄) ⊛ ‵ (flft κ₅ q₅) ⊛ ‵ (flft κ₆ q₆) ⊛ ‵ ftrue) ∷ ‵ (owns (ShrSlice (named 0) κ₀ T.the_row ∷ ShrSlice (named 1) κ₁ u32 ∷ L.the_row ∷ ShrSlice (named 2) κ₂ u64 ∷ ShrSlice (named 3) κ₃ u32 ∷ ShrSlice (named 4) κ₄ i32 ∷ P.the_row ∷ i64 ∷ ShrSlice (named 5) κ₅ u8 ∷ MutSlice (named 6) κ₆ u8 ∷ []) a at) ∷ []) ∵ enter ! C Λ code.function (gsv ∷ wsv ∷ lv ∷ nsv ∷ tsv ∷ vsv ∷ cv ∷ zv ∷ bsv ∷ csv ∷ []) _ $ alloc1 ! (λ l₀. alloc1 ! (λ l₁. alloc1 ! (λ l₂. alloc1 ! (λ l₃. alloc1 ! (λ l₄. alloc1 ! (λ l₅. alloc1 ! (λ l₆. alloc1 ! (λ l₇. alloc1 ! (λ l₈. alloc1 ! (λ l₉. alloc1 ! (λ l₁₀. alloc1 ! (λ l₁₁. alloc1 ! (λ l₁₂. alloc1 ! (λ l₁₃. alloc1 ! (λ l₁₄. alloc1 ! (λ l₁₅. alloc0 ! $ params1 ! $ pass1 ! (init ! 28 refl (tt, (tt, (record { fits = room-gs.0 }, tt)))) $ pass1 ! (init ! 26 refl (tt, (tt, (record { fits = room-ws.0 }, tt)))) $ pass1 ! (init ! 24 refl ((LL.lawful L.the_type L'.the_laws 𝓛).typed l _ isl).0) $ pass1 ! (init ! 22 refl (tt, (tt, (record { fits = room-ns.0 }, tt)))) $ pass1 ! (init ! 20 refl (tt, (tt, (record { fits = room-ts.0 }, tt)))) $ pass1 ! (init ! 18 refl (tt, (tt, (record { fits = room-vs.0 }, tt)))) $ pass1 ! (init ! 16 refl ((LL.lawful P.the_type P'.the_laws 𝓛).typed who _ isw).0) $ pass1 ! (init ! 14 refl ((sint_Lawful 𝓛 w64).typed number _ isz).0) $ pass1 ! (init ! 12 refl (tt, (tt, (record { fits = room-bs.0 }, tt)))) $ pass1 ! (init ! 10 refl (tt, (tt, (record { fits = room-cs.0 }, tt)))) $ pass0 ! $ move ! (32 ∷ 33 ∷ []) $ split ! $ move ! (1 ∷ []) $ split ! $ move ! (1 ∷ []) $ split ! $ move ! (1 ∷ []) $ split ! $ move ! (1 ∷ []) $ split ! $ move ! (1 ∷ []) $ split ! $ move ! (1 ∷ []) $ split ! $ move ! (1 ∷ []) $ drop ! $ move ! (7 ∷ []) $ fsplit ! $ move ! (1 ∷ []) $ fsplit ! $ move ! (1 ∷ []) $ fsplit ! $ drop ! $ fsplit ! $ move ! (1 ∷ []) $ fsplit ! $ move ! (1 ∷ []) $ fsplit ! $ move ! (1 ∷ []) $ fsplit ! $ drop ! $ fsplit ! $ drop ! $ fsplit ! $ move ! (1 ∷ []) $ fsplit ! $ move ! (1 ∷ []) $ drop ! $ move ! (8 ∷ 11 ∷ 1 ∷ 4 ∷ []) $ group ! 4 $ use1 𝓛 (raw ((S.Read 𝓛 mem run).pre (S.to_read 𝓛 mem run κ₀ κ₁ κ₂ κ₅ q₀ q₁ q₂ q₅ gs ws ns bs who cv isw)) ⊛ ‵ O_bs ⊛ ‵ O_ns) (S.goes_read 𝓛 mem run κ₀ κ₁ κ₂ κ₅ q₀ q₁ q₂ q₅ gs ws ns bs who cv isw) $ split ! $ move ! (1 ∷ []) $ split ! $ move ! (2 ∷ []) $ calls_at ! fm (S.Read 𝓛 mem run) known_read (S.to_read 𝓛 mem run κ₀ κ₁ κ₂ κ₅ q₀ q₁ q₂ q₅ gs ws ns bs who cv isw) (and_then ! (load ! (from ! (stop !)) (look ! 25 refl)) (and_then ! (load ! (from ! (stop !)) (look ! 35 refl)) (no_more !))) (λ u. use1 𝓛 (later (some (λ (t : Told). ((S.read_toks 𝓛 mem run κ₀ κ₁ κ₂ κ₅ q₀ q₁ q₂ q₅ gs ws ns bs who cv isw) ⊛ ‵ ((D.the_row).own_val t (u ∷ []))) ⊛ raw (ensured 𝓛 reads.ended (reads.clauses 𝓛 mem run) (κ₅, (κ₂, tt)) (bs, (ns, tt)) tt t)))) (id⊢ 𝓤 _) $ await ! tt $ pick ! (λ t. split ! $ move ! (1 ∷ []) $ use1 𝓛 (raw (fact 𝓤 (QueryRead ns.now bs.now t))) (S.read_said 𝓛 mem run κ₀ κ₁ κ₂ κ₅ q₀ q₁ q₂ q₅ gs ws ns bs who cv isw t) $ heard ! (QueryRead ns.now bs.now t) (λ e₁. split ! $ move ! (1 ∷ []) $ peeks ! D.the_row (Is D.the_row) (shows 𝓛 D.the_row) t (u ∷ []) (λ ist. land ! (from ! (stop !)) (init ! 22 refl ((LL.lawful D.the_type D'.the_laws 𝓛).typed t _ ist).0) $ drop ! $ split ! $ move ! (1 ∷ []) $ split ! $ move ! (1 ∷ []) $ drop ! $ use0 𝓛 (raw ((S.Wants 𝓛 mem run).pre (S.to_wants 𝓛 mem run κ₀ κ₁ κ₂ κ₅ q₀ q₁ q₂ q₅ gs ws ns bs who cv isw t u))) (S.goes_wants 𝓛 mem run κ₀ κ₁ κ₂ κ₅ q₀ q₁ q₂ q₅ gs ws ns bs who cv isw t u ist) $ calls_at ! fm (S.Wants 𝓛 mem run) known-wants (S.to_wants 𝓛 mem run κ₀ κ₁ κ₂ κ₅ q₀ q₁ q₂ q₅ gs ws ns bs who cv isw t u) (and_then ! (load ! (from ! (stop !)) (look ! 23 refl)) (no_more !)) (λ j. use1 𝓛 (later (some (λ (n : Needs). (‵ ftrue ⊛ ‵ ((goal.the_row).own_val n (j ∷ []))) ⊛ raw (ensured 𝓛 wants.ended (wants.clauses 𝓛 mem run) tt (t, tt) tt n)))) (id⊢ 𝓤 _) $ await ! tt $ pick ! (λ n. split ! $ move ! (1 ∷ []) $ use1 𝓛 (raw (fact 𝓤 (n ≡ t.needs))) (S.wants_said 𝓛 mem run κ₀ κ₁ κ₂ κ₅ q₀ q₁ q₂ q₅ gs ws ns bs who cv isw t n) $ heard ! (n ≡ t.needs) (λ e₂. split ! $ drop ! $ peeks ! goal.the_row (Is goal.the_row) (shows 𝓛 goal.the_row) n (j ∷ []) (λ isn. land ! (from ! (stop !)) (init ! 19 refl ((LL.lawful goal.the_type N'.the_laws 𝓛).typed n _ isn).0) $ drop ! $ move ! (13 ∷ 0 ∷ 12 ∷ 8 ∷ 3 ∷ 7 ∷ []) $ group ! 6 $ use1 𝓛 (raw ((S.Open 𝓛 mem run).pre (S.to_open 𝓛 mem run κ₀ κ₁ κ₂ κ₅ q₀ q₁ q₂ q₅ gs ws ns bs who cv isw n j)) ⊛ ‵ O_gs ⊛ ‵ O_ns ⊛ ‵ O_ws) (S.goes_open 𝓛 mem run κ₀ κ₁ κ₂ κ₅ q₀ q₁ q₂ q₅ gs ws ns bs who cv isw n j isn) $ split ! $ move ! (1 ∷ []) $ split ! $ move ! (1 ∷ []) $ split ! $ move ! (3 ∷ []) $ calls_at ! fm (S.Open 𝓛 mem run) known-open (S.to_open 𝓛 mem run κ₀ κ₁ κ₂ κ₅ q₀ q₁ q₂ q₅ gs ws ns bs who cv isw n j) (and_then ! (load ! (from ! (stop !)) (look ! 40 refl)) (and_then ! (load ! (from ! (stop !)) (look ! 16 refl)) (and_then ! (load ! (from ! (stop !)) (look ! 34 refl)) (and_then ! (load ! (from ! (stop !)) (look ! 38 refl)) (and_then ! (load ! (from ! (stop !)) (look ! 28 refl)) (no_more !)))))) (λ o. use1 𝓛 (later (some (λ (x : Opened). ((S.open-toks 𝓛 mem run κ₀ κ₁ κ₂ κ₅ q₀ q₁ q₂ q₅ gs ws ns bs who cv isw) ⊛ ‵ ((K.the_row).own_val x (o ∷ []))) ⊛ raw (ensured 𝓛 opens.ended (opens.clauses 𝓛 mem run) (κ₀, (κ₂, (κ₁, tt))) (S.open-args 𝓛 mem run κ₀ κ₁ κ₂ κ₅ q₀ q₁ q₂ q₅ gs ws ns bs who cv isw n) tt x)))) (id⊢ 𝓤 _) $ await ! tt $ pick ! (λ x. split ! $ move ! (1 ∷ []) $ use1 𝓛 (raw (fact 𝓤 (x ≡ opened_in n ns.now gs.now ws.now (roles_of who) (profile_of who)))) (S.open_said 𝓛 mem run κ₀ κ₁ κ₂ κ₅ q₀ q₁ q₂ q₅ gs ws ns bs who cv isw n x) $ heard ! (x ≡ opened_in n ns.now gs.now ws.now (roles_of who) (profile_of who)) (λ e₃. split ! $ move ! (1 ∷ []) $ peeks ! K.the_row (Is K.the_row) (shows 𝓛 K.the_row) x (o ∷ []) (λ isx. land ! (from ! (stop !)) (init ! 19 refl ((LL.lawful K.the_type K'.the_laws 𝓛).typed x _ isx).0) $ drop ! $ split ! $ move ! (1 ∷ []) $ split ! $ move ! (1 ∷ []) $ split ! $ move ! (1 ∷ []) $ drop ! $ assigns ! (addr ! (from ! (fld ! refl (hop ! (look_in ! 24 (sub ! 0 refl (whole !))) (stop !))))) (from ! (stop !)) (init ! 16 refl (tt, tt)) $ assigns ! (agg ! (and_then ! (load ! (from ! (stop !)) (look ! 16 refl)) (and_then ! (load ! (from ! (fld ! refl (stop !))) (look_in ! 24 (sub ! 1 refl (whole !)))) (no_more !)))) (from ! (stop !)) (init ! 14 refl (tt, (tt, (record { fits = room-cs.0 }, tt)))) $ move ! (1 ∷ 13 ∷ 12 ∷ 0 ∷ 11 ∷ 3 ∷ 10 ∷ 9 ∷ 4 ∷ 8 ∷ []) $ group ! 10 $ use1 𝓛 (raw ((Inner 𝓛 mem run).pre (to_inner t x u o)) ⊛ ‵ O_ns ⊛ ‵ O-ts ⊛ ‵ O-vs ⊛ ‵ O_ws) (goes-inner t x u o ist isx (record { spare = 0; bytes = bs.now; form = parse_query bs.now; grants = gs.now; text = e₁.text; opened = e₃ ∙ ap (λ k. opened_in k ns.now gs.now ws.now (roles_of who) (profile_of who)) e₂ })) $ split ! $ move ! (1 ∷ []) $ split ! $ move ! (1 ∷ []) $ split ! $ move ! (1 ∷ []) $ split ! $ move ! (4 ∷ []) $ calls_at ! fm (Inner 𝓛 mem run) known-inner (to_inner t x u o) (and_then ! (load ! (from ! (stop !)) (look ! 17 refl)) (and_then ! (load ! (from ! (stop !)) (look ! 15 refl)) (and_then ! (load ! (from ! (stop !)) (look ! 33 refl)) (and_then ! (load ! (from ! (stop !)) (look ! 31 refl)) (and_then ! (load ! (from ! (stop !)) (look ! 29 refl)) (and_then ! (load ! (from ! (stop !)) (look ! 27 refl)) (and_then ! (load ! (from ! (stop !)) (look ! 35 refl)) (and_then ! (load ! (from ! (stop !)) (look ! 25 refl)) (and_then ! (load ! (from ! (stop !)) (look ! 23 refl)) (and_then ! (load ! (from ! (stop !)) (look ! 9 refl)) (no_more !))))))))))) (λ y. use1 𝓛 (later (some (λ (r : Reply). (inner-toks ⊛ ‵ ((Y.the_row).own_val r (y ∷ []))) ⊛ raw (ensured 𝓛 inner.ended (inner.clauses 𝓛 mem run) (κ₂, (κ₃, (κ₄, (κ₁, (κ₆, tt))))) (inner-args t x) tt r)))) (id⊢ 𝓤 _) $ await ! tt $ pick ! (λ r. split ! $ move ! (1 ∷ []) $ use1 𝓛 (some (λ (zs : Unit {0} × (Unit {0} × (Unit {0} × (Unit {0} × (Unit {0} × (Unit {0} × (Unit {0} × (Unit {0} × (Unit {0} × (List ℕ × Unit {0})))))))))). ‵ (lasts inner.ended (κ₂, (κ₃, (κ₄, (κ₁, (κ₆, tt))))) (inner-args t x) zs) ⊛ raw (fact 𝓤 (Lines memory ws.now who t x number cs.now zs.1.1.1.1.1.1.1.1.1.0 r)))) (id⊢ 𝓤 _) $ pick ! (λ zs. split ! $ move ! (1 ∷ []) $ heard ! (Lines memory ws.now who t x number cs.now zs.1.1.1.1.1.1.1.1.1.0 r) (λ e₄. fsplit ! $ drop ! $ fsplit ! $ drop ! $ fsplit ! $ drop ! $ fsplit ! $ drop ! $ fsplit ! $ drop ! $ fsplit ! $ drop ! $ fsplit ! $ drop ! $ fsplit ! $ drop ! $ fsplit ! $ drop ! $ fsplit ! $ fsplit ! $ move ! (1 ∷ []) $ feq_l ! (λ k. move ! (1 ∷ []) $ drop ! $ move ! (1 ∷ []) $ split ! $ move ! (1 ∷ []) $ peeks ! Y.the_row (Is Y.the_row) (shows 𝓛 Y.the_row) r (y ∷ []) (λ isr. land ! (from ! (stop !)) (init ! 41 refl ((LL.lawful Y.the_type Y'.the_laws 𝓛).typed r _ isr).0) $ returns ! (look ! 41 refl) $ forget ! 11 refl $ forget ! 13 refl $ forget ! 15 refl $ forget ! 17 refl $ forget ! 19 refl $ forget ! 21 refl $ forget ! 23 refl $ forget ! 25 refl $ forget ! 27 refl $ forget ! 29 refl $ forget ! 31 refl $ forget ! 33 refl $ forget ! 35 refl $ forget ! 37 refl $ forget ! 39 refl $ forget ! 41 refl $ move ! (41 ∷ 42 ∷ []) $ free1 ! $ move ! (39 ∷ 40 ∷ []) $ free1 ! $ move ! (37 ∷ 38 ∷ []) $ free1 ! $ move ! (35 ∷ 36 ∷ []) $ free1 ! $ move ! (33 ∷ 34 ∷ []) $ free1 ! $ move ! (31 ∷ 32 ∷ []) $ free1 ! $ move ! (29 ∷ 30 ∷ []) $ free1 ! $ move ! (27 ∷ 28 ∷ []) $ free1 ! $ move ! (25 ∷ 26 ∷ []) $ free1 ! $ move ! (23 ∷ 24 ∷ []) $ free1 ! $ move ! (21 ∷ 22 ∷ []) $ free1 ! $ move ! (19 ∷ 20 ∷ []) $ free1 ! $ move ! (17 ∷ 18 ∷ []) $ free1 ! $ move ! (15 ∷ 16 ∷ []) $ free1 ! $ move ! (13 ∷ 14 ∷ []) $ free1 ! $ move ! (11 ∷ 12 ∷ []) $ free1 ! $ free0 ! $ move ! (1 ∷ []) $ split ! $ move ! (1 ∷ []) $ split ! $ move ! (1 ∷ []) $ split ! $ move ! (1 ∷ []) $ split ! $ move ! (1 ∷ []) $ split ! $ move ! (1 ∷ []) $ drop ! $ keep ! (5 ∷ 6 ∷ 11 ∷ 1 ∷ 4 ∷ 3 ∷ 2 ∷ 13 ∷ 0 ∷ 12 ∷ 8 ∷ 10 ∷ 9 ∷ 7 ∷ 14 ∷ []) $ by ! (exits r y zs.1.1.1.1.1.1.1.1.1.0 (e₄.shown 0 bs.now (parse_query bs.now) gs.now e₁.text (e₃ ∙ ap (λ k. opened_in k ns.now gs.now ws.now (roles_of who) (profile_of who)) e₂)) k)))))))))))))))))))))))))))))))))))
+        qed 𝓛 ((‵ (flft κ₀ q₀) ⊛ ‵ (flft κ₁ q₁) ⊛ ‵ (flft κ₂ q₂) ⊛ ‵ (flft κ₃ q₃) ⊛ ‵ (flft κ₄ q₄) ⊛ ‵ (flft κ₅ q₅) ⊛ ‵ (flft κ₆ q₆) ⊛ ‵ ftrue) ∷ ‵ (owns (ShrSlice (named 0) κ₀ T.the_row ∷ ShrSlice (named 1) κ₁ u32 ∷ L.the_row ∷ ShrSlice (named 2) κ₂ u64 ∷ ShrSlice (named 3) κ₃ u32 ∷ ShrSlice (named 4) κ₄ i32 ∷ P.the_row ∷ i64 ∷ ShrSlice (named 5) κ₅ u8 ∷ MutSlice (named 6) κ₆ u8 ∷ []) a at) ∷ []) ∵ enter ! C Λ code.function (gsv ∷ wsv ∷ lv ∷ nsv ∷ tsv ∷ vsv ∷ cv ∷ zv ∷ bsv ∷ csv ∷ []) _ $ alloc1 ! (λ l₀. alloc1 ! (λ l₁. alloc1 ! (λ l₂. alloc1 ! (λ l₃. alloc1 ! (λ l₄. alloc1 ! (λ l₅. alloc1 ! (λ l₆. alloc1 ! (λ l₇. alloc1 ! (λ l₈. alloc1 ! (λ l₉. alloc1 ! (λ l₁₀. alloc1 ! (λ l₁₁. alloc1 ! (λ l₁₂. alloc1 ! (λ l₁₃. alloc1 ! (λ l₁₄. alloc1 ! (λ l₁₅. alloc0 ! $ params1 ! $ pass1 ! (init ! 28 refl (tt, (tt, (record { fits = room-gs.0 }, tt)))) $ pass1 ! (init ! 26 refl (tt, (tt, (record { fits = room-ws.0 }, tt)))) $ pass1 ! (init ! 24 refl ((LL.lawful L.the_type L'.the_laws 𝓛).typed l _ isl).0) $ pass1 ! (init ! 22 refl (tt, (tt, (record { fits = room-ns.0 }, tt)))) $ pass1 ! (init ! 20 refl (tt, (tt, (record { fits = room-ts.0 }, tt)))) $ pass1 ! (init ! 18 refl (tt, (tt, (record { fits = room-vs.0 }, tt)))) $ pass1 ! (init ! 16 refl ((LL.lawful P.the_type P'.the_laws 𝓛).typed who _ isw).0) $ pass1 ! (init ! 14 refl ((sint_Lawful 𝓛 w64).typed number _ isz).0) $ pass1 ! (init ! 12 refl (tt, (tt, (record { fits = room-bs.0 }, tt)))) $ pass1 ! (init ! 10 refl (tt, (tt, (record { fits = room-cs.0 }, tt)))) $ pass0 ! $ move ! (32 ∷ 33 ∷ []) $ split ! $ move ! (1 ∷ []) $ split ! $ move ! (1 ∷ []) $ split ! $ move ! (1 ∷ []) $ split ! $ move ! (1 ∷ []) $ split ! $ move ! (1 ∷ []) $ split ! $ move ! (1 ∷ []) $ split ! $ move ! (1 ∷ []) $ drop ! $ move ! (7 ∷ []) $ fsplit ! $ move ! (1 ∷ []) $ fsplit ! $ move ! (1 ∷ []) $ fsplit ! $ drop ! $ fsplit ! $ move ! (1 ∷ []) $ fsplit ! $ move ! (1 ∷ []) $ fsplit ! $ move ! (1 ∷ []) $ fsplit ! $ drop ! $ fsplit ! $ drop ! $ fsplit ! $ move ! (1 ∷ []) $ fsplit ! $ move ! (1 ∷ []) $ drop ! $ move ! (8 ∷ 11 ∷ 1 ∷ 4 ∷ []) $ group ! 4 $ use1 𝓛 (raw ((S.Read 𝓛 mem run).pre (S.to_read 𝓛 mem run κ₀ κ₁ κ₂ κ₅ q₀ q₁ q₂ q₅ gs ws ns bs who cv isw)) ⊛ ‵ O_bs ⊛ ‵ O_ns) (S.goes_read 𝓛 mem run κ₀ κ₁ κ₂ κ₅ q₀ q₁ q₂ q₅ gs ws ns bs who cv isw) $ split ! $ move ! (1 ∷ []) $ split ! $ move ! (2 ∷ []) $ calls_at ! fm (S.Read 𝓛 mem run) known_read (S.to_read 𝓛 mem run κ₀ κ₁ κ₂ κ₅ q₀ q₁ q₂ q₅ gs ws ns bs who cv isw) (and_then ! (load ! (from ! (stop !)) (look ! 25 refl)) (and_then ! (load ! (from ! (stop !)) (look ! 35 refl)) (no_more !))) (λ u. use1 𝓛 (later (some (λ (t : Told). ((S.read_toks 𝓛 mem run κ₀ κ₁ κ₂ κ₅ q₀ q₁ q₂ q₅ gs ws ns bs who cv isw) ⊛ ‵ ((D.the_row).own_val t (u ∷ []))) ⊛ raw (ensured 𝓛 reads.ended (reads.clauses 𝓛 mem run) (κ₅, (κ₂, tt)) (bs, (ns, tt)) tt t)))) (id⊢ 𝓤 _) $ await ! tt $ pick ! (λ t. split ! $ move ! (1 ∷ []) $ use1 𝓛 (raw (fact 𝓤 (QueryRead ns.now bs.now t))) (S.read_said 𝓛 mem run κ₀ κ₁ κ₂ κ₅ q₀ q₁ q₂ q₅ gs ws ns bs who cv isw t) $ heard ! (QueryRead ns.now bs.now t) (λ e₁. split ! $ move ! (1 ∷ []) $ peeks ! D.the_row (Is D.the_row) (shows 𝓛 D.the_row) t (u ∷ []) (λ ist. land ! (from ! (stop !)) (init ! 22 refl ((LL.lawful D.the_type D'.the_laws 𝓛).typed t _ ist).0) $ drop ! $ split ! $ move ! (1 ∷ []) $ split ! $ move ! (1 ∷ []) $ drop ! $ use0 𝓛 (raw ((S.Wants 𝓛 mem run).pre (S.to_wants 𝓛 mem run κ₀ κ₁ κ₂ κ₅ q₀ q₁ q₂ q₅ gs ws ns bs who cv isw t u))) (S.goes_wants 𝓛 mem run κ₀ κ₁ κ₂ κ₅ q₀ q₁ q₂ q₅ gs ws ns bs who cv isw t u ist) $ calls_at ! fm (S.Wants 𝓛 mem run) known-wants (S.to_wants 𝓛 mem run κ₀ κ₁ κ₂ κ₅ q₀ q₁ q₂ q₅ gs ws ns bs who cv isw t u) (and_then ! (load ! (from ! (stop !)) (look ! 23 refl)) (no_more !)) (λ j. use1 𝓛 (later (some (λ (n : Needs). (‵ ftrue ⊛ ‵ ((goal.the_row).own_val n (j ∷ []))) ⊛ raw (ensured 𝓛 wants.ended (wants.clauses 𝓛 mem run) tt (t, tt) tt n)))) (id⊢ 𝓤 _) $ await ! tt $ pick ! (λ n. split ! $ move ! (1 ∷ []) $ use1 𝓛 (raw (fact 𝓤 (n ≡ t.needs))) (S.wants_said 𝓛 mem run κ₀ κ₁ κ₂ κ₅ q₀ q₁ q₂ q₅ gs ws ns bs who cv isw t n) $ heard ! (n ≡ t.needs) (λ e₂. split ! $ drop ! $ peeks ! goal.the_row (Is goal.the_row) (shows 𝓛 goal.the_row) n (j ∷ []) (λ isn. land ! (from ! (stop !)) (init ! 19 refl ((LL.lawful goal.the_type N'.the_laws 𝓛).typed n _ isn).0) $ drop ! $ move ! (13 ∷ 0 ∷ 12 ∷ 8 ∷ 3 ∷ 7 ∷ []) $ group ! 6 $ use1 𝓛 (raw ((S.Open 𝓛 mem run).pre (S.to_open 𝓛 mem run κ₀ κ₁ κ₂ κ₅ q₀ q₁ q₂ q₅ gs ws ns bs who cv isw n j)) ⊛ ‵ O_gs ⊛ ‵ O_ns ⊛ ‵ O_ws) (S.goes_open 𝓛 mem run κ₀ κ₁ κ₂ κ₅ q₀ q₁ q₂ q₅ gs ws ns bs who cv isw n j isn) $ split ! $ move ! (1 ∷ []) $ split ! $ move ! (1 ∷ []) $ split ! $ move ! (3 ∷ []) $ calls_at ! fm (S.Open 𝓛 mem run) known-open (S.to_open 𝓛 mem run κ₀ κ₁ κ₂ κ₅ q₀ q₁ q₂ q₅ gs ws ns bs who cv isw n j) (and_then ! (load ! (from ! (stop !)) (look ! 40 refl)) (and_then ! (load ! (from ! (stop !)) (look ! 16 refl)) (and_then ! (load ! (from ! (stop !)) (look ! 34 refl)) (and_then ! (load ! (from ! (stop !)) (look ! 38 refl)) (and_then ! (load ! (from ! (stop !)) (look ! 28 refl)) (no_more !)))))) (λ o. use1 𝓛 (later (some (λ (x : Opened). ((S.open_toks 𝓛 mem run κ₀ κ₁ κ₂ κ₅ q₀ q₁ q₂ q₅ gs ws ns bs who cv isw) ⊛ ‵ ((K.the_row).own_val x (o ∷ []))) ⊛ raw (ensured 𝓛 opens.ended (opens.clauses 𝓛 mem run) (κ₀, (κ₂, (κ₁, tt))) (S.open_args 𝓛 mem run κ₀ κ₁ κ₂ κ₅ q₀ q₁ q₂ q₅ gs ws ns bs who cv isw n) tt x)))) (id⊢ 𝓤 _) $ await ! tt $ pick ! (λ x. split ! $ move ! (1 ∷ []) $ use1 𝓛 (raw (fact 𝓤 (x ≡ opened_in n ns.now gs.now ws.now (roles_of who) (profile_of who)))) (S.open_said 𝓛 mem run κ₀ κ₁ κ₂ κ₅ q₀ q₁ q₂ q₅ gs ws ns bs who cv isw n x) $ heard ! (x ≡ opened_in n ns.now gs.now ws.now (roles_of who) (profile_of who)) (λ e₃. split ! $ move ! (1 ∷ []) $ peeks ! K.the_row (Is K.the_row) (shows 𝓛 K.the_row) x (o ∷ []) (λ isx. land ! (from ! (stop !)) (init ! 19 refl ((LL.lawful K.the_type K'.the_laws 𝓛).typed x _ isx).0) $ drop ! $ split ! $ move ! (1 ∷ []) $ split ! $ move ! (1 ∷ []) $ split ! $ move ! (1 ∷ []) $ drop ! $ assigns ! (addr ! (from ! (fld ! refl (hop ! (look_in ! 24 (sub ! 0 refl (whole !))) (stop !))))) (from ! (stop !)) (init ! 16 refl (tt, tt)) $ assigns ! (agg ! (and_then ! (load ! (from ! (stop !)) (look ! 16 refl)) (and_then ! (load ! (from ! (fld ! refl (stop !))) (look_in ! 24 (sub ! 1 refl (whole !)))) (no_more !)))) (from ! (stop !)) (init ! 14 refl (tt, (tt, (record { fits = room-cs.0 }, tt)))) $ move ! (1 ∷ 13 ∷ 12 ∷ 0 ∷ 11 ∷ 3 ∷ 10 ∷ 9 ∷ 4 ∷ 8 ∷ []) $ group ! 10 $ use1 𝓛 (raw ((Inner 𝓛 mem run).pre (to_inner t x u o)) ⊛ ‵ O_ns ⊛ ‵ O-ts ⊛ ‵ O-vs ⊛ ‵ O_ws) (goes-inner t x u o ist isx (record { spare = 0; bytes = bs.now; form = parse_query bs.now; grants = gs.now; text = e₁.text; opened = e₃ ∙ ap (λ k. opened_in k ns.now gs.now ws.now (roles_of who) (profile_of who)) e₂ })) $ split ! $ move ! (1 ∷ []) $ split ! $ move ! (1 ∷ []) $ split ! $ move ! (1 ∷ []) $ split ! $ move ! (4 ∷ []) $ calls_at ! fm (Inner 𝓛 mem run) known-inner (to_inner t x u o) (and_then ! (load ! (from ! (stop !)) (look ! 17 refl)) (and_then ! (load ! (from ! (stop !)) (look ! 15 refl)) (and_then ! (load ! (from ! (stop !)) (look ! 33 refl)) (and_then ! (load ! (from ! (stop !)) (look ! 31 refl)) (and_then ! (load ! (from ! (stop !)) (look ! 29 refl)) (and_then ! (load ! (from ! (stop !)) (look ! 27 refl)) (and_then ! (load ! (from ! (stop !)) (look ! 35 refl)) (and_then ! (load ! (from ! (stop !)) (look ! 25 refl)) (and_then ! (load ! (from ! (stop !)) (look ! 23 refl)) (and_then ! (load ! (from ! (stop !)) (look ! 9 refl)) (no_more !))))))))))) (λ y. use1 𝓛 (later (some (λ (r : Reply). (inner-toks ⊛ ‵ ((Y.the_row).own_val r (y ∷ []))) ⊛ raw (ensured 𝓛 inner.ended (inner.clauses 𝓛 mem run) (κ₂, (κ₃, (κ₄, (κ₁, (κ₆, tt))))) (inner-args t x) tt r)))) (id⊢ 𝓤 _) $ await ! tt $ pick ! (λ r. split ! $ move ! (1 ∷ []) $ use1 𝓛 (some (λ (zs : Unit {0} × (Unit {0} × (Unit {0} × (Unit {0} × (Unit {0} × (Unit {0} × (Unit {0} × (Unit {0} × (Unit {0} × (List ℕ × Unit {0})))))))))). ‵ (lasts inner.ended (κ₂, (κ₃, (κ₄, (κ₁, (κ₆, tt))))) (inner-args t x) zs) ⊛ raw (fact 𝓤 (Lines memory ws.now who t x number cs.now zs.1.1.1.1.1.1.1.1.1.0 r)))) (id⊢ 𝓤 _) $ pick ! (λ zs. split ! $ move ! (1 ∷ []) $ heard ! (Lines memory ws.now who t x number cs.now zs.1.1.1.1.1.1.1.1.1.0 r) (λ e₄. fsplit ! $ drop ! $ fsplit ! $ drop ! $ fsplit ! $ drop ! $ fsplit ! $ drop ! $ fsplit ! $ drop ! $ fsplit ! $ drop ! $ fsplit ! $ drop ! $ fsplit ! $ drop ! $ fsplit ! $ drop ! $ fsplit ! $ fsplit ! $ move ! (1 ∷ []) $ feq_l ! (λ k. move ! (1 ∷ []) $ drop ! $ move ! (1 ∷ []) $ split ! $ move ! (1 ∷ []) $ peeks ! Y.the_row (Is Y.the_row) (shows 𝓛 Y.the_row) r (y ∷ []) (λ isr. land ! (from ! (stop !)) (init ! 41 refl ((LL.lawful Y.the_type Y'.the_laws 𝓛).typed r _ isr).0) $ returns ! (look ! 41 refl) $ forget ! 11 refl $ forget ! 13 refl $ forget ! 15 refl $ forget ! 17 refl $ forget ! 19 refl $ forget ! 21 refl $ forget ! 23 refl $ forget ! 25 refl $ forget ! 27 refl $ forget ! 29 refl $ forget ! 31 refl $ forget ! 33 refl $ forget ! 35 refl $ forget ! 37 refl $ forget ! 39 refl $ forget ! 41 refl $ move ! (41 ∷ 42 ∷ []) $ free1 ! $ move ! (39 ∷ 40 ∷ []) $ free1 ! $ move ! (37 ∷ 38 ∷ []) $ free1 ! $ move ! (35 ∷ 36 ∷ []) $ free1 ! $ move ! (33 ∷ 34 ∷ []) $ free1 ! $ move ! (31 ∷ 32 ∷ []) $ free1 ! $ move ! (29 ∷ 30 ∷ []) $ free1 ! $ move ! (27 ∷ 28 ∷ []) $ free1 ! $ move ! (25 ∷ 26 ∷ []) $ free1 ! $ move ! (23 ∷ 24 ∷ []) $ free1 ! $ move ! (21 ∷ 22 ∷ []) $ free1 ! $ move ! (19 ∷ 20 ∷ []) $ free1 ! $ move ! (17 ∷ 18 ∷ []) $ free1 ! $ move ! (15 ∷ 16 ∷ []) $ free1 ! $ move ! (13 ∷ 14 ∷ []) $ free1 ! $ move ! (11 ∷ 12 ∷ []) $ free1 ! $ free0 ! $ move ! (1 ∷ []) $ split ! $ move ! (1 ∷ []) $ split ! $ move ! (1 ∷ []) $ split ! $ move ! (1 ∷ []) $ split ! $ move ! (1 ∷ []) $ split ! $ move ! (1 ∷ []) $ drop ! $ keep ! (5 ∷ 6 ∷ 11 ∷ 1 ∷ 4 ∷ 3 ∷ 2 ∷ 13 ∷ 0 ∷ 12 ∷ 8 ∷ 10 ∷ 9 ∷ 7 ∷ 14 ∷ []) $ by ! (exits r y zs.1.1.1.1.1.1.1.1.1.0 (e₄.shown 0 bs.now (parse_query bs.now) gs.now e₁.text (e₃ ∙ ap (λ k. opened_in k ns.now gs.now ws.now (roles_of who) (profile_of who)) e₂)) k)))))))))))))))))))))))))))))))))))
 
 module _ {M : Type 1} {𝓤 : Ura M} (𝓛 : Logic 𝓤) (mem : Memory → SProp 𝓤) (run : Routine → Fun 𝓤) (𝓣 : Tables 𝓤 𝓛.H)
     (known_read : Triple 𝓤 (𝓣.C #ask·read-query) (S.Read 𝓛 mem run)) (known-wants : Triple 𝓤 (𝓣.C the-asks-#ask) (S.Wants 𝓛 mem run)) (known-open : Triple 𝓤 (𝓣.C #catalogue·open-all) (S.Open 𝓛 mem run)) (known-inner : Triple 𝓤 (𝓣.C #ask·lined) (Inner 𝓛 mem run)) where
