@@ -15,7 +15,7 @@ use Rattle.text.specs.declared.Number.{Number}
 use Rattle.text.specs.declared.Kept.{Kept}
 use Rattle.text.specs.Words.{code_of, name_at, number_at, kept_of}
 use Rattle.text.specs.Keywords.{opened_at}
-use Rattle.text.proofs.Places.{byte_inside, space_is, space_not, close_is, close_not, name_is, name_not, number_is, number_not, kept_is, open_is, open-not, self_word}
+use Rattle.text.proofs.Places.{byte_inside, space_is, space_not, close_is, close_not, name_is, name_not, number_is, number_not, kept_is, open_is, open_not, self_word}
 use Rattle.items.specs.declared.EntryRead.{EntryRead}
 use Rattle.items.specs.Items.{code_short, entry_read, entry_at, no_entry, entry_of}
 
@@ -35,7 +35,7 @@ module _ (s : Bytes) (at : ℕ) {p : ℕ} (o : p ≡ opened_at s at 0x73656c66) 
 
   pub entry_unopened : {x : EntryRead} → p ≡ 0 → x ≡ no_entry → x ≡ entry_at s at
   unfolding read_entry ◌>>=◌ bind
-  entry_unopened z d = missing (rw (open-not s at self_word o z)) d
+  entry_unopened z d = missing (rw (open_not s at self_word o z)) d
 
   module _ (n : p ≡ 0 → ⊥) {b : ℕ} (c : b ≡ get_or s p 0) where
     pub entry_unspaced : {x : EntryRead} → (b ≡ 32 → ⊥) → x ≡ no_entry → x ≡ entry_at s at
