@@ -69,6 +69,12 @@ sound_parts m t =
 
 six : (a b c d e f : Bool) → T a → T b → T c → T d → T e → T f → T (a && (b && c && d && e && f))
 six true true true true true true p q r s t u = tt
+six false b c d e f p q r s t u = elim p [ ]
+six true false c d e f p q r s t u = elim q [ ]
+six true true false d e f p q r s t u = elim r [ ]
+six true true true false e f p q r s t u = elim s [ ]
+six true true true true false f p q r s t u = elim t [ ]
+six true true true true true false p q r s t u = elim u [ ]
 
 pub sound_made : (m : Memory) → Sound m → T (memory_sound m)
 unfolding memory_sound rows_sound

@@ -1,7 +1,7 @@
 -- What may be lent stands for a valid record; and what is refused though it does.
 use mathlib.Core.Path.{◌≡◌, refl, ap, ap₂, ◌∙◌}
 use mathlib.Core.List.{List, map}
-use mathlib.Core.Bool.{Bool, true, ◌&&◌, and-true}
+use mathlib.Core.Bool.{false, Bool, true, ◌&&◌, and-true}
 use Prim.Native.Nat.{ℕ, zero, suc, ◌+◌, ◌*◌}
 use lib.IntN.{ℤ, pos}
 use lib.Dec.{T, leb, eqb, le→leb, leb→le, eqb_refl}
@@ -60,9 +60,17 @@ module _ (m : Memory) (v : T (every is_value m.values)) where
 
 five : (a b c d e : Bool) → T a → T b → T c → T d → T e → T (a && b && c && d && e)
 five true true true true true p q r s t = tt
+five false b c d e p q r s t = elim p [ ]
+five true false c d e p q r s t = elim q [ ]
+five true true false d e p q r s t = elim r [ ]
+five true true true false e p q r s t = elim s [ ]
+five true true true true false p q r s t = elim t [ ]
 
 three : (a b c : Bool) → T a → T b → T c → T (a && b && c)
 three true true true p q r = tt
+three false b c p q r = elim p [ ]
+three true false c p q r = elim q [ ]
+three true true false p q r = elim r [ ]
 
 module _ (m : Memory) (v : T (every is_value m.values)) where
   pub sound_valid : T (memory_sound m) → T (valid_record (record_of m))

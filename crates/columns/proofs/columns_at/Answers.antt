@@ -1,0 +1,26 @@
+-- `columns_at`: what is read so far, joined to what is read on, is what is read from the first place on.
+use borrow.Author.Rules.{rules}
+use Prim.Native.Nat.{◌-◌}
+use Rattle.columns.proofs.ColumnLists.{columns_ends}
+use Rattle.columns.proofs.columns_at.Goals as goal
+
+pub loop-i-init : goal.loop-i-init
+loop-i-init c = (search rules, search columns_ends)
+
+pub returns-then-ends_at : goal.returns-then-ends_at
+returns-then-ends_at c = search columns_ends
+
+pub returns-then-s-i-ne32 : goal.returns-then-s-i-ne32
+returns-then-s-i-ne32 c = search columns_ends
+
+pub returns-then-not-c : goal.returns-then-not-c
+returns-then-not-c c = search columns_ends
+
+pub loop-i-smaller : goal.loop-i-smaller
+loop-i-smaller c = search columns_ends
+
+pub loop-i-preserved : goal.loop-i-preserved
+loop-i-preserved c = (search rules, search columns_ends)
+
+pub returns : goal.returns
+returns c = search columns_ends

@@ -1,0 +1,25 @@
+-- `streams_at`: what is read so far, joined to what is read on, is what is read from the first place on.
+use Prim.Native.Nat.{◌-◌}
+use Rattle.columns.proofs.StreamLists.{streams_ends}
+use Rattle.columns.proofs.streams_at.Goals as goal
+
+pub loop-i-init : goal.loop-i-init
+loop-i-init c = search streams_ends
+
+pub returns-then-ends_at : goal.returns-then-ends_at
+returns-then-ends_at c = search streams_ends
+
+pub returns-then-s-i-ne32 : goal.returns-then-s-i-ne32
+returns-then-s-i-ne32 c = search streams_ends
+
+pub returns-then-not-n : goal.returns-then-not-n
+returns-then-not-n c = search streams_ends
+
+pub loop-i-smaller : goal.loop-i-smaller
+loop-i-smaller c = search streams_ends
+
+pub loop-i-preserved : goal.loop-i-preserved
+loop-i-preserved c = search streams_ends
+
+pub returns : goal.returns
+returns c = search streams_ends

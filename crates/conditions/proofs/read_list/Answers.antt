@@ -1,0 +1,14 @@
+use Rattle.conditions.proofs.Listing.{read_list_ends}
+use Rattle.conditions.proofs.read_list.Goals as goal
+
+pub returns-then-s-gt-BYTES : goal.returns-then-s-gt-BYTES
+returns-then-s-gt-BYTES c = search read_list_ends
+
+pub returns-then-not-i : goal.returns-then-not-i
+returns-then-not-i c = search read_list_ends
+
+pub returns-then-byte-ne41 : goal.returns-then-byte-ne41
+returns-then-byte-ne41 c = search read_list_ends
+
+pub returns : goal.returns
+returns c = search read_list_ends

@@ -1,0 +1,9 @@
+use borrow.Author.Rules.{rules}
+use Rattle.print.proofs.Conditions.{compares_ends}
+use Rattle.print.proofs.compares.Goals as goal
+
+pub returns-then-head-lt-AND : goal.returns-then-head-lt-AND
+returns-then-head-lt-AND c = search (compares_ends, rules)
+
+pub returns : goal.returns
+returns c = search (compares_ends, rules)
