@@ -10,8 +10,12 @@ use Rattle.nodes.specs.Nodes.{unbiased}
 use Rattle.figures.proofs.Comparing.{term_time, term_figure, term_number, term_other, number_sub, number_fits}
 use Rattle.figures.proofs.Answer.term.Goals as goal
 
+-- the machine's difference
 number-made : (v : ℕ) → v < 4294967296 → to_z w64 v -ℤ to_z w64 2147483648 ≡ unbiased v
 number-made v h = ap₂ ◌-ℤ◌ (to_z_pos w64 v (omega arith)) (to_z_pos w64 2147483648 (omega arith)) ∙ number_sub v
+
+sub-fits : (v : ℕ) → v < 4294967296 → SFits w64 (to_z w64 v -ℤ to_z w64 2147483648)
+sub-fits v h = subst (SFits w64) (sym (number-made v h)) (number_fits v h)
 
 pub returns-then-code-eq-TIME : goal.returns-then-code-eq-TIME
 returns-then-code-eq-TIME c =
@@ -28,12 +32,12 @@ returns-then-code-eq-FIGURE c =
 pub overflow_sub-result : goal.overflow_sub-result
 overflow_sub-result c =
     let a = c.args in
-    subst (SFits w64) (sym (number-made a.v (omega arith))) (number_fits a.v (omega arith))
+    sub-fits a.v (omega arith)
 
 pub returns-then-code-eq-NUMBER : goal.returns-then-code-eq-NUMBER
 returns-then-code-eq-NUMBER c =
     let a = c.args in
-    to_z-of_z w64 _ (sub-t7 c) ∙ number-made a.v (omega arith) ∙ term_number a.self a.code a.v (omega arith)
+    to_z-of_z w64 _ (sub-fits a.v (omega arith)) ∙ number-made a.v (omega arith) ∙ term_number a.self a.code a.v (omega arith)
 
 pub returns : goal.returns
 returns c =

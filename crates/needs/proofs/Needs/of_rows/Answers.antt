@@ -1,0 +1,6 @@
+-- `of_rows`: part by part.
+use Rattle.needs.proofs.Makes.{need_ends}
+use Rattle.needs.proofs.Needs.of_rows.Goals as goal
+
+pub returns : goal.returns
+returns c = search need_ends

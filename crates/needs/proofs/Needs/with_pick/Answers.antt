@@ -1,0 +1,6 @@
+-- `with_pick`: part by part.
+use Rattle.needs.proofs.Makes.{need_ends}
+use Rattle.needs.proofs.Needs.with_pick.Goals as goal
+
+pub returns : goal.returns
+returns c = search need_ends
