@@ -1,5 +1,4 @@
 use borrow.Author.Rules.{rules}
-use Prim.Native.Nat.{◌-◌}
 use Rattle.console.proofs.Keeping.{keep_ends}
 use Rattle.console.proofs.keep.Goals as goal
 

@@ -1,5 +1,4 @@
 use borrow.Author.Rules.{rules}
-use Prim.Native.Nat.{◌-◌}
 use Rattle.console.proofs.Lines.{ahead_ends}
 use Rattle.console.proofs.line_end.Goals as goal
 
