@@ -2,15 +2,14 @@
 use mathlib.Core.Path.{◌≡◌, refl, sym, ap, ◌∙◌}
 use mathlib.Core.List.{[], ◌∷◌, ◌++◌}
 use mathlib.Core.Bool.{Bool, true, false, not, cond, true≢false}
-use Prim.Native.Nat.{ℕ, zero, suc, ◌+◌, ◌-◌, ◌≤◌, ◌<◌, min}
+use Prim.Native.Nat.{ℕ, zero, suc, ◌-◌, ◌≤◌, ◌<◌, min}
 use native.Mathlib.Omega.{arith}
 use lib.ListN.{length, take, set, length-set}
 use Rattle.lists.proofs.Laws.{append_nil}
 use Rattle.syntax.specs.Grammar.{Bytes}
 use Rattle.report.proofs.Printed.{take_min}
-use Rattle.console.specs.declared.Got.{Got}
 use Rattle.console.specs.Lines.{closer, Closes, Reads}
-use Rattle.console.specs.Output.{most_text, Writes, Lasts, Room, Tells}
+use Rattle.console.specs.Output.{Writes, Lasts, Room, Tells}
 
 -- ---- what stays, and what is written
 

@@ -6,7 +6,11 @@ ghost use Rattle.report.specs.Outcomes.{outcome_of, outcome_text};
 ghost use Rattle.console.specs.Lines.{Ends, Keeps, Closes, Reads};
 ghost use Rattle.console.specs.Output.{Lasts, Room, Tells, Adds};
 
-use libc::{STDERR_FILENO, STDIN_FILENO, STDOUT_FILENO};
+use std::alloc::Alloc;
+use std::io;
+use std::io::Read;
+use std::process::ExitCode;
+use std::rt::Env;
 
 // Bytes that any text of a line fits in: 28 a cell, and more than a line has.
 const MOST: usize = 131072;
@@ -72,17 +76,38 @@ pub fn keep(line: &mut [u8], kept: usize, part: &[u8]) -> usize
 
 // ---- output
 
-// Writes a part of the output. Returns whether it could not be written, which is said.
-fn write_out(part: &[u8]) -> bool {
-    if io::write_all(STDOUT_FILENO, part) {
-        return false;
+// A reason without the number that stands behind one of the system's.
+fn reason_of(words: &str) -> &str {
+    match words.split_once(" (os error ") {
+        Some((reason, _)) => reason,
+        None => words,
     }
-    os::fail(b"maltziru: standard output");
-    true
+}
+
+// Says on standard error what failed, and why.
+fn say_failed(rt: &(impl Eprint + Alloc), what: &str, error: io::Error) {
+    let _ = match format!(in rt.alloc(); "{error}") {
+        Ok(words) => {
+            let reason = reason_of(words.as_str());
+            eprintln!(rt; "maltziru: {what}: {reason}")
+        }
+        Err(_) => eprintln!(rt; "maltziru: {what}: {error}"),
+    };
+}
+
+// Writes a part of the output. Returns whether it could not be written, which is said.
+fn write_out(rt: &(impl Print + Eprint + Alloc), part: &[u8]) -> bool {
+    match rt.write_all(part) {
+        Ok(()) => false,
+        Err(error) => {
+            say_failed(rt, "standard output", error);
+            true
+        }
+    }
 }
 
 // Writes what is kept of the output; once some is lost, no more is tried.
-pub fn flush(out: &[u8], o: Output) -> Output
+pub fn flush(rt: &(impl Print + Eprint + Alloc), out: &[u8], o: Output) -> Output
     ensures { (result.used ≡ 0) × Lasts o.lost result.lost }
 {
     let n = report::least(o.used, out.len());
@@ -94,17 +119,17 @@ pub fn flush(out: &[u8], o: Output) -> Output
     }
     Output {
         used: 0,
-        lost: write_out(&out[0..n]),
+        lost: write_out(rt, &out[0..n]),
     }
 }
 
 // Writes what is kept of the output where less room is left than any text takes.
-fn made_room(out: &[u8], o: Output) -> Output
+fn made_room(rt: &(impl Print + Eprint + Alloc), out: &[u8], o: Output) -> Output
     ensures { Room out.now o.used result.used × Lasts o.lost result.lost }
 {
     let n = report::least(o.used, out.len());
     if out.len() - n < MOST {
-        return flush(out, o);
+        return flush(rt, out, o);
     }
     Output {
         used: n,
@@ -113,10 +138,18 @@ fn made_room(out: &[u8], o: Output) -> Output
 }
 
 // The text of an outcome after what is kept of the output.
-pub fn add(out: &mut [u8], o: Output, kind: u32, number: u32, cells: &[i64], bytes: &[u8]) -> Output
+pub fn add(
+    rt: &(impl Print + Eprint + Alloc),
+    out: &mut [u8],
+    o: Output,
+    kind: u32,
+    number: u32,
+    cells: &[i64],
+    bytes: &[u8],
+) -> Output
     ensures { Adds (outcome_text (outcome_of kind number cells.now bytes.now)) (28 * length cells.now + length bytes.now + 20) false out.old o.used out.new result.used × Lasts o.lost result.lost }
 {
-    let room = made_room(out, o);
+    let room = made_room(rt, out, o);
     let at = room.used;
     let n = report::write_outcome(&mut out[at..], kind, number, cells, bytes);
     Output {
@@ -127,85 +160,60 @@ pub fn add(out: &mut [u8], o: Output, kind: u32, number: u32, cells: &[i64], byt
 
 // ---- refusals
 
-fn say_first(number: u32) {
-    if number == 1 {
-        io::write_all(STDERR_FILENO, b"not a line of a known form");
-    }
-    if number == 2 {
-        io::write_all(STDERR_FILENO, b"a stream or column that is not declared");
-    }
-    if number == 3 {
-        io::write_all(
-            STDERR_FILENO,
-            b"too long, too many, too deep, or a number out of its range",
-        );
-    }
-    if number == 4 {
-        io::write_all(
-            STDERR_FILENO,
-            b"a part, a column or a number of values that does not fit its place",
-        );
-    }
-    if number == 5 {
-        io::write_all(
-            STDERR_FILENO,
-            b"a window's size or offset is below 1, or its size above 64 offsets",
-        );
-    }
-    if number == 6 {
-        io::write_all(STDERR_FILENO, b"a name is there twice");
-    }
+// A refusal in words: a line's form, names and numbers.
+fn say_first(rt: &impl Eprint, number: u32) {
+    let words = match number {
+        1 => "not a line of a known form",
+        2 => "a stream or column that is not declared",
+        3 => "too long, too many, too deep, or a number out of its range",
+        4 => "a part, a column or a number of values that does not fit its place",
+        5 => "a window's size or offset is below 1, or its size above 64 offsets",
+        6 => "a name is there twice",
+        _ => "",
+    };
+    let _ = rt.eprint(words);
 }
 
-fn say_last(number: u32) {
-    if number == 7 {
-        io::write_all(STDERR_FILENO, b"the time is before the clock");
-    }
-    if number == 8 {
-        io::write_all(STDERR_FILENO, b"the stream has all its rows");
-    }
-    if number == 9 {
-        io::write_all(
-            STDERR_FILENO,
-            b"no grant opens this for the caller, or no route has that number",
-        );
-    }
-    if number == 10 {
-        io::write_all(STDERR_FILENO, b"too many routes");
-    }
-    if number == 11 {
-        io::write_all(
-            STDERR_FILENO,
-            b"the answer or line is longer than the room for it",
-        );
-    }
-    if number == 12 {
-        io::write_all(STDERR_FILENO, b"what was lent is not what calls made");
-    }
+// And: what is there, and what there is room for.
+fn say_last(rt: &impl Eprint, number: u32) {
+    let words = match number {
+        7 => "the time is before the clock",
+        8 => "the stream has all its rows",
+        9 => "no grant opens this for the caller, or no route has that number",
+        10 => "too many routes",
+        11 => "the answer or line is longer than the room for it",
+        12 => "what was lent is not what calls made",
+        _ => "",
+    };
+    let _ = rt.eprint(words);
 }
 
 // `line N: refused R: WORDS`
-fn explain(line: u64, number: u32) {
-    io::write_all(STDERR_FILENO, b"line ");
-    io::print_decimal(STDERR_FILENO, line);
-    io::write_all(STDERR_FILENO, b": refused ");
-    io::print_decimal(STDERR_FILENO, number as u64);
-    io::write_all(STDERR_FILENO, b": ");
-    say_first(number);
-    say_last(number);
-    io::write_all(STDERR_FILENO, b"\n");
+fn explain(rt: &impl Eprint, line: u64, number: u32) {
+    let _ = eprint!(rt; "line {line}: refused {number}: ");
+    say_first(rt, number);
+    say_last(rt, number);
+    let _ = eprintln!(rt);
 }
 
 // Explains a refusal where that is asked for, once the output up to it is written.
-pub fn tell(out: &[u8], o: Output, explains: bool, line: u64, kind: u32, number: u32) -> Output
+pub fn tell(
+    rt: &(impl Print + Eprint + Alloc),
+    out: &[u8],
+    o: Output,
+    explains: bool,
+    line: u64,
+    kind: u32,
+    number: u32,
+) -> Output
     ensures { Tells out.now o.used explains result.used × Lasts o.lost result.lost }
 {
     if !explains {
         return o;
     }
     if kind == report::REFUSAL {
-        let r = flush(out, o);
-        explain(line, number);
+        let r = flush(rt, out, o);
+        explain(rt, line, number);
         return r;
     }
     o
@@ -224,30 +232,28 @@ pub fn refused_by(refused: bool, kind: u32) -> bool
 // ---- input
 
 // Reads what is there of the input, and waits where nothing is. At its end, a line feed ends a line that has none.
-pub fn read_some(block: &mut [u8], kept: usize) -> Got
+pub fn read_some(rt: &(impl Input + Eprint + Alloc), block: &mut [u8], kept: usize) -> Got
     ensures { Reads kept block.new result }
 {
-    let got = libc::read(STDIN_FILENO, block);
-    let n = io::count(got, block);
-    if 0 < n {
-        return Got {
-            count: n,
+    match rt.reader().read(block) {
+        Ok(0) => Got {
+            count: end_line(block, kept),
+            ended: true,
+            failed: false,
+        },
+        Ok(count) => Got {
+            count,
             ended: false,
             failed: false,
-        };
-    }
-    if got < 0 {
-        os::fail(b"maltziru: standard input");
-        return Got {
-            count: 0,
-            ended: true,
-            failed: true,
-        };
-    }
-    Got {
-        count: end_line(block, kept),
-        ended: true,
-        failed: false,
+        },
+        Err(error) => {
+            say_failed(rt, "standard input", error);
+            Got {
+                count: 0,
+                ended: true,
+                failed: true,
+            }
+        }
     }
 }
 
@@ -291,36 +297,36 @@ pub fn rounds_left(rounds: u64, ended: bool) -> u64
 // ---- arguments and status
 
 // Whether one of the program's arguments is a word.
-fn is_argument(i: usize, word: &[u8]) -> bool {
+fn is_argument(rt: &impl Env, i: usize, word: &[u8]) -> bool {
     let mut got = [0u8; 16];
-    let n = os::arg(i, &mut got);
-    check::same(&got[..n], word)
+    match rt.arg(i, &mut got) {
+        Ok(n) => &got[..n] == word,
+        Err(_) => false,
+    }
 }
 
 // Whether one of its first two arguments is.
-pub fn is_given(word: &[u8]) -> bool {
-    if is_argument(1, word) {
-        return true;
-    }
-    is_argument(2, word)
+pub fn is_given(rt: &impl Env, word: &[u8]) -> bool {
+    is_argument(rt, 1, word) || is_argument(rt, 2, word)
 }
 
-// With the argument `--status`, how the run ended, as a digit on descriptor 3, since a program has no exit status of its own: 0, 1 where a line was refused, 3 where output could not be written or input not read.
-pub fn say_status(failed: bool, lost: bool, refused: bool) {
-    if !is_given(b"--status") {
-        return;
+// How a run ended, as a number: 0, 1 where a line was refused, 3 where output could not be written or input not read.
+pub fn status(failed: bool, lost: bool, refused: bool) -> u8
+    ensures { result ≡ cond failed 3 (cond lost 3 (cond refused 1 0)) }
+{
+    if failed || lost {
+        3
+    } else if refused {
+        1
+    } else {
+        0
     }
-    if failed {
-        io::write_all(3, b"3");
-        return;
+}
+
+// With the argument `--status`, the exit status that says how the run ended; without it, 0.
+pub fn say_status(rt: &impl Env, failed: bool, lost: bool, refused: bool) -> ExitCode {
+    if !is_given(rt, b"--status") {
+        return ExitCode::SUCCESS;
     }
-    if lost {
-        io::write_all(3, b"3");
-        return;
-    }
-    if refused {
-        io::write_all(3, b"1");
-        return;
-    }
-    io::write_all(3, b"0");
+    ExitCode::from(status(failed, lost, refused))
 }

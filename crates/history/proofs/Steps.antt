@@ -2,7 +2,7 @@
 use mathlib.Core.Path.{◌≡◌, refl, sym, ap, ◌∙◌, subst}
 use mathlib.Core.List.{List, [], ◌∷◌}
 use mathlib.Core.Bool.{Bool, not}
-use mathlib.Core.Option.{some}
+use mathlib.Core.Option.{Option, some}
 use Prim.Native.Nat.{ℕ, suc}
 use lib.IntN.{ℤ}
 use lib.Dec.{T, ltb, leb→le, nltb→le}
@@ -135,17 +135,19 @@ after_clear_line s bs r ok e = ledger_made (clear_line bs) s _ r ok e (λ p. (un
 
 -- ---- rows
 
+memory_kept : (v : Verdict) (s new : State) → (v ≡ Accepted → ⊥) → memory_after v s new ≡ s
+unfolding memory_after
+memory_kept Accepted s new n = absurd (n refl)
+memory_kept (Refused f) s new n = refl
+
+memory_gone : (v : Verdict) (s new : State) → v ≡ Accepted → memory_after v s new ≡ new
+unfolding memory_after
+memory_gone v s new e = rw e
+
 memory_made : (c : Call) (s t new : State) (v : Verdict) → Sound s → v ≡ verdict_of (first (refuse Lent (not (memory_sound s)) ∷ call_checks (record_of s) c))
     → t ≡ memory_after v s new → (T (passes (call_checks (record_of s) c)) → (record_of new ≡ effect (record_of s) c) × Held new) → Step c s t v
 memory_made c s t new v ok said left done =
-    made c s t v (memory_sound s) ok ok.lent said (λ n. left ∙ kept v n) (λ a p. subst (λ t. (record_of t ≡ effect (record_of s) c) × Held t) (sym (left ∙ gone v a)) (done p))
-  where
-    kept : (v : Verdict) → (v ≡ Accepted → ⊥) → memory_after v s new ≡ s
-    kept Accepted n = absurd (n refl)
-    kept (Refused f) n = unfold memory_after in refl
-
-    gone : (v : Verdict) → v ≡ Accepted → memory_after v s new ≡ new
-    gone v e = unfold memory_after in rw e
+    made c s t v (memory_sound s) ok ok.lent said (λ n. left ∙ memory_kept v s new n) (λ a p. subst (λ t. (record_of t ≡ effect (record_of s) c) × Held t) (sym (left ∙ memory_gone v s new a)) (done p))
 
 row_made : (s : State) (n : ℕ) (vs : List ℤ) → Sound s → T (passes (row_checks (record_of s) n vs)) → (record_of (with_row s n vs) ≡ C.with_row (record_of s) n vs) × Held (with_row s n vs)
 unfolding with_row with_rows
@@ -165,22 +167,24 @@ after_row_line s t bs v ok d =
 
 -- ---- streams
 
+names_kept : (v : Verdict) (ns : List ℕ) (b : Option G.Stream) → (v ≡ Accepted → ⊥) → names_after v ns b ≡ ns
+unfolding names_after
+names_kept Accepted ns b n = absurd (n refl)
+names_kept (Refused f) ns b n = refl
+
+names_gone : (v : Verdict) (ns : List ℕ) (b : Option G.Stream) → v ≡ Accepted → names_after v ns b ≡ D.with_stream ns b
+unfolding names_after
+names_gone v ns b e = rw e
+
 after_stream : (s : State) (bs : Bytes) (ns : List ℕ) (v : Verdict) → Sound s → Declares s.names bs ns v → Step (stream bs) s (with_names s ns) v
 unfolding declare_table call_checks record_of
 after_stream s bs ns v ok d =
     made (stream bs) s (with_names s ns) v (schema_sound s.names) ok (sound_parts s ok.lent).names d.said
-    (λ n. ap (with_names s) (d.left ∙ kept v n))
+    (λ n. ap (with_names s) (d.left ∙ names_kept v s.names (parse_as G.stream bs) n))
     (λ a p. written_passes 0 bs (parse_as G.stream bs) _ p (λ t e q.
-    let g : with_names s (D.with_stream s.names (some t)) ≡ with_names s ns = ap (with_names s) (sym (d.left ∙ gone v a ∙ ap (D.with_stream s.names) e)) in
+    let g : with_names s (D.with_stream s.names (some t)) ≡ with_names s ns = ap (with_names s) (sym (d.left ∙ names_gone v s.names (parse_as G.stream bs) a ∙ ap (D.with_stream s.names) e)) in
     let b = (parsed_printed G.stream bs t e).0 in
     subst (λ u. (record_of u ≡ effect (record_of s) (stream bs)) × Held u) g (unfold effect in rw e (stream_effect s ok t b q), stream_held s ok t b q)))
-  where
-    kept : (v : Verdict) → (v ≡ Accepted → ⊥) → names_after v s.names (parse_as G.stream bs) ≡ s.names
-    kept Accepted n = absurd (n refl)
-    kept (Refused f) n = unfold names_after in refl
-
-    gone : (v : Verdict) → v ≡ Accepted → names_after v s.names (parse_as G.stream bs) ≡ D.with_stream s.names (parse_as G.stream bs)
-    gone v e = unfold names_after in rw e
 
 -- ---- any call
 

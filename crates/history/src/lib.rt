@@ -1,3 +1,2 @@
 // What lists of calls leave: definitions and theorems only.
 #![tactic(auto)]
-

@@ -5,6 +5,7 @@ ghost use Rattle.std.specs.Prelude.{◌≤◌, length, take};
 ghost use Rattle.lines.specs.Runs.{point, Says, Done, Part, Block};
 
 use console::Output;
+use std::alloc::Alloc;
 // Named since a State holds one: the checker knows the types of the crates that are named here alone.
 use caller::Caller;
 use grant::Grant;
@@ -36,6 +37,7 @@ pub struct Said {
 
 // After a line: the text of its outcome behind the output, the reason where refusals are explained, and what is counted.
 fn say(
+    rt: &(impl Print + Eprint + Alloc),
     before: Said,
     explains: bool,
     kind: u32,
@@ -47,8 +49,8 @@ fn say(
     ensures { Says explains (record { kind = kind; number = number }) cells.now bytes.now before result out.old out.new }
 {
     let lines = std::num::wrapping_add_u64(before.lines, 1);
-    let added = console::add(out, before.output, kind, number, cells, bytes);
-    let told = console::tell(out, added, explains, lines, kind, number);
+    let added = console::add(rt, out, before.output, kind, number, cells, bytes);
+    let told = console::tell(rt, out, added, explains, lines, kind, number);
     Said {
         lines: lines,
         output: told,
@@ -58,6 +60,7 @@ fn say(
 
 // Does the line that is kept.
 fn do_line(
+    rt: &(impl Print + Eprint + Alloc),
     run: Run,
     names: &mut [u64],
     times: &mut [u32],
@@ -87,7 +90,16 @@ fn do_line(
         output: output,
         refused: run.refused,
     };
-    let said = say(before, run.explains, r.kind, r.number, cells, bytes, out);
+    let said = say(
+        rt,
+        before,
+        run.explains,
+        r.kind,
+        r.number,
+        cells,
+        bytes,
+        out,
+    );
     let state = r.state;
     let told = said.output;
     Run {
@@ -105,6 +117,7 @@ fn do_line(
 
 // From where the block is done, keeps what comes before the next line feed, and does the line where there is one.
 fn do_part(
+    rt: &(impl Print + Eprint + Alloc),
     run: Run,
     block: &[u8],
     names: &mut [u64],
@@ -127,11 +140,12 @@ fn do_part(
     if block.len() <= e {
         return r;
     }
-    do_line(r, names, times, values, words, line, cells, bytes, out)
+    do_line(rt, r, names, times, values, words, line, cells, bytes, out)
 }
 
 // Does the lines that end in a block, and keeps what comes after the last of them.
 pub fn do_block(
+    rt: &(impl Print + Eprint + Alloc),
     run: Run,
     block: &[u8],
     names: &mut [u64],
@@ -149,7 +163,7 @@ pub fn do_block(
     r.at = 0;
     while r.at < block.len() {
         r = do_part(
-            r, block, names, times, values, words, line, cells, bytes, out,
+            rt, r, block, names, times, values, words, line, cells, bytes, out,
         );
     }
     r

@@ -24,6 +24,7 @@ use Rattle.model.proofs.Ways.{header_picks}
 use Rattle.model.proofs.Rewriting.{and_true, is_eq→eq, is_col_term, stream, side_sources, some_holds}
 use Rattle.model.proofs.Widths.{meaning_wide}
 use Rattle.model.proofs.Cuts.{holds_kept, kept_kept, kept_both, holds_left, holds_right}
+use Rattle.model.proofs.Picked.{rowwise_picks}
 use Rattle.model.proofs.OneRow.{not_empty_one, cut_pick, cut_keep, cut_join, linked_named, Fills, table, table_cols, plain_cols, view_one, whole_one, whole_two, heads, stream_cols, meets, cut_to, side_row, every_by, by_every, all_by, one_shows, one_left, all_of_stream, open_when, open_limits, open_shows, header_in, select_same, has_select_same, select_one, nothing_else, nothing, map_one, pairs_one, picked_limited}
 
 -- ---- lists of grants
@@ -350,11 +351,6 @@ module _ (x : Record) (who : Caller) where
 
   -- ---- a join under a grant on the pair
 
-  rowwise_picks : {ss : List ℕ} (ps : List (Cond Compare)) (r : Query Source) → Rowwise ss (table x who r) → Rowwise ss (table x who (picked_by ps r))
-  unfolding picked_by meaning picked
-  rowwise_picks [] r h = h
-  rowwise_picks {ss} (p ∷ ps) r h = rowwise_select ss (λ cs t. holds cs t p) (rowwise_picks ps r h)
-
   module _ (a b : Col) (q r : Query ℕ) (n : Numbered) (w : T (allowed (columns_of x.schema) (join a b q r))) (u : T (distinct eqb (sources q ++ sources r)))
       (cov : T (covers (join a b q r) n.grant)) (untimed : T (not (some? timed (picks q ++ picks r)))) (shown : T (within (gather cond_cols (picks q ++ picks r)) (shown_of x.schema n.grant))) where
     abbrev g : Grant
@@ -514,7 +510,7 @@ module _ (x : Record) (who : Caller) where
       alone = λ t. absurd t;
       inside = all_cons {x = g} (subst (λ ss. T (within (shown_of x.schema g) (gather (columns_of x.schema) ss))) (of_pair ∙ sym streams) (unfold shown_of in within_select _ (gather (columns_of x.schema) g.of))) all_nil;
       columns_left = unfold over_view keeping columns header in kept_columns;
-      rowwise = rw streams (unfold over_view keeping meaning in rowwise_kept (stream q ∷ stream r ∷ []) keeps_of (rowwise_picks (picks r) (picked_by (picks q) (seen (join a b q r) n)) (rowwise_picks (picks q) (seen (join a b q r) n) (unfold seen meaning in rowwise_view x who g (stream q) (stream r ∷ []) of_pair two_streams))));
+      rowwise = rw streams (unfold over_view keeping meaning in rowwise_kept (stream q ∷ stream r ∷ []) keeps_of (rowwise_picks x who (picks r) (picked_by (picks q) (seen (join a b q r) n)) (rowwise_picks x who (picks q) (seen (join a b q r) n) (unfold seen meaning in rowwise_view x who g (stream q) (stream r ∷ []) of_pair two_streams))));
       one_row = λ xs h. lone xs h (λ l m i j e f. one_pair l m i j xs e f);
       open_row = λ o xs h. lone xs h (λ l m i j e f. open_pair l m i j xs e f (unfold every in and_l (open_to x.schema (join a b q r) g) true o));
       open_left = λ o. unfold header in every_by (shown_by x.schema (g ∷ [])) heads_both (λ c t. rw (one_shows x.schema g (sources q ++ sources r) c (in_both c t))

@@ -14,6 +14,7 @@ pub mod Keeps
 pub mod Widths
 pub mod Rowwise
 pub mod OneRow
+pub mod Picked
 pub mod Tables
 pub mod Forms
 pub mod Flat

@@ -9,7 +9,7 @@ use native.Mathlib.Omega.{arith}
 use lib.Dec.{ltb}
 use borrow.Author.Tests.{ne_eqb, lt-ltb, le-ltb}
 use Rattle.lists.specs.Lists.{empty?}
-use Rattle.syntax.specs.Grammar.{Bytes, bytes, Entry, Cond, test, all, any, neg, Conds, last, more, put_name, put_open, put_items, put_cond, put_conds}
+use Rattle.syntax.specs.Grammar.{Bytes, Entry, Cond, test, all, any, neg, Conds, last, more, put_name, put_open, put_items, put_cond, put_conds}
 use Rattle.model.specs.Queries.{Schema, Compare}
 use Rattle.model.specs.Conditions.{map_cond, map_conds, conds_of}
 use Rattle.model.specs.Grants.{fill_compare, fill}

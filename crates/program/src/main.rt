@@ -1,5 +1,5 @@
 // Reads a script from standard input, does its lines one after another, and writes what they print to standard output.
-// With the argument `--explain` it also says on standard error which line is refused, and why; with `--status`, on descriptor 3 how it ended.
+// With the argument `--explain` it also says on standard error which line is refused, and why; with `--status`, its exit status says how it ended.
 #![tactic(auto)]
 
 ghost use Rattle.lines.specs.Runs.{point};
@@ -12,6 +12,8 @@ use ledger::Ledger;
 use lines::Run;
 use schema::Stream;
 use script::State;
+use std::alloc::Alloc;
+use std::process::ExitCode;
 use text::Line;
 
 // How much is kept of a line: one byte more than a line may have, so that any longer one is refused for its length.
@@ -22,11 +24,15 @@ const CELLS: usize = 4096;
 
 const BYTES: usize = 4096;
 
+// Bytes that are read at once, at most.
+const BLOCK: usize = 65536;
+
 // Bytes of output that are kept until they are written: twice what any text fits in.
 const OUT: usize = 262144;
 
 // Reads a part of the input, does the lines that end in it, and writes what they print before more is waited for.
 fn do_some(
+    rt: &(impl Input + Print + Eprint + Alloc),
     run: Run,
     block: &mut [u8],
     names: &mut [u64],
@@ -40,9 +46,10 @@ fn do_some(
 ) -> Run
     ensures { Round block.new run result (point run.state names.old times.old values.old words.old cells.old bytes.old) (point result.state names.new times.new values.new words.new cells.new bytes.new) line.old line.new out.old out.new }
 {
-    let got = console::read_some(block, run.kept);
+    let got = console::read_some(rt, block, run.kept);
     let n = got.count;
     let mut r = lines::do_block(
+        rt,
         run,
         &block[0..n],
         names,
@@ -54,7 +61,7 @@ fn do_some(
         bytes,
         out,
     );
-    r.output = console::flush(out, r.output);
+    r.output = console::flush(rt, out, r.output);
     r.failed = got.failed;
     r.ended = console::is_over(got.ended, r.output.lost);
     r
@@ -62,6 +69,7 @@ fn do_some(
 
 // Does the lines of standard input to its end. A proved loop has to end, and nothing says that the input does: the loop counts its rounds down, from a number that no run uses up.
 fn do_all(
+    rt: &(impl Input + Print + Eprint + Alloc),
     run: Run,
     block: &mut [u8],
     names: &mut [u64],
@@ -80,15 +88,15 @@ fn do_all(
     let mut rounds = u64::MAX;
     while 0 < rounds {
         r = do_some(
-            r, block, names, times, values, words, line, cells, bytes, out,
+            rt, r, block, names, times, values, words, line, cells, bytes, out,
         );
         rounds = console::rounds_left(rounds, r.ended);
     }
     r
 }
 
-fn main() {
-    let mut block = io::large_buffer();
+fn main(rt: HostRuntime) -> ExitCode {
+    let mut block = [0u8; BLOCK];
     let mut names = [0u64; Stream::MOST + Stream::MOST * Stream::COLUMNS];
     let mut times = [0u32; Ledger::PLACES];
     let mut values = [0i32; Ledger::VALUES];
@@ -106,12 +114,13 @@ fn main() {
             used: 0,
             lost: false,
         },
-        explains: console::is_given(b"--explain"),
+        explains: console::is_given(&rt, b"--explain"),
         refused: false,
         failed: false,
         ended: false,
     };
     let r = do_all(
+        &rt,
         start,
         &mut block,
         &mut names,
@@ -123,5 +132,5 @@ fn main() {
         &mut bytes,
         &mut out,
     );
-    console::say_status(r.failed, r.output.lost, r.refused);
+    console::say_status(&rt, r.failed, r.output.lost, r.refused)
 }

@@ -1,6 +1,5 @@
 -- `entry_value`: none of the entries passed has the name.
 use borrow.Author.Rules.{rules}
-use Prim.Native.Nat.{◌-◌}
 use Rattle.print.proofs.Sides.{entry_ends}
 use Rattle.print.proofs.entry_value.Goals as goal
 

@@ -1,6 +1,5 @@
 -- `group_name`: the numbers passed are not 0.
 use borrow.Author.Rules.{rules}
-use Prim.Native.Nat.{◌-◌}
 use Rattle.print.proofs.Names.{group_ends}
 use Rattle.print.proofs.group_name.Goals as goal
 

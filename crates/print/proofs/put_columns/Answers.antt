@@ -1,6 +1,5 @@
 -- `put_columns`: after i columns the rest of the order is still to be written.
 use borrow.Author.Rules.{rules}
-use Prim.Native.Nat.{◌-◌}
 use Rattle.print.proofs.Names.{rest_ends}
 use Rattle.print.proofs.put_columns.Goals as goal
 

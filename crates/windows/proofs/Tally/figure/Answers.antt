@@ -24,7 +24,7 @@ pub returns-then-f-eq4 : goal.returns-then-f-eq4
 returns-then-f-eq4 c =
     let a = c.args in
     let f : SFits w64 a.self.part = search rules in
-    to_z-of_z w64 _ (div-result c).1 ∙ machine_quot w64 a.self.part a.self.count f (omega arith) ∙ averaging a.f a.self c.if-f-eq4.true
+    to_z-of_z w64 _ (subst (SFits w64) (sym (machine_quot w64 a.self.part a.self.count f (omega arith))) (quot_fits w64 a.self.part a.self.count f (omega arith))) ∙ machine_quot w64 a.self.part a.self.count f (omega arith) ∙ averaging a.f a.self c.if-f-eq4.true
 
 pub returns : goal.returns
 returns c =

@@ -1,0 +1,21 @@
+use borrow.Author.Rules.{rules}
+use Rattle.report.proofs.Dues.{front_ends}
+use Rattle.report.proofs.front_of.Goals as goal
+
+pub returns-in-Routes : goal.returns-in-Routes
+returns-in-Routes c = search (front_ends, rules)
+
+pub returns-in-Grant : goal.returns-in-Grant
+returns-in-Grant c = search (front_ends, rules)
+
+pub returns-in-Partner : goal.returns-in-Partner
+returns-in-Partner c = search (front_ends, rules)
+
+pub returns-in-Width : goal.returns-in-Width
+returns-in-Width c = search (front_ends, rules)
+
+pub returns-in-Rows : goal.returns-in-Rows
+returns-in-Rows c = search (front_ends, rules)
+
+pub returns-in-Cell : goal.returns-in-Cell
+returns-in-Cell c = search (front_ends, rules)
