@@ -11,4 +11,3 @@ pub mod Replied
 pub mod Called
 pub mod Lines
 pub mod Printed
-pub mod Reading

@@ -97,7 +97,7 @@ module _ (m : Memory) (safe : T (memory_sound m)) (ws own roles profile : List �
 
         go : Dec (n.aggregate ≡ 0) → n.aggregate ≡ 0
         go (yes b) = b
-        go (no b) = let l = asked_offset ns q c.ranges b in let v = none in absurd (omega arith)
+        go (no b) = let l = asked_offset ns q c.fits b in let v = none in absurd (omega arith)
 
     asks : ((plan_in ns forms).number ≡ 0 → ⊥) → (n.aggregate ≡ 0 → ⊥) × ((plan_in ns forms).offset ≡ n.offset)
     asks a =
@@ -120,4 +120,4 @@ module _ (m : Memory) (safe : T (memory_sound m)) (ws own roles profile : List �
 
   -- the windows of a query with an aggregate begin some time apart
   pub spans_some : (n.aggregate ≡ 0 → ⊥) → 1 ≤ n.offset
-  spans_some a = rw (needs_offset ns q) (asked_offset ns q c.ranges a)
+  spans_some a = rw (needs_offset ns q) (asked_offset ns q c.fits a)

@@ -222,7 +222,7 @@ module _ (x : Record) (ns ws own roles profile : List ℕ) (fs : List Form) (c :
           means = made_planned ns w who same fs c.one c.few placing c.numbers x c.schema lent room (way_forms ns (way_of o n y) fs) (query_of y) m a ∙ k.1.1.1;
         })
         (all_both
-        (all_both (routes_known ns ws roles profile gs q placing c.declared sound few z e) (each_route (λ r v. Asked x v) (route_asked x who cat (rw c.schema grants_placed) q c.asked c.ranges)))
+        (all_both (routes_known ns ws roles profile gs q placing c.declared sound few z e) (each_route (λ r v. Asked x v) (route_asked x who cat (rw c.schema grants_placed) q c.asked c.fits)))
         (all_both
-        (all_both (each_route (λ r v. sources v ≡ sources q) (sources_rewritten x.schema who cat q)) (each_route (λ r v. T (sized v)) (sized_rewritten x.schema who cat q c.ranges)))
-        (all_both (each_route (λ r v. query_offset v ≡ query_offset q) (offset_rewritten x.schema who cat q)) (each_route (λ r v. plain x v ≡ route_table x who r) (rewriting x who cat q (rw c.schema may) c.ranges)))))
+        (all_both (each_route (λ r v. sources v ≡ sources q) (sources_rewritten x.schema who cat q)) (each_route (λ r v. T (sized v)) (sized_rewritten x.schema who cat q c.fits)))
+        (all_both (each_route (λ r v. query_offset v ≡ query_offset q) (offset_rewritten x.schema who cat q)) (each_route (λ r v. plain x v ≡ route_table x who r) (rewriting x who cat q (rw c.schema may) c.fits)))))
