@@ -33,13 +33,13 @@ COPY = tempfile.mkdtemp()
 PROOFS = os.path.join(COPY, 'crates', 'samples', 'proofs')
 
 HEADER = '''-- What the reference gives for random scripts, from the definitions.
-use mathlib.Core.Path.{_≡_, refl}
-use mathlib.Core.List.{List, [], _∷_, _++_, map}
+use mathlib.Core.Path.{◌≡◌, refl}
+use mathlib.Core.List.{List, [], ◌∷◌, ◌++◌, map}
 use Prim.Native.Nat.{ℕ, zero, suc}
 use lib.IntN.{ℤ, pos, negsuc}
 use lib.ListN.{replicate}
-use Rattle·syntax.specs.Grammar.{Bytes, bytes}
-use Rattle·calls.specs.Scripts.{Outcome, quiet, refusal, cells, text, script, scripts-compute}
+use Rattle.syntax.specs.Grammar.{Bytes, bytes}
+use Rattle.calls.specs.Scripts.{Outcome, quiet, refusal, cells, text, script, scripts_compute}
 '''
 
 
@@ -76,7 +76,7 @@ def theorem(name, lines, outcomes, cells, room):
 {0} : script (replicate {1} (pos 0)) (replicate {2} 0)
     ({3}) ≡
     ({4})
-unfolding scripts-compute
+unfolding scripts_compute
 {0} = refl
 '''.format(name, cells, room, '\n    ∷ '.join([bytes_term(line) for line in lines] + ['[]']),
            '\n    ∷ '.join([outcome_term(outcome) for outcome in outcomes] + ['[]']))
@@ -203,7 +203,7 @@ def write_held(theorems):
 
 
 def check():
-    done = subprocess.run(['rt', 'dev', 'samples'], cwd=COPY, capture_output=True, text=True)
+    done = subprocess.run(['rt', 'check'], cwd=os.path.join(COPY, 'crates', 'samples'), capture_output=True, text=True)
     return done.returncode, done.stdout + done.stderr
 
 
@@ -213,7 +213,7 @@ def first_difference(seed):
     equal, differ = 0, len(lines)
     while differ - equal > 1:
         middle = (equal + differ) // 2
-        write_held([theorem('held-%d' % seed, lines[:middle], outcomes[:middle], cells, room)])
+        write_held([theorem('held_%d' % seed, lines[:middle], outcomes[:middle], cells, room)])
         if check()[0] == 0:
             equal = middle
         else:
@@ -222,13 +222,13 @@ def first_difference(seed):
 
 
 def compare(seeds, counts):
-    theorems = [theorem('held-%d' % seed, *outcomes_of(seed, counts)) for seed in seeds]
+    theorems = [theorem('held_%d' % seed, *outcomes_of(seed, counts)) for seed in seeds]
     write_held(theorems)
     code, output = check()
     print('seeds %d to %d: %s' % (seeds[0], seeds[-1], 'all hold' if code == 0 else 'not proved'))
     if code != 0:
         print('\n'.join(re.findall('.*(?:error|rattle): .{0,300}', output)))
-        for seed in sorted(set(re.findall(r'`held-(\d+)`', output)))[:2]:
+        for seed in sorted(set(re.findall(r'`held_(\d+)`', output)))[:2]:
             print('seed %s: line %d, %s, reference %s' % ((seed,) + first_difference(int(seed))))
     sys.stdout.flush()
     return code == 0
@@ -249,7 +249,7 @@ def main():
     batch = int(sys.argv[3]) if len(sys.argv) > 3 else 25
     try:
         make_copy(COPY, {})
-        done = subprocess.run(['rt', 'check'], cwd=COPY, capture_output=True, text=True)
+        done = subprocess.run(['rt', 'all', 'check'], cwd=COPY, capture_output=True, text=True)
         if done.returncode != 0:
             sys.exit('the definitions are not accepted:\n' + done.stdout[-2000:])
         held, counts = compare_all(seeds, batch)

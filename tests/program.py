@@ -2,7 +2,7 @@
 
     python3 tests/program.py FIRST LAST
 
-For the seeds from FIRST up to, not including, LAST it runs target/bin/program and
+For the seeds from FIRST up to, not including, LAST it runs crates/program/out/program and
 tells which scripts it prints otherwise than the reference. It runs scripts of odd
 lines too, with --explain and without: long ones, empty ones, bytes that are no text, no
 line feed at the end, more input than a block, more output than is kept.
@@ -15,7 +15,7 @@ import sys
 import reference
 
 HERE = os.path.dirname(os.path.abspath(__file__))
-PROGRAM = os.path.join(os.path.dirname(HERE), 'target', 'bin', 'program')
+PROGRAM = os.path.join(os.path.dirname(HERE), 'crates', 'program', 'out', 'program')
 
 ODD = [
     b'', b'\n', b'\n\n', b'(clear)', b'(clear)\n', b'(clear)\n\n', b'(clear)\r\n', b'(clear)\0\n', b'\xff\n(clear)\n(clock 1',

@@ -13,6 +13,8 @@ TOP = 2 ** 64 - 1
 HIGH = 2 ** 32 - 1
 head = re.compile(r'define (internal )?(.*?)@("[^"]+"|[\w.]+)\((.*)\) (#\d+) \{')
 copy = re.compile(r'  call void @llvm\.memmove\.p0\.p0\.i64\(ptr (%\w+), ptr (%\w+), i64 (\d+), i1 false\)')
+# Each local of several bytes is first filled with zeros.
+fill = re.compile(r'  call void @llvm\.memset\.p0\.i64\(ptr (%\w+), i8 0, i64 (\d+), i1 false\)')
 call = re.compile(r'  (?:(%\w+) = )?call ([^@]*)@("[^"]+"|[\w.]+)\((.*)\)(.*)$')
 
 
@@ -61,6 +63,10 @@ def slices(lines):
                     said.append(((name, m.group(k)), 'room' if m.group(3) == '16' else 'other'))
                 parent[find((name, m.group(1)))] = find((name, m.group(2)))
                 continue
+            m = fill.match(line)
+            if m:
+                said.append(((name, m.group(1)), 'room' if m.group(2) == '16' else 'other'))
+                continue
             m = re.match(r'  %\w+ = load (\w+), ptr (%\w+)', line) or re.match(r'  store (\w+) \S+, ptr (%\w+)', line)
             if m:
                 said.append(((name, m.group(2)), 'pointer' if m.group(1) == 'ptr' else 'other'))
@@ -88,7 +94,7 @@ def slices(lines):
             if m and is_slice(name, m.group(1)):
                 out.append('  %s = alloca [8 x i8], align 4' % m.group(1))
                 continue
-            m = copy.match(line)
+            m = copy.match(line) or fill.match(line)
             if m and is_slice(name, m.group(1)):
                 out.append(line.replace('i64 16,', 'i64 8,'))
                 continue

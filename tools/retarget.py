@@ -4,7 +4,7 @@ The module hands structs and slices over by pointer to a local of the caller, sa
 - the target; code for size; a struct of two words, which the module returns as one number, in memory as C expects it there; the named functions are not inlined, those with a + are, for the sake of the stack;
 - of a pointer that a function only copies from: how much it points to, that it is read only and is no other argument's (which holds at each call, or it is not said); of the pointer to the result: that it is no other argument's;
 - its alignment, where every call gives it; where a function does not write its copy, it has none (a copy whose place is kept may be written by that place; it is not where the sources, below CRATES, have no `let mut` of a parameter);
-- where the life of a local begins and ends, so that locals share room;
+- where the life of a local begins and ends, so that locals share room; the zeros that a local is filled with are written there, and not where a copy overwrites all of them;
 - a copy between two locals, or a local and an argument, does not overlap.
 A measurement of the module and no supported target: outside every proof.
 """
@@ -13,7 +13,7 @@ import os
 import re
 import sys
 
-from narrow import copy, head
+from narrow import copy, fill, head
 
 lines = open(sys.argv[1]).read().split('\n')
 apart = {n for n in sys.argv[4:] if n[0] != '+'}
@@ -152,11 +152,12 @@ def elided(name, f, j):
     if (name, i) not in lone or (name, i) in results or own not in f['align'] or f['align'][own] > aligns.get((name, i), 1):
         return False
     parts = {v for v, (b, _) in f['base'].items() if b == own}
+    fills = [k for k in range(f['at'] + 1, j) if fill.match(lines[k]) and fill.match(lines[k]).group(1) == own and fill.match(lines[k]).group(2) == m.group(3)]
     for k in range(f['at'] + 1, f['end']):
         line = lines[k]
         if k <= j and k > f['at'] + 1 and re.match(r'\S.*:', line):
             return False
-        if k == j or not parts & set(re.findall(r'%\w+', line)):
+        if k == j or k in fills or not parts & set(re.findall(r'%\w+', line)):
             continue
         if re.match(r'  %\w+ = (alloca|getelementptr|load|icmp)', line):
             if k < j and 'alloca' not in line and 'getelementptr' not in line:
@@ -181,7 +182,7 @@ def elided(name, f, j):
         else:
             return False
     for k in range(f['at'] + 1, f['end']):
-        if k == j or re.match(r'  %s = alloca ' % re.escape(own), lines[k]):
+        if k == j or k in fills or re.match(r'  %s = alloca ' % re.escape(own), lines[k]):
             lines[k] = ''
         else:
             lines[k] = re.sub(r'%s\b' % re.escape(own), source, lines[k])
@@ -224,7 +225,7 @@ for name, f in functions.items():
 
 def spans(body):
     """Marks of life for the locals of a function that one block alone uses and whose place is not kept anywhere."""
-    whose, locals_, kept = {}, {}, set()
+    whose, locals_, kept, fills = {}, {}, set(), {}
     block = 0
     for i, line in enumerate(body):
         if re.match(r'\S.*:', line):
@@ -233,6 +234,10 @@ def spans(body):
         if m:
             whose[m.group(1)] = m.group(1)
             locals_[m.group(1)] = []
+            continue
+        m = fill.match(line)
+        if m and m.group(1) in locals_ and m.group(1) not in fills and not locals_[m.group(1)]:
+            fills[m.group(1)] = (block, i)
             continue
         names = set(re.findall(r'%\w+', line))
         m = re.match(r'  (%\w+) = getelementptr ', line)
@@ -249,18 +254,22 @@ def spans(body):
             kept.add(whose[m.group(1)])
         if re.match(r'  (%\w+ = )?(phi|select|ptrtoint|insertvalue|ret)|  ret', line):
             kept.update(whose[v] for v in names if v in whose)
-    before, after = {}, {}
+    before, after, gone = {}, {}, set()
     for v, uses in locals_.items():
         if not uses or v in kept or len({b for b, _ in uses}) != 1:
             continue
         last = uses[-1][1]
         if re.match(r'  (br|switch|ret)', body[last]):
             continue
-        before.setdefault(uses[0][1], []).append('  call void @llvm.lifetime.start.p0(ptr %s)' % v)
+        begins = before.setdefault(uses[0][1], [])
+        begins.append('  call void @llvm.lifetime.start.p0(ptr %s)' % v)
+        if v in fills:
+            begins.append(body[fills[v][1]])
+            gone.add(fills[v][1])
         after.setdefault(last, []).append('  call void @llvm.lifetime.end.p0(ptr %s)' % v)
     out = []
     for i, line in enumerate(body):
-        out += before.get(i, []) + [line] + after.get(i, [])
+        out += before.get(i, []) + [line] * (i not in gone) + after.get(i, [])
     return out
 
 

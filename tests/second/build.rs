@@ -8,7 +8,7 @@ fn main() {
         return;
     }
     let package = env::var("CARGO_MANIFEST_DIR").expect("cargo names the package's directory");
-    let library = Path::new(&package).join("../../target/staticlib/libmaltziru.a");
+    let library = Path::new(&package).join("../../crates/maltziru/out/libmaltziru.a");
     println!("cargo:rustc-link-arg-bin=calls={}", library.display());
     println!("cargo:rerun-if-changed={}", library.display());
 }
