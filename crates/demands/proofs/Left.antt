@@ -1,6 +1,6 @@
 -- What a list of calls on the record leaves stands for what the definitions make of the list, and may be lent.
-use mathlib.Core.Path.{◌≡◌, refl, sym, ap, ◌∙◌}
-use mathlib.Core.List.{List, [], ◌∷◌}
+use mathlib.Core.Path.{◌≡◌, refl, ap, ◌∙◌}
+use mathlib.Core.List.{List}
 use Rattle.calls.specs.Calls.{Call, replay, after}
 use Rattle.ledger.specs.Records.{Memory, record_of}
 use Rattle.history.specs.States.{Sound, Fresh}

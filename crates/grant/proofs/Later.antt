@@ -8,7 +8,6 @@ use lib.Dec.{T, leb, ltb→lt, lt→ltb}
 use lib.ListN.{length}
 use Rattle.lists.specs.Lists.{every, gather, count_from}
 use Rattle.lists.proofs.Laws.{parts, and_both, T_true, All, all_weaken, every_all, every_weaken, gather_same}
-use Rattle.model.specs.Queries as M
 use Rattle.model.specs.Queries.{columns_of}
 use Rattle.schema.specs.Schemas.{streams_in, schema_of}
 use Rattle.schema.proofs.Later.{Later, width_later, columns_later}

@@ -1,8 +1,7 @@
 -- The grant that a struct and the words of its conditions stand for, and whether they may be lent.
-use Rattle.std.specs.Prelude.{List, map, Bool, ◌&&◌, ◌||◌, not, cond, ℕ, suc, ◌+◌, ◌*◌, ◌-◌, min, leb, ltb, eqb, length, get_or}
+use Rattle.std.specs.Prelude.{List, map, Bool, ◌&&◌, ◌||◌, not, cond, ℕ, suc, ◌+◌, ◌*◌, min, leb, ltb, eqb, length, get_or}
 use Rattle.std.proofs.Math.Option.{Option, none, some}
 use Rattle.lists.specs.Lists.{every, select, gather, distinct, count_from}
-use Rattle.syntax.specs.Grammar as G
 use Rattle.syntax.specs.Grammar.{numbered_right}
 use Rattle.model.specs.Queries as M
 use Rattle.model.specs.Queries.{columns_of}

@@ -31,7 +31,6 @@ use Rattle.grant.proofs.Later.{catalogue_kept, catalogue_later}
 use Rattle.grant_line.specs.declared.Granted.{Granted}
 use Rattle.grant_line.specs.Granting.{grants_after, Grants}
 use Rattle.grant_line.proofs.Steps.{next_sound, next_is, here_said}
-use Rattle.history.specs.States as States
 use Rattle.history.specs.States.{State, Promise, verdict_in}
 use Rattle.history.specs.Fixtures.{Store, fixture_of, with_memory, with_grants, with_caller, Happens, called, granted, named, asked, Trace, stop, then, Sound, Fresh}
 use Rattle.history.proofs.Steps.{step_call}

@@ -40,14 +40,15 @@ fn say(
     rt: &(impl Print + Eprint + Alloc),
     before: Said,
     explains: bool,
-    kind: u32,
-    number: u32,
+    r: &Stepped,
     cells: &[i64],
     bytes: &[u8],
     out: &mut [u8],
 ) -> Said
-    ensures { Says explains (record { kind = kind; number = number }) cells.now bytes.now before result out.old out.new }
+    ensures { Says explains (record { kind = r.now.kind; number = r.now.number }) cells.now bytes.now before result out.old out.new }
 {
+    let kind = r.kind;
+    let number = r.number;
     let lines = std::num::wrapping_add_u64(before.lines, 1);
     let added = console::add(rt, out, before.output, kind, number, cells, bytes);
     let told = console::tell(rt, out, added, explains, lines, kind, number);
@@ -90,16 +91,7 @@ fn do_line(
         output: output,
         refused: run.refused,
     };
-    let said = say(
-        rt,
-        before,
-        run.explains,
-        r.kind,
-        r.number,
-        cells,
-        bytes,
-        out,
-    );
+    let said = say(rt, before, run.explains, &r, cells, bytes, out);
     let state = r.state;
     let told = said.output;
     Run {

@@ -4,11 +4,10 @@ use mathlib.Core.List.{List, [], ◌∷◌, map}
 use mathlib.Core.Bool.{Bool, true, false}
 use Prim.Native.Nat.{ℕ}
 use lib.IntN.{pos}
-use Rattle.lists.specs.Lists.{lists_compute}
 use Rattle.syntax.specs.Grammar.{eq, sum, Cond, test, all, any, neg, last, more}
 use Rattle.model.specs.Conditions.{tests, conditions_compute}
 use Rattle.model.specs.Queries.{Col, col, figure, Term, column, time, number, self, Compare, Query, source, pick, keep, join, aggregate, sources, picks, header, forms, queries_compute}
-use Rattle.model.specs.Checks.{term_cols, cond_cols, timed, no_aggregate, side, sized, keeps, checks_compute}
+use Rattle.model.specs.Checks.{cond_cols, timed, no_aggregate, side, sized, keeps, checks_compute}
 use Rattle.model.specs.Routes.{equated, bare, routes_compute}
 use Rattle.model.specs.Alike.{span_bounded, spans_bounded, alike_computes}
 

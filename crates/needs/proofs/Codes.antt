@@ -8,12 +8,10 @@ use native.Mathlib.Decide.{dec_lt, ℕ_discrete}
 use native.Mathlib.Omega.{arith}
 use lib.Pow.{pow-lt}
 use lib.Bits.{bit_and, and_mask}
-use lib.Dec.{leb, ltb, eqb, lit<}
-use borrow.Author.Tests.{eq-eqb, ne_eqb, lt-ltb, le-ltb, le-leb}
-use Rattle.syntax.specs.Grammar.{fn_number, numbered_fn}
+use lib.Dec.{ltb, eqb, lit<}
+use borrow.Author.Tests.{eq-eqb, ne_eqb, lt-ltb, le-ltb}
 use Rattle.lists.specs.Lists.{some?, gather}
 use Rattle.lists.proofs.Gathers.{some_append}
-use Rattle.syntax.specs.Grammar as G
 use Rattle.model.specs.Queries.{col, figure}
 use Rattle.masks.specs.Masks.{bit?, mask_of}
 use Rattle.masks.proofs.Bits.{bit_and_lem, bit_past}
@@ -21,7 +19,7 @@ use Rattle.masks.proofs.Lists.{bits_same, bit_mask, inside_alone}
 use Rattle.orders.specs.Orders.{codes_in}
 use Rattle.query.specs.Forms.{coded_col, cols_in}
 use Rattle.comparisons.specs.Compared.{col_codes, column_code}
-use Rattle.needs.specs.Asking.{all_columns, bits_of, col_code, form_fn}
+use Rattle.needs.specs.Asking.{all_columns, bits_of, col_code}
 
 -- ---- one column
 

@@ -2,14 +2,13 @@
 use mathlib.Core.Path.{◌≡◌, refl, sym, ap, ap₂, ◌∙◌, subst}
 use mathlib.Core.List.{List, [], ◌∷◌, ◌++◌}
 use mathlib.Core.Bool.{Bool, true, false, ◌&&◌, ◌||◌, not, or-false}
-use Prim.Native.Nat.{ℕ, ◌+◌, ◌*◌, ◌-◌, ◌/◌, ◌%◌, ◌≤◌}
+use Prim.Native.Nat.{ℕ, ◌+◌, ◌*◌, ◌/◌, ◌%◌, ◌≤◌}
 use native.Mathlib.Omega.{arith}
 use lib.Dec.{T, leb, ltb, ltb→lt}
 use borrow.Author.Tests.{eq-eqb, ne_eqb, lt-ltb}
 use Rattle.lists.specs.Lists.{every, some?, empty?, gather}
 use Rattle.lists.proofs.Laws.{and_l, and_r, and_both, or_cases, parts, every_append_l, every_append_r}
 use Rattle.lists.proofs.Gathers.{some_append}
-use Rattle.syntax.specs.Grammar as G
 use Rattle.syntax.specs.Grammar.{Cond, Fn, fn_number}
 use Rattle.syntax.proofs.Aggregates.{fn_range}
 use Rattle.model.specs.Conditions.{tests}

@@ -1,9 +1,8 @@
 -- What a query asks of grants, as numbers: of any query by its forms, and of a table of forms from the last to the first.
-use Rattle.std.specs.Prelude.{List, [], ◌∷◌, false, ◌&&◌, ◌||◌, cond, ℕ, ◌+◌, ◌*◌, ◌^◌, leb, ltb, eqb}
+use Rattle.std.specs.Prelude.{List, [], ◌∷◌, false, ◌&&◌, ◌||◌, cond, ℕ, ◌+◌, ◌*◌, ◌^◌, ltb, eqb}
 use Rattle.std.specs.Int.Bits.{bit_and, bit_or}
 use Rattle.lists.specs.Lists.{gather}
-use Rattle.syntax.specs.Grammar as G
-use Rattle.syntax.specs.Grammar.{Fn, fn_number, numbered_fn}
+use Rattle.syntax.specs.Grammar.{fn_number, numbered_fn}
 use Rattle.syntax.specs.Limits.{max_columns}
 use Rattle.model.specs.Conditions.{tests}
 use Rattle.model.specs.Queries.{Col, col, figure, Query, source, pick, keep, join, aggregate}

@@ -147,15 +147,15 @@ unfolding every new_state
 new_memory e = record { begins = ap (λ (s : State). s.ledger) e; zero = tt; long = lit≤ tt; places = lit≤ tt; room = lit≤ tt }
 
 -- what the program lends is what a run must be lent
-pub lent_main : {run : Run} {s : State} → s ≡ new_state → run.kept ≡ 0 → run.output.used ≡ 0 → run.refused ≡ false → run.ended ≡ false
-    → Lent run (point s (replicate 28 0) (replicate 512 0) (replicate 3072 (pos 0)) (replicate 2280 0) (replicate 4096 (pos 0)) (replicate 4096 0)) (replicate 65536 0) (replicate 513 0) (replicate 262144 0)
-lent_main {s = s} n k u o f =
+pub lent_main : {run : Run} {s : State} {b : Bytes} → s ≡ new_state → 65536 ≡ length b → run.kept ≡ 0 → run.output.used ≡ 0 → run.refused ≡ false → run.ended ≡ false
+    → Lent run (point s (replicate 28 0) (replicate 512 0) (replicate 3072 (pos 0)) (replicate 2280 0) (replicate 4096 (pos 0)) (replicate 4096 0)) b (replicate 513 0) (replicate 262144 0)
+lent_main {s = s} n e k u o f =
     record {
       fresh = new_fresh (record { state = s; names = replicate 28 0; times = replicate 512 0; values = replicate 3072 (pos 0); words = replicate 2280 0 }) n (new_memory n) (lit≤ tt);
       kept = k;
       used = u;
       none = o;
-      block = let a = length-replicate {A = ℕ} 65536 0 in omega arith;
+      block = omega (arith, e);
       line = length-replicate {A = ℕ} 513 0;
       texts = let a = length-replicate {A = ℤ} 4096 (pos 0) in let c = length-replicate {A = ℕ} 4096 0 in omega arith;
       out = let a = length-replicate {A = ℕ} 262144 0 in omega arith;

@@ -1,6 +1,5 @@
 -- The query that a table of forms stands for. A form stands before the forms inside it, a join's left side before its right.
 use Rattle.std.specs.Prelude.{List, [], ◌∷◌, ◌++◌, map, cond, ℕ, ◌+◌, ◌*◌, ◌/◌, ◌%◌, ltb, eqb}
-use Rattle.syntax.specs.Grammar as G
 use Rattle.syntax.specs.Grammar.{numbered_fn, ge, le, Cond, Entry}
 use Rattle.syntax.specs.Limits.{max_columns}
 use Rattle.model.specs.Queries.{Col, col, figure, Compare, Query, source, pick, keep, join, aggregate}

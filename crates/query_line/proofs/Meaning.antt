@@ -50,7 +50,6 @@ use Rattle.query_read.specs.Seeing.{span_kept, span_of, rows_own, pick_own, keep
 use Rattle.query_read.specs.declared.Reading.{Reading}
 use Rattle.syntax.proofs.Aggregates.{fn_forth}
 use Rattle.query_read.proofs.Answering.{conds_in, part_conds, store_parts, parts_stored, pick_over, over_before, over_first, words_then}
-use Rattle.query_read.proofs.Answering as A
 use Rattle.query_line.specs.Placing.{begun}
 use Rattle.query_line.proofs.Known.{part_good}
 use Rattle.query_line.proofs.Headers.{Shows, ref_cases, nowhere}

@@ -8,10 +8,10 @@ use lib.ListN.{replicate}
 use Rattle.refusal.specs.declared.Refusal.TheVariants.{Malformed, Bound, Undeclared, Repeated, Misplaced, WindowSize, ClockBack, StreamFull, NoRoute, ManyRoutes, NoRoom}
 use Rattle.refusal.specs.Checks.{first}
 use Rattle.syntax.specs.Grammar.{Bytes, bytes, read}
-use Rattle.model.specs.Queries.{Stream, Schema, Col, col, figure, Grant, Caller, Row, Record, Table}
+use Rattle.model.specs.Queries.{Schema, Col, col, figure, Grant, Caller, Row, Record, Table}
 use Rattle.calls.specs.Replies.{Reply, refused, filled, lent_after}
 use Rattle.calls.specs.Calls.{Call, stream, clock, row, clear, clock_line, row_line, clear_line, call_table, after}
-use Rattle.calls.specs.Events.{Event, call, grant, caller, query, happened}
+use Rattle.calls.specs.Events.{call, grant, caller, query, happened}
 use Rattle.calls.specs.Asking.{ask, line, run_line}
 use Rattle.calls.specs.Scripts.{scripts_compute}
 

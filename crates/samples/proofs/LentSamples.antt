@@ -5,7 +5,6 @@ use mathlib.Core.Option.{Option, none, some}
 use Prim.Native.Nat.{ℕ}
 use lib.IntN.{ℤ, pos, negsuc}
 use lib.ListN.{replicate}
-use Rattle.refusal.specs.declared.Refusal.{Refusal}
 use Rattle.refusal.specs.declared.Refusal.TheVariants.{Lent, NoRoute}
 use Rattle.refusal.specs.Checks.{first}
 use Rattle.syntax.specs.Grammar.{Bytes, bytes, eq, read, figures, sum, Right, Cond, test, all, neg, more, last, Entry}

@@ -1,8 +1,8 @@
 -- The three demands, of the lines of a script and from the contract of `step` alone (`Does`).
 use mathlib.Core.Path.{◌≡◌, refl, sym, ap, ◌∙◌, subst}
-use mathlib.Core.List.{List, [], ◌∷◌, ◌++◌}
+use mathlib.Core.List.{List, ◌++◌}
 use mathlib.Core.Bool.{Bool, true, false, cond}
-use mathlib.Core.Option.{Option, none, some}
+use mathlib.Core.Option.{Option, some}
 use Prim.Native.Nat.{ℕ}
 use native.Mathlib.Omega.{arith}
 use lib.IntN.{ℤ}
@@ -15,7 +15,7 @@ use Rattle.refusal.specs.Checks.{Ordered}
 use Rattle.lists.specs.Lists.{gather}
 use Rattle.syntax.specs.Grammar as G
 use Rattle.syntax.specs.Grammar.{Bytes, Verb}
-use Rattle.syntax.specs.Readers.{parse_as, verb_of}
+use Rattle.syntax.specs.Readers.{parse_as}
 use Rattle.model.specs.Alike.{Alike}
 use Rattle.calls.specs.Calls.{Call, after}
 use Rattle.stream_line.specs.Declaring.{names_after}
@@ -43,7 +43,7 @@ use Rattle.demands.proofs.Defined.{valid_kept}
 use Rattle.demands.proofs.Answered as A
 use Rattle.demands.proofs.Interference as I
 use Rattle.script.specs.States.{Saying}
-use Rattle.script.specs.Steps.{verdict_said, reply_said, unread_said, lending, Does, unread_does, stream_does, grant_does, clock_does, row_does, clear_does, caller_does, ask_does, line_does}
+use Rattle.script.specs.Steps.{verdict_said, reply_said, lending, Does, unread_does, stream_does, grant_does, clock_does, row_does, clear_does, caller_does, ask_does, line_does}
 use Rattle.script.specs.Runs.{call_of, calls_of, Done, none_left, line_done}
 
 -- ---- what a reply says

@@ -29,7 +29,7 @@ use Rattle.calls.specs.Calls as K
 use Rattle.calls.specs.Calls.{Call, stream, clock_line, row_line, clear_line, call_table, caller_table}
 use Rattle.calls.specs.Asking as Q
 use Rattle.calls.specs.Asking.{lent_valid, query_routes, answer, answer_checks, ask_table, no_line, line_given, printed_line, line_checks, line_table}
-use Rattle.calls.specs.Events.{Fixture, caller, happen, happened_from}
+use Rattle.calls.specs.Events.{Fixture, happen, happened_from}
 use Rattle.calls.specs.Scripts.{Outcome, cells, text, changed, told, on_record, act, perform, step, run_from, script}
 use Rattle.report.specs.Outcomes.{outcome_of}
 use Rattle.claims.proofs.Running.{events_of, step_runs}

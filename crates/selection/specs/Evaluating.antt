@@ -1,5 +1,5 @@
 -- What a comparison reads of each row, and conditions over the rows of a scope while they are evaluated.
-use Rattle.std.specs.Prelude.{◌≡◌, List, [], Bool, true, ◌&&◌, ◌||◌, cond, ℕ, ◌+◌, ◌*◌, ◌-◌, ◌≤◌, ◌<◌, min, max, ℤ, pos, T, leb, ltb, eqb, length, get_or}
+use Rattle.std.specs.Prelude.{◌≡◌, List, [], Bool, true, ◌&&◌, ◌||◌, cond, ℕ, ◌+◌, ◌*◌, ◌≤◌, ◌<◌, min, max, ℤ, pos, T, leb, ltb, eqb, length, get_or}
 use Rattle.lists.specs.Lists.{every, some?}
 use Rattle.syntax.specs.Grammar.{Cond}
 use Rattle.syntax.specs.Limits.{max_streams, max_columns, max_rows, top}

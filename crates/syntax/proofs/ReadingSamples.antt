@@ -1,6 +1,6 @@
 -- What texts say, by computation: each word and each part of a line, with numbers that tell their places.
 use mathlib.Core.Path.{◌≡◌, refl}
-use mathlib.Core.List.{List, [], ◌∷◌, map}
+use mathlib.Core.List.{[], ◌∷◌, map}
 use mathlib.Core.Option.{Option, none, some}
 use lib.IntN.{ℤ, pos, negsuc}
 use Rattle.syntax.specs.Grammar as G

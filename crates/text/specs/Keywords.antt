@@ -2,7 +2,7 @@
 use Rattle.std.specs.Prelude.{◌≡◌, List, [], ◌∷◌, Bool, false, ◌&&◌, not, cond, ℕ, ◌+◌, ◌-◌, T, ltb, eqb, length, drop, get_or}
 use Rattle.std.proofs.Math.Option.{Option, none, some}
 use Rattle.lists.specs.Lists.{every, same_list}
-use Rattle.syntax.specs.Grammar.{Bytes, Op, eq, ne, lt, le, gt, ge, Right, right_word, fn_number, right_number}
+use Rattle.syntax.specs.Grammar.{Bytes, Op, eq, ne, lt, le, gt, ge, right_word, fn_number, right_number}
 use Rattle.syntax.specs.Limits.{max_line, short}
 use Rattle.syntax.specs.Readers.{Read, plain, run, read_open, Head, compare, and, or, not_of, head_word, heads, rights, Kind, k_in, k_pick, k_keep, k_join, k_fn, kind_word, kinds, readers_compute}
 use Rattle.text.specs.Words.{code_from, code_of, bytes_from, name_of, run_end}

@@ -1,5 +1,4 @@
 use mathlib.Core.Path.{refl, ◌∙◌}
-use Prim.Native.Nat.{◌-◌}
 use native.Mathlib.Omega.{arith}
 use Rattle.ask.proofs.Loops.{keep_known, keep_still, write_start, write_ready, write_more, write_long, write_kept, write_first, write_end}
 use Rattle.ask.proofs.put_all.Goals as goal

@@ -1,7 +1,6 @@
 -- `all_valid`: the numbers passed are names.
 use borrow.Author.Rules.{rules}
 use mathlib.Core.Path.{refl}
-use Prim.Native.Nat.{◌-◌}
 use Rattle.caller.specs.Callers.{code_valid}
 use Rattle.caller.proofs.Slots.{tested_ends}
 use Rattle.caller.proofs.all_valid.Goals as goal

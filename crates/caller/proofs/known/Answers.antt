@@ -1,5 +1,4 @@
 -- `known`: the values passed are of 32 bits.
-use Prim.Native.Nat.{◌-◌}
 use native.Mathlib.Omega.{arith}
 use lib.IntN.{pos}
 use lib.ListN.{get_or}

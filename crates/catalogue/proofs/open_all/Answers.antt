@@ -1,6 +1,5 @@
 -- `open_all`: one grant more by `grant_at` and `Opened::with_caller`; all those that are placed are all.
-use mathlib.Core.Path.{◌≡◌, ◌∙◌, ap₂}
-use Prim.Native.Nat.{ℕ}
+use mathlib.Core.Path.{◌∙◌, ap₂}
 use native.Mathlib.Numerals.{add-one}
 use native.Mathlib.Omega.{arith}
 use Rattle.grant.specs.declared.Grant.{Grant}
@@ -19,11 +18,10 @@ pub loop-i-preserved : goal.loop-i-preserved
 loop-i-preserved c =
     let a = c.args in
     let l = c.loop-i in
-    let turn = λ (o : Opened) (g : Grant). opened_with o a.n l.i g a.names.now a.granted.now (roles_of a.who) (profile_of a.who) in
-    (
+    let turn = λ (o : Opened) (g : Grant). opened_with o a.n l.i g a.names.now a.granted.now (roles_of a.who) (profile_of a.who) in (
       omega arith,
       rw add-one
-      (c.with_caller-o.ensures ∙ ap₂ turn l.invariant.1 c.grant_at-g.ensures ∙ taken_more a.n a.names.now a.grants.now a.granted.now (roles_of a.who) (profile_of a.who) l.i),
+          (c.with_caller-o.ensures ∙ ap₂ turn l.invariant.1 c.grant_at-g.ensures ∙ taken_more a.n a.names.now a.grants.now a.granted.now (roles_of a.who) (profile_of a.who) l.i),
     )
 
 pub returns : goal.returns

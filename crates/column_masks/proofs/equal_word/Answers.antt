@@ -1,4 +1,3 @@
-use Prim.Native.Nat.{◌-◌}
 use borrow.Author.Rules.{rules}
 use Rattle.rows.proofs.Loops.{word_ends}
 use Rattle.column_masks.proofs.Columns.{column_reads, value_same}

@@ -1,5 +1,4 @@
 -- `among`: no number passed is the one.
-use Prim.Native.Nat.{◌-◌}
 use Rattle.columns.proofs.Entries.{among_ends}
 use Rattle.columns.proofs.among.Goals as goal
 

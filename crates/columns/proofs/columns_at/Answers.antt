@@ -1,6 +1,5 @@
 -- `columns_at`: what is read so far, joined to what is read on, is what is read from the first place on.
 use borrow.Author.Rules.{rules}
-use Prim.Native.Nat.{◌-◌}
 use Rattle.columns.proofs.ColumnLists.{columns_ends}
 use Rattle.columns.proofs.columns_at.Goals as goal
 

@@ -1,5 +1,4 @@
 -- `streams_at`: what is read so far, joined to what is read on, is what is read from the first place on.
-use Prim.Native.Nat.{◌-◌}
 use Rattle.columns.proofs.StreamLists.{streams_ends}
 use Rattle.columns.proofs.streams_at.Goals as goal
 

@@ -1,6 +1,5 @@
 -- `has_entry`: no entry passed has the name.
 use borrow.Author.Rules.{rules}
-use Prim.Native.Nat.{◌-◌}
 use Rattle.comparisons.proofs.Entries.{entry_ends}
 use Rattle.comparisons.proofs.has_entry.Goals as goal
 

@@ -1,4 +1,3 @@
-use Prim.Native.Nat.{◌-◌}
 use Rattle.text.proofs.Places.{next_fits}
 use Rattle.conditions.proofs.Skipping.{skip_ends}
 use Rattle.conditions.proofs.skip_cond.Goals as goal

@@ -1,5 +1,4 @@
 use mathlib.Core.Path.{◌∙◌}
-use Prim.Native.Nat.{◌-◌}
 use native.Mathlib.Omega.{arith}
 use Rattle.figures.proofs.Evaluating.{passing_ends, passing_more}
 use Rattle.figures.proofs.passes_all.Goals as goal

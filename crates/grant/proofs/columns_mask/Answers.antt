@@ -1,4 +1,3 @@
-use Prim.Native.Nat.{◌-◌}
 use Rattle.grant.proofs.StreamMasks.{places_ends}
 use Rattle.grant.proofs.columns_mask.Goals as goal
 

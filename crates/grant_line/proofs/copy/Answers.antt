@@ -1,5 +1,4 @@
 use borrow.Author.Rules.{rules}
-use Prim.Native.Nat.{◌-◌}
 use Rattle.grant_line.proofs.Copies.{copy_ends}
 use Rattle.grant_line.proofs.copy.Goals as goal
 

@@ -1,7 +1,6 @@
 -- `again`: the places passed do not have the number.
 use borrow.Author.Rules.{rules}
 use mathlib.Core.Path.{refl}
-use Prim.Native.Nat.{◌-◌}
 use Rattle.items.proofs.Sameness.{agains}
 use Rattle.items.proofs.again.Goals as goal
 

@@ -1,5 +1,4 @@
 -- `entries_at`: what is read so far, joined to what is read on, is what is read from the first place on.
-use Prim.Native.Nat.{◌-◌}
 use Rattle.items.proofs.EntryLists.{entries_ends}
 use Rattle.items.proofs.entries_at.Goals as goal
 

@@ -1,9 +1,7 @@
 -- `once`: the numbers passed stand once.
 use borrow.Author.Rules.{rules}
 use mathlib.Core.Path.{◌≡◌}
-use Prim.Native.Nat.{◌-◌}
 use lib.ListN.{length}
-use Rattle.items.specs.Items.{once}
 use Rattle.items.proofs.Sameness.{once_start, onces}
 use Rattle.items.proofs.once.Goals as goal
 use Rattle.items.proofs.once.Goals.{Start}

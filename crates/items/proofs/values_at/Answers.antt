@@ -1,5 +1,4 @@
 -- `values_at`: what is read so far, joined to what is read on, is what is read from the first place on.
-use Prim.Native.Nat.{◌-◌}
 use Rattle.items.proofs.ValueLists.{values_ends}
 use Rattle.items.proofs.values_at.Goals as goal
 

@@ -1,5 +1,4 @@
 use mathlib.Core.Path.{refl, sym, ◌∙◌}
-use Prim.Native.Nat.{◌-◌}
 use native.Mathlib.Omega.{arith}
 use Rattle.ledger.proofs.Bounds.{steady_past, steady_fails, steady_done}
 use Rattle.ledger.proofs.rest_steady.Goals as goal

@@ -1,5 +1,4 @@
 -- `code_at`: the columns from the first on, as long as the column is among them.
-use Prim.Native.Nat.{◌-◌}
 use Rattle.orders.proofs.Turns.{at_ends}
 use Rattle.orders.proofs.code_at.Goals as goal
 

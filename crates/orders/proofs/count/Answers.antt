@@ -1,7 +1,6 @@
 -- `count`: the columns passed from the end and those that are left.
 use borrow.Author.Rules.{rules}
-use Prim.Native.Nat.{◌-◌}
-use Rattle.orders.proofs.Turns.{left, count_ends}
+use Rattle.orders.proofs.Turns.{count_ends}
 use Rattle.orders.proofs.count.Goals as goal
 
 pub loop-n-init : goal.loop-n-init

@@ -1,6 +1,5 @@
 -- `mask_of`: the bits of the columns passed from the end, and those of the rest.
 use borrow.Author.Rules.{rules}
-use Prim.Native.Nat.{◌-◌}
 use Rattle.orders.proofs.Turns.{mask_ends}
 use Rattle.orders.proofs.mask_of.Goals as goal
 

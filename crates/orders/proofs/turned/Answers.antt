@@ -1,7 +1,6 @@
 -- `turned`: the order with the columns passed from the end, and those that are left.
 use borrow.Author.Rules.{rules}
-use Prim.Native.Nat.{◌-◌}
-use Rattle.orders.proofs.Turns.{left, turned_on, turned_ends}
+use Rattle.orders.proofs.Turns.{turned_on, turned_ends}
 use Rattle.orders.proofs.turned.Goals as goal
 
 pub loop-n-init : goal.loop-n-init

@@ -1,7 +1,6 @@
 -- `turned_within`: the order of the columns passed from the end that the mask has, and those that are left.
 use borrow.Author.Rules.{rules}
-use Prim.Native.Nat.{◌-◌}
-use Rattle.orders.proofs.Turns.{left, shown_on, within_ends}
+use Rattle.orders.proofs.Turns.{shown_on, within_ends}
 use Rattle.orders.proofs.turned_within.Goals as goal
 
 pub loop-n-init : goal.loop-n-init

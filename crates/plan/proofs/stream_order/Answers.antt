@@ -1,5 +1,4 @@
 -- `stream_order`: an order so far, with the columns that are left, is that of all columns.
-use Prim.Native.Nat.{◌-◌}
 use borrow.Author.Rules.{rules}
 use Rattle.plan.proofs.Steps.{order_ends}
 use Rattle.plan.proofs.stream_order.Goals as goal

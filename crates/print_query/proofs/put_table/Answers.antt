@@ -1,6 +1,5 @@
 -- `put_table`: what is left of the query, by the forms from place i on and by what stands open.
 use borrow.Author.Rules.{rules}
-use Prim.Native.Nat.{◌-◌}
 use Rattle.print_query.proofs.Tables.{going_ends}
 use Rattle.print_query.proofs.put_table.Goals as goal
 

@@ -1,6 +1,5 @@
 -- `forms_at`: what is read so far, joined to what is still to be read, is what is read from the first place on.
 use borrow.Author.Rules.{rules}
-use Prim.Native.Nat.{◌-◌}
 use Rattle.query_read.proofs.Answering.{walk_start, walk_over, walk_unread, walk_deeper, walk_falls, walk_stuck, walk_ended, walk_again, walk_less, walk_places}
 use Rattle.query_read.proofs.forms_at.Goals as goal
 

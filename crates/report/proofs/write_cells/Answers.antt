@@ -1,6 +1,5 @@
 -- `write_cells`: after i items the rest is still to be written.
 use borrow.Author.Rules.{rules}
-use Prim.Native.Nat.{◌-◌}
 use Rattle.report.proofs.Lengths.{cells_near}
 use Rattle.report.proofs.Writing.{left_all, cells_more, cells_none, cells_written}
 use Rattle.report.proofs.write_cells.Goals as goal

@@ -1,6 +1,5 @@
 -- `write_text`: after i items the rest is still to be written.
 use borrow.Author.Rules.{rules}
-use Prim.Native.Nat.{◌-◌}
 use Rattle.report.proofs.Writing.{left_all, bytes_more, bytes_none, text_written}
 use Rattle.report.proofs.write_text.Goals as goal
 

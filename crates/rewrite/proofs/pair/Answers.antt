@@ -1,6 +1,5 @@
 -- `pair`: the forms passed are cut.
 use borrow.Author.Rules.{rules}
-use Prim.Native.Nat.{◌-◌}
 use Rattle.query.specs.Tables.{query_forms}
 use Rattle.rewrite.proofs.Turns.{pair_on, pair_ends, few_below}
 use Rattle.rewrite.proofs.pair.Goals as goal

@@ -1,6 +1,5 @@
 -- `put_picks`: the picks passed are added.
 use borrow.Author.Rules.{rules}
-use Prim.Native.Nat.{◌-◌}
 use Rattle.query.specs.Tables.{query_forms}
 use Rattle.rewrite.proofs.Turns.{picks_on, picks_ends}
 use Rattle.rewrite.proofs.put_picks.Goals as goal

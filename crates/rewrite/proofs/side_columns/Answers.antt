@@ -1,5 +1,4 @@
 -- `side_columns`: the forms passed are picks.
-use Prim.Native.Nat.{◌-◌}
 use Rattle.rewrite.proofs.Turns.{order_ends}
 use Rattle.rewrite.proofs.side_columns.Goals as goal
 

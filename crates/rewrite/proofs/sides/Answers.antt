@@ -1,6 +1,5 @@
 -- `sides`: the forms passed are cut, and their streams seen.
 use borrow.Author.Rules.{rules}
-use Prim.Native.Nat.{◌-◌}
 use Rattle.query.specs.Tables.{query_forms}
 use Rattle.rewrite.proofs.Turns.{sides_on, sides_ends}
 use Rattle.rewrite.proofs.sides.Goals as goal

@@ -1,6 +1,5 @@
 -- `stream_place`: the forms passed are no streams.
 use borrow.Author.Rules.{rules}
-use Prim.Native.Nat.{◌-◌}
 use Rattle.rewrite.proofs.Turns.{stream_ends, few}
 use Rattle.rewrite.proofs.stream_place.Goals as goal
 

@@ -1,6 +1,5 @@
 -- `sum`: the forms passed are as they were.
 use borrow.Author.Rules.{rules}
-use Prim.Native.Nat.{◌-◌}
 use Rattle.rewrite.proofs.Turns.{sum_ends}
 use Rattle.rewrite.proofs.sum.Goals as goal
 

@@ -1,5 +1,4 @@
 -- `with_columns`: the shown columns passed are added, and the others are left.
-use Prim.Native.Nat.{◌-◌}
 use Rattle.rewrite.proofs.Turns.{columns_ends}
 use Rattle.rewrite.proofs.with_columns.Goals as goal
 

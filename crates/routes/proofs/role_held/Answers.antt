@@ -1,6 +1,5 @@
 -- `role_held`: no role passed is the one.
 use borrow.Author.Rules.{rules}
-use Prim.Native.Nat.{◌-◌}
 use Rattle.routes.proofs.Opened.{role_ends}
 use Rattle.routes.proofs.role_held.Goals as goal
 

@@ -1,6 +1,5 @@
 -- `filled`: the numbers passed are not 0.
 use borrow.Author.Rules.{rules}
-use Prim.Native.Nat.{◌-◌}
 use Rattle.schema.proofs.Places.{filled_ends}
 use Rattle.schema.proofs.filled.Goals as goal
 

@@ -1,6 +1,5 @@
 -- `named`: the numbers passed are names that may be, and none stands twice.
 use borrow.Author.Rules.{rules}
-use Prim.Native.Nat.{◌-◌}
 use Rattle.schema.proofs.Places.{named_ends}
 use Rattle.schema.proofs.named.Goals as goal
 

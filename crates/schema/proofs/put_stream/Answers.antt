@@ -1,7 +1,6 @@
 -- `put_stream`: the places of the stream's columns up to c hold its columns.
 use borrow.Author.Rules.{rules}
 use mathlib.Core.Path.{◌∙◌}
-use Prim.Native.Nat.{◌-◌}
 use lib.ListN.{length-set}
 use Rattle.schema.proofs.Puts.{put_ends}
 use Rattle.schema.proofs.put_stream.Goals as goal

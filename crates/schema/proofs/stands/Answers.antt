@@ -1,6 +1,5 @@
 -- `stands`: the number is none of those passed.
 use borrow.Author.Rules.{rules}
-use Prim.Native.Nat.{◌-◌}
 use Rattle.schema.proofs.Places.{stands_ends}
 use Rattle.schema.proofs.stands.Goals as goal
 

@@ -1,7 +1,6 @@
 -- `stream_number`: the streams passed have other names.
 use borrow.Author.Rules.{rules}
-use Prim.Native.Nat.{◌-◌}
-use Rattle.schema.proofs.Lookups.{names, seek_ends}
+use Rattle.schema.proofs.Lookups.{seek_ends}
 use Rattle.schema.proofs.stream_number.Goals as goal
 
 pub loop-s-init : goal.loop-s-init

@@ -1,6 +1,5 @@
 -- `streams_sound`: the streams passed are sound.
 use borrow.Author.Rules.{rules}
-use Prim.Native.Nat.{◌-◌}
 use Rattle.schema.proofs.Tests.{streams_ends}
 use Rattle.schema.proofs.streams_sound.Goals as goal
 

@@ -1,6 +1,5 @@
 -- `zeros`: the numbers passed are 0.
 use borrow.Author.Rules.{rules}
-use Prim.Native.Nat.{◌-◌}
 use Rattle.schema.proofs.Places.{zeros_ends}
 use Rattle.schema.proofs.zeros.Goals as goal
 

@@ -1,5 +1,5 @@
 use borrow.Author.Rules.{rules}
-use Prim.Native.Nat.{◌*◌, ◌-◌}
+use Prim.Native.Nat.{◌*◌}
 use native.Mathlib.Omega.{arith}
 use Rattle.selection.proofs.Sides.{entry_on, entry_ends}
 use Rattle.selection.proofs.entry_side.Goals as goal

@@ -1,7 +1,6 @@
 -- `all_free`: the names passed are free.
 use borrow.Author.Rules.{rules}
 use mathlib.Core.Path.{refl}
-use Prim.Native.Nat.{◌-◌}
 use Rattle.stream_line.proofs.Names.{frees}
 use Rattle.stream_line.proofs.all_free.Goals as goal
 

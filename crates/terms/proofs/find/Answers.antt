@@ -1,6 +1,5 @@
 -- `find`: no number passed is the one.
 use borrow.Author.Rules.{rules}
-use Prim.Native.Nat.{◌-◌}
 use Rattle.terms.proofs.Codes.{found_ends}
 use Rattle.terms.proofs.find.Goals as goal
 

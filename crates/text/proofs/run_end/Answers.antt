@@ -1,6 +1,5 @@
 -- `run_end`: from each place of the run on, the run ends where it ends.
 use mathlib.Core.Path.{refl}
-use Prim.Native.Nat.{◌-◌}
 use Rattle.text.proofs.Runs.{run_ends}
 use Rattle.text.proofs.run_end.Goals as goal
 

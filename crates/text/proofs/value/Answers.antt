@@ -2,9 +2,7 @@
 use borrow.Author.Rules.{rules}
 use native.Mathlib.Omega.{arith}
 use mathlib.Core.Path.{◌≡◌}
-use Prim.Native.Nat.{◌-◌}
 use Rattle.syntax.specs.Readers.{value_from}
-use Rattle.text.specs.Words.{far}
 use Rattle.text.proofs.Numbers.{value_more}
 use Rattle.text.proofs.value.Goals as goal
 

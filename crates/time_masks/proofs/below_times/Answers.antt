@@ -1,5 +1,5 @@
 use mathlib.Core.Path.{refl}
-use Prim.Native.Nat.{◌-◌, ◌<◌}
+use Prim.Native.Nat.{◌<◌}
 use native.Mathlib.Omega.{arith}
 use Rattle.syntax.specs.Grammar.{lt}
 use Rattle.time_masks.proofs.Weights.{weight_none, weight_fits, weight_more, rows_cut}

@@ -1,4 +1,3 @@
-use Prim.Native.Nat.{◌-◌}
 use native.Mathlib.Omega.{arith}
 use Rattle.windows.proofs.Jumps.{span_more}
 use Rattle.windows.proofs.first_from.Goals as goal

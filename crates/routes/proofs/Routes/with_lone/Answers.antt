@@ -1,6 +1,5 @@
 -- `with_lone`: a walk through the places of the mask.
 use borrow.Author.Rules.{rules}
-use Prim.Native.Nat.{◌-◌}
 use Rattle.routes.proofs.Listed.{Walk_Ends, each_ends}
 use Rattle.routes.proofs.Routes.with_lone.Goals as goal
 

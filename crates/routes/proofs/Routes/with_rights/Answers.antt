@@ -1,6 +1,5 @@
 -- `with_rights`: a walk through the places on the right.
 use borrow.Author.Rules.{rules}
-use Prim.Native.Nat.{◌-◌}
 use Rattle.routes.proofs.Listed.{Walk_Ends, each_ends}
 use Rattle.routes.proofs.Routes.with_rights.Goals as goal
 

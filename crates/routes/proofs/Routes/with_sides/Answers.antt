@@ -1,6 +1,5 @@
 -- `with_sides`: a walk through the places on the left.
 use borrow.Author.Rules.{rules}
-use Prim.Native.Nat.{◌-◌}
 use Rattle.routes.proofs.Listed.{Walk_Ends, each_ends}
 use Rattle.routes.proofs.Routes.with_sides.Goals as goal
 
