@@ -1,29 +1,15 @@
 -- Numbers at places of a list: each return of the loops that count, test and find them.
 use mathlib.Core.Path.{◌≡◌, refl, sym, ap, ap₂, ◌∙◌}
-use mathlib.Core.List.{List, [], ◌∷◌}
+use mathlib.Core.List.{List}
 use mathlib.Core.Bool.{Bool, true, false, ◌&&◌, not, cond}
 use Prim.Native.Nat.{ℕ, zero, suc, ◌+◌, ◌-◌, ◌<◌, ◌≤◌}
 use native.Mathlib.Omega.{arith}
 use lib.Dec.{eqb}
 use lib.ListN.{get_or}
 use borrow.Author.Tests.{eq-eqb, ne_eqb, eqb-true, eqb-false, not-true, not-false}
-use Rattle.lists.specs.Lists.{every, some?, count_from}
+use Rattle.lists.specs.Lists.{every, count_from}
 use Rattle.lists.proofs.Counting.{every_past, every_fails, every_done}
 use Rattle.schema.specs.Schemas.{code_free, filled, zeros, stands, named_from}
-
--- the places that are left, from i on
-left_more : (at n i : ℕ) → i < n → count_from (at + i) (n - i) ≡ (at + i) ∷ count_from (at + (i + 1)) (n - (i + 1))
-unfolding count_from
-left_more at n i h =
-    let e : n - i ≡ suc (n - (i + 1)) = omega arith in
-    let d : suc (at + i) ≡ at + (i + 1) = omega arith in
-    rw (e, d)
-
-left_none : (at n i : ℕ) → n ≤ i → count_from (at + i) (n - i) ≡ []
-unfolding count_from
-left_none at n i h =
-    let e : n - i ≡ 0 = omega arith in
-    rw e
 
 -- ---- how many are not 0
 
@@ -91,18 +77,6 @@ module _ (ns : List ℕ) (at n : ℕ) where
       let e : filled ns (at + 0) (n - 0) ≡ filled ns at n = ap₂ (filled ns) a b in
       omega arith
 
-  pub zeros_start : zeros ns at n ≡ zeros ns (at + 0) (n - 0)
-  zeros_start =
-      let a : at ≡ at + 0 = omega arith in
-      let b : n ≡ n - 0 = omega arith in
-      ap₂ (zeros ns) a b
-
-  pub stands_start : (code : ℕ) → stands ns at n code ≡ stands ns (at + 0) (n - 0) code
-  stands_start code =
-      let a : at ≡ at + 0 = omega arith in
-      let b : n ≡ n - 0 = omega arith in
-      ap₂ (λ x y. stands ns x y code) a b
-
 module _ (ns : List ℕ) (at n i : ℕ) where
   filled_left : i < n → filled ns (at + i) (n - i) ≡ cond (eqb (get_or ns (at + i) 0) 0) 0 (suc (filled ns (at + (i + 1)) (n - (i + 1))))
   unfolding filled
@@ -129,45 +103,11 @@ module _ (ns : List ℕ) (at n i : ℕ) where
         let f : filled ns (at + i) (n - i) ≡ 0 = rw e in
         omega arith
 
-  -- ---- all are 0
-
-  module _ (inv : zeros ns at n ≡ zeros ns (at + i) (n - i)) where
-    pub zeros_stop : i < n → (get_or ns (at + i) 0 ≡ 0 → ⊥) → false ≡ zeros ns at n
-    unfolding zeros every
-    zeros_stop h z = sym (inv ∙ rw (left_more at n i h, ne_eqb (get_or ns (at + i) 0) 0 z))
-
-    pub zeros_on : i < n → get_or ns (at + i) 0 ≡ 0 → zeros ns at n ≡ zeros ns (at + (i + 1)) (n - (i + 1))
-    unfolding zeros every
-    zeros_on h z = inv ∙ rw (left_more at n i h, eq-eqb (get_or ns (at + i) 0) 0 z)
-
-    pub zeros_end : n ≤ i → true ≡ zeros ns at n
-    unfolding zeros every
-    zeros_end k = sym (inv ∙ rw (left_none at n i k))
-
-  -- ---- one is a number
-
-  module _ (code : ℕ) (inv : stands ns at n code ≡ stands ns (at + i) (n - i) code) where
-    pub stands_stop : i < n → get_or ns (at + i) 0 ≡ code → true ≡ stands ns at n code
-    unfolding stands some?
-    stands_stop h z = sym (inv ∙ rw (left_more at n i h, eq-eqb (get_or ns (at + i) 0) code z))
-
-    pub stands_on : i < n → (get_or ns (at + i) 0 ≡ code → ⊥) → stands ns at n code ≡ stands ns (at + (i + 1)) (n - (i + 1)) code
-    unfolding stands some?
-    stands_on h z = inv ∙ rw (left_more at n i h, ne_eqb (get_or ns (at + i) 0) code z)
-
-    pub stands_end : n ≤ i → false ≡ stands ns at n code
-    unfolding stands some?
-    stands_end k = sym (inv ∙ rw (left_none at n i k))
-
 pub ruleset filled_ends = (filled_start, filled_stop, filled_on, filled_end)
 
 pub zeros_not : (ns : List ℕ) (at n : ℕ) → 0 < get_or ns at 0 → zeros ns at (suc n) ≡ false
 unfolding zeros every count_from
 zeros_not ns at n h = rw (ne_eqb (get_or ns at 0) 0 (λ e. omega arith))
-
-pub ruleset zeros_ends = (zeros_start, zeros_stop, zeros_on, zeros_end)
-
-pub ruleset stands_ends = (stands_start, stands_stop, stands_on, stands_end)
 
 -- ---- names that may be, none of them twice
 

@@ -3,12 +3,11 @@ use mathlib.Core.Path.{◌≡◌, ap₂, ◌∙◌}
 use mathlib.Core.List.{List}
 use Prim.Native.Nat.{ℕ, ◌+◌, ◌*◌, ◌<◌, ◌≤◌}
 use native.Mathlib.Omega.{arith}
-use lib.ListN.{length, get_or, set, length-set}
+use lib.ListN.{length, set}
 use lib.Seq.{paste}
 use borrow.Author.Tests.{lt-ltb, le-ltb, le-leb, lt-leb}
 use mathlib.Core.Bool.{and-false}
 use lib.Dec.{ltb}
-use Rattle.lists.proofs.Pasting.{paste_start, paste_on}
 use Rattle.schema.specs.Schemas.{streams_in, with_codes}
 
 module _ (ns : List ℕ) (n : ℕ) (cs : List ℕ) {s : ℕ} (e : s ≡ streams_in ns) where
@@ -27,10 +26,4 @@ module _ (ns : List ℕ) (n : ℕ) (cs : List ℕ) {s : ℕ} (e : s ≡ streams_
       let d : c ≡ 6 = omega arith in
       rw (lt-ltb (streams_in ns) 4 l, le-leb 28 (length ns) k) (m ∙ ap₂ (λ x y. paste (set ns x n) (4 + x * 6) cs y) e d)
 
-pub put_room : (ns : List ℕ) (n s : ℕ) → s < 4 → 28 ≤ length ns → 4 + s * 6 + 6 ≤ length (set ns s n)
-put_room ns n s h k = rw (length-set ns s n) (omega arith)
-
-pub put_on : (d : List ℕ) (at : ℕ) (cs : List ℕ) (c : ℕ) {ms : List ℕ} → at + 6 ≤ length d → length cs ≡ 6 → c < 6 → ms ≡ paste d at cs c → set ms (at + c) (get_or cs c 0) ≡ paste d at cs (c + 1)
-put_on d at cs c h l k m = paste_on d at cs 6 c 0 h (omega arith) k m
-
-pub ruleset put_ends = (put_full, put_short, put_done, put_room, paste_start, put_on)
+pub ruleset put_ends = (put_full, put_short, put_done)

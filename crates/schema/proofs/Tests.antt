@@ -6,9 +6,7 @@ use Prim.Native.Nat.{ℕ, zero, suc, ◌+◌, ◌*◌, ◌-◌, ◌<◌, ◌≤�
 use lib.Dec.{eqb}
 use lib.ListN.{length}
 use borrow.Author.Tests.{eq-eqb, ne_eqb, lt-ltb, le-ltb, le-leb, lt-leb, not-true, not-false}
-use Rattle.lists.specs.Lists.{every, count_from}
 use Rattle.lists.proofs.Laws.{and_true, and_false}
-use Rattle.lists.proofs.Counting.{every_past, every_fails, every_done}
 use native.Mathlib.Omega.{arith}
 use Rattle.schema.specs.Schemas.{filled, streams_in, width_in, zeros, named_from, stream_sound, streams_sound, schema_sound}
 use Rattle.schema.proofs.Places.{filled_most, filled_first, zeros_not}
@@ -61,24 +59,6 @@ module _ (ns : List ℕ) (s n : ℕ) (h : s < n) {w : ℕ} {z : Bool} (e : w ≡
     columns_named k d = rw (zeros_are ∙ not-false z g, lt-leb n s h, ne_eqb (filled ns (4 + s * 6) 6) 0 (λ q. k (e ∙ q))) (d ∙ ap (named_from ns (4 + s * 6)) e)
 
 pub ruleset stream_ends = (columns_loose, columns_undeclared, columns_none, columns_named)
-
--- ---- every stream's
-
-module _ (ns : List ℕ) (n s : ℕ) (inv : streams_sound ns n ≡ every (λ s. stream_sound ns s n) (count_from s (4 - s))) where
-  pub streams_stop : {x : Bool} → s < 4 → x ≡ stream_sound ns s n → not x ≡ true → false ≡ streams_sound ns n
-  streams_stop {x} h e f = sym (inv ∙ every_fails (λ s. stream_sound ns s n) s 4 h (sym e ∙ not-true x f))
-
-  pub streams_on : {x : Bool} → s < 4 → x ≡ stream_sound ns s n → not x ≡ false → streams_sound ns n ≡ every (λ s. stream_sound ns s n) (count_from (s + 1) (4 - (s + 1)))
-  streams_on {x} h e f = inv ∙ every_past (λ s. stream_sound ns s n) s 4 h (sym e ∙ not-false x f)
-
-  pub streams_end : 4 ≤ s → true ≡ streams_sound ns n
-  streams_end h = sym (inv ∙ every_done (λ s. stream_sound ns s n) s 4 h)
-
-pub streams_start : (ns : List ℕ) (n : ℕ) → streams_sound ns n ≡ every (λ s. stream_sound ns s n) (count_from 0 (4 - 0))
-unfolding streams_sound
-streams_start ns n = refl
-
-pub ruleset streams_ends = (streams_start, streams_stop, streams_on, streams_end)
 
 -- ---- the whole
 

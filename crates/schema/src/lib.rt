@@ -92,12 +92,10 @@ fn filled(names: &[u64], at: usize, n: usize) -> usize
     requires { at + n ≤ schema_size }
     ensures { result ≡ filled names.now at n }
 {
-    let mut i: usize = 0;
-    while i < n {
+    for i in 0..n {
         if places::number_at(names, at + i) == 0 {
             return i;
         }
-        i += 1;
     }
     n
 }
@@ -124,12 +122,10 @@ pub fn stream_number(names: &[u64], code: u64) -> usize
     ensures { result ≡ stream_number (schema_of names.now) (name_of code) }
 {
     let n = streams(names);
-    let mut s: usize = 0;
-    while s < n {
+    for s in 0..n {
         if places::number_at(names, s) == code {
             return s;
         }
-        s += 1;
     }
     n
 }
@@ -139,14 +135,7 @@ fn zeros(names: &[u64], at: usize, n: usize) -> bool
     requires { at + n ≤ length names.now }
     ensures { result ≡ zeros names.now at n }
 {
-    let mut i: usize = 0;
-    while i < n {
-        if names[at + i] != 0 {
-            return false;
-        }
-        i += 1;
-    }
-    true
+    names[at..at + n].iter().all(|code| *code == 0)
 }
 
 // Whether a number stands among some from a place on.
@@ -154,14 +143,7 @@ fn stands(names: &[u64], at: usize, n: usize, code: u64) -> bool
     requires { at + n ≤ length names.now }
     ensures { result ≡ stands names.now at n code }
 {
-    let mut i: usize = 0;
-    while i < n {
-        if names[at + i] == code {
-            return true;
-        }
-        i += 1;
-    }
-    false
+    names[at..at + n].contains(&code)
 }
 
 // Whether n numbers from a place on are names that streams and columns may have, and none stands twice.
@@ -169,8 +151,7 @@ fn named(names: &[u64], at: usize, n: usize) -> bool
     requires { at + n ≤ length names.now }
     ensures { result ≡ named_from names.now at n }
 {
-    let mut i: usize = 0;
-    while i < n {
+    for i in 0..n {
         let code = names[at + i];
         if !free_name(code) {
             return false;
@@ -178,7 +159,6 @@ fn named(names: &[u64], at: usize, n: usize) -> bool
         if stands(names, at, i, code) {
             return false;
         }
-        i += 1;
     }
     true
 }
@@ -207,14 +187,7 @@ fn streams_sound(names: &[u64], n: usize) -> bool
     requires { schema_size ≤ length names.now }
     ensures { result ≡ streams_sound names.now n }
 {
-    let mut s: usize = 0;
-    while s < Stream::MOST {
-        if !stream_sound(names, s, n) {
-            return false;
-        }
-        s += 1;
-    }
-    true
+    (0..Stream::MOST).all(|s| stream_sound(names, s, n))
 }
 
 // Returns whether the names may be lent (refusal 12).
@@ -246,11 +219,6 @@ pub fn put_stream(names: &mut [u64], stream: Stream)
         return;
     }
     names[s] = stream.name;
-    let codes = stream.columns;
     let at = Stream::MOST + s * Stream::COLUMNS;
-    let mut c: usize = 0;
-    while c < Stream::COLUMNS {
-        names[at + c] = codes[c];
-        c += 1;
-    }
+    names[at..at + Stream::COLUMNS].copy_from_slice(&stream.columns);
 }

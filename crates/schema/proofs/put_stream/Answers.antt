@@ -1,8 +1,8 @@
--- `put_stream`: the places of the stream's columns up to c hold its columns.
+-- `put_stream`: the part that is copied is that of the definition.
 use borrow.Author.Rules.{rules}
-use mathlib.Core.Path.{◌∙◌}
-use lib.ListN.{length-set}
-use Rattle.schema.proofs.Puts.{put_ends}
+use native.Mathlib.Omega.{arith}
+use Rattle.std.proofs.lemmas.Slice.{put_mid-paste}
+use Rattle.schema.proofs.Puts.{put_ends, put_done}
 use Rattle.schema.proofs.put_stream.Goals as goal
 
 pub returns-then-s-ge-MOST : goal.returns-then-s-ge-MOST
@@ -11,14 +11,7 @@ returns-then-s-ge-MOST c = search put_ends
 pub returns-then-names-lt-NAMES : goal.returns-then-names-lt-NAMES
 returns-then-names-lt-NAMES c = search put_ends
 
-pub loop-c-init : goal.loop-c-init
-loop-c-init c = (search rules, search put_ends, search put_ends, search rules, search rules)
-
-pub loop-c-preserved : goal.loop-c-preserved
-loop-c-preserved c = (search rules, search put_ends, search rules, search rules, search rules)
-
-pub shape_of-names : goal.shape_of-names
-shape_of-names c = c.loop-c.invariant.4 ∙ simp length-set
-
 pub returns : goal.returns
-returns c = search put_ends
+returns c =
+    put_done c.args.names.now c.args.stream.name c.args.stream.columns c.streams-s.ensures {c = 6} c.if-s-ge-MOST.false c.if-names-lt-NAMES.false
+    (put_mid-paste _ _ _ _ c.args.stream.columns 6 c.copy_from_slice.ensures.after (omega arith) (search rules)) (search rules) (search rules)

@@ -1,16 +1,18 @@
--- `stands`: the number is none of those passed.
-use borrow.Author.Rules.{rules}
-use Rattle.schema.proofs.Places.{stands_ends}
+-- `stands`: what `contains` gives of the part, by places.
+use mathlib.Core.Path.{ap, ◌∙◌}
+use native.Mathlib.Omega.{arith}
+use Prim.Native.Nat.{◌+◌, ◌-◌}
+use lib.Dec.{eqb}
+use Rattle.lists.proofs.Chains.{any_part}
+use Rattle.schema.specs.Schemas.{stands}
 use Rattle.schema.proofs.stands.Goals as goal
 
-pub loop-i-init : goal.loop-i-init
-loop-i-init c = (search rules, search stands_ends)
-
-pub returns-then-names-at : goal.returns-then-names-at
-returns-then-names-at c = search stands_ends
-
-pub loop-i-preserved : goal.loop-i-preserved
-loop-i-preserved c = (search rules, search stands_ends)
-
 pub returns : goal.returns
-returns c = search stands_ends
+unfolding stands
+returns c =
+    let ns = c.args.names.now in
+    let at = c.args.at in
+    let n = c.args.n in
+    let code = c.args.code in
+    let q = c.requires in
+    c.contains.ensures.value ∙ any_part 0 (λ x. eqb x code) ns at (at + n - at) (omega arith) ∙ ap (λ m. stands ns at m code) (omega arith)

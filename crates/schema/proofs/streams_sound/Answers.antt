@@ -1,16 +1,18 @@
--- `streams_sound`: the streams passed are sound.
+-- `streams_sound`: what `all` gives over the streams.
+use mathlib.Core.Path.{◌∙◌, refl}
 use borrow.Author.Rules.{rules}
-use Rattle.schema.proofs.Tests.{streams_ends}
+use borrow.Author.Tests.{tests}
+use Rattle.std.specs.List.{range_with_len}
+use Rattle.std.proofs.lemmas.Iterator.{YieldsList-from_range}
+use Rattle.std.proofs.lemmas.Iterator.Search.{all_from_yields_List}
+use Rattle.lists.proofs.Chains.{all_range}
+use Rattle.schema.specs.Schemas.{stream_sound, streams_sound}
 use Rattle.schema.proofs.streams_sound.Goals as goal
 
-pub loop-s-init : goal.loop-s-init
-loop-s-init c = (search rules, search streams_ends)
-
-pub returns-then-not-stream_sound : goal.returns-then-not-stream_sound
-returns-then-not-stream_sound c = search streams_ends
-
-pub loop-s-preserved : goal.loop-s-preserved
-loop-s-preserved c = (search rules, search streams_ends)
-
 pub returns : goal.returns
-returns c = search streams_ends
+unfolding streams_sound
+returns c =
+    let ns = c.args.names.now in
+    let n = c.args.n in
+    all_from_yields_List {all = range_with_len 0 4} (λ s. stream_sound ns s n) _ _ _ c.all.ensures.ran (YieldsList-from_range 0 4 4 refl refl) (λ x b q k. search (rules, tests))
+    ∙ all_range (λ s. stream_sound ns s n) 0 4

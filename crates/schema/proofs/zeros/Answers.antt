@@ -1,16 +1,23 @@
--- `zeros`: the numbers passed are 0.
+-- `zeros`: what `all` gives over the part, by places.
+use mathlib.Core.Path.{ap, ◌∙◌}
+use native.Mathlib.Omega.{arith}
+use Prim.Native.Nat.{◌+◌, ◌-◌}
 use borrow.Author.Rules.{rules}
-use Rattle.schema.proofs.Places.{zeros_ends}
+use borrow.Author.Tests.{tests}
+use lib.Dec.{eqb}
+use lib.ListN.{take, drop}
+use Rattle.std.proofs.lemmas.Iterator.{YieldsList-from_slice}
+use Rattle.std.proofs.lemmas.Iterator.Search.{all_from_yields_List}
+use Rattle.lists.proofs.Chains.{all_part}
+use Rattle.schema.specs.Schemas.{zeros}
 use Rattle.schema.proofs.zeros.Goals as goal
 
-pub loop-i-init : goal.loop-i-init
-loop-i-init c = (search rules, search zeros_ends)
-
-pub returns-then-names-at-ne0 : goal.returns-then-names-at-ne0
-returns-then-names-at-ne0 c = search zeros_ends
-
-pub loop-i-preserved : goal.loop-i-preserved
-loop-i-preserved c = (search rules, search zeros_ends)
-
 pub returns : goal.returns
-returns c = search zeros_ends
+unfolding zeros
+returns c =
+    let ns = c.args.names.now in
+    let at = c.args.at in
+    let n = c.args.n in
+    let q = c.requires in
+    all_from_yields_List {all = take (at + n - at) (drop at ns)} (λ x. eqb x 0) _ _ _ c.all.ensures.ran (YieldsList-from_slice _ cc) (λ x b q k. search (rules, tests))
+    ∙ all_part 0 (λ x. eqb x 0) ns at (at + n - at) (omega arith) ∙ ap (zeros ns at) (omega arith)
