@@ -1,6 +1,7 @@
 """narrow.py [--numbers] IN.ll OUT.ll: the compiler's module for a machine whose memory has fewer than 2^32 bytes.
 
 - A slice, which the module keeps as a pointer and a length of 64 bits, has a length of 32 bits.
+- A pair of which one part is a pointer, as an iterator's next item, is read part by part, each from where the module keeps it.
 - A number of 64 bits that is below 2^32 in every run is kept and handed over in 32 bits: a local, an argument or a result of a function that only this module calls.
   That it is below is found by the greatest value each number can have, from constants, narrower numbers, lengths, and the comparisons that a block stands behind; of what is read from memory nothing is known.
 A number that is not found below stays as it is, so that no result changes. With --numbers slices stay as they are too, and the module runs on any machine (tests/narrow).
@@ -37,6 +38,28 @@ def bodies(lines):
         elif line == '}':
             yield name, start, i
             name = None
+
+
+# ---- pairs
+
+def parts(lines):
+    """The module with each pair that holds a pointer read part by part, from where the module keeps its parts: a narrower machine would look for the second elsewhere."""
+    out = []
+    for line in lines:
+        m = re.match(r'  (%\w+) = load (\{ (?:ptr, (\w+)|(\w+), ptr) \}), ptr (%\w+)', line)
+        if not m:
+            out.append(line)
+            continue
+        v, pair, place = m.group(1), m.group(2), m.group(5)
+        first, second = pair[2:-2].split(', ')
+        out += [
+            '  %sx = load %s, ptr %s, align %d' % (v, first, place, 1 if first == 'i8' else 8),
+            '  %sp = getelementptr i8, ptr %s, i64 8' % (v, place),
+            '  %sy = load %s, ptr %sp, align %d' % (v, second, v, 1 if second == 'i8' else 8),
+            '  %sz = insertvalue %s undef, %s %sx, 0' % (v, pair, first, v),
+            '  %s = insertvalue %s %sz, %s %sy, 1' % (v, pair, v, second, v),
+        ]
+    return out
 
 
 # ---- slices
@@ -466,4 +489,4 @@ def narrowed(lines):
 if __name__ == '__main__':
     source, made = sys.argv[-2:]
     module = open(source).read().split('\n')
-    open(made, 'w').write('\n'.join(narrowed(module if '--numbers' in sys.argv else slices(module))))
+    open(made, 'w').write('\n'.join(narrowed(module if '--numbers' in sys.argv else slices(parts(module)))))
