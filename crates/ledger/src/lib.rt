@@ -72,13 +72,10 @@ impl Ledger {
         if Time::TOP < self.clock {
             return false;
         }
-        let rows = self.rows;
-        let mut s: usize = 0;
-        while s < Stream::MOST {
-            if Ledger::ROWS < rows[s] as usize {
+        for n in &self.rows {
+            if Ledger::ROWS < *n as usize {
                 return false;
             }
-            s += 1;
         }
         true
     }
@@ -160,13 +157,10 @@ impl Ledger {
     fn rest_empty(self, n: usize) -> bool
         ensures { result ≡ undeclared_empty self n }
     {
-        let rows = self.rows;
-        let mut s = n;
-        while s < Stream::MOST {
-            if rows[s] != 0 {
+        for s in n..Stream::MOST {
+            if self.rows[s] != 0 {
                 return false;
             }
-            s += 1;
         }
         true
     }
@@ -176,13 +170,10 @@ impl Ledger {
         requires { (n ≤ max_streams) × (places_size ≤ length times.now) }
         ensures { result ≡ streams_steady self n times.now }
     {
-        let mut s: usize = 0;
-        while s < n {
-            let count = self.count(s);
-            if !steady(times, self.clock, s * Ledger::ROWS, count) {
+        for s in 0..n {
+            if !steady(times, self.clock, s * Ledger::ROWS, self.count(s)) {
                 return false;
             }
-            s += 1;
         }
         true
     }
@@ -214,14 +205,12 @@ fn rest_steady(times: &[u32], lowest: u32, clock: u32, at: usize, end: usize) ->
     ensures { result ≡ times_steady times.now lowest clock at (end - at) }
 {
     let mut low = lowest;
-    let mut i = at;
-    while i < end {
+    for i in at..end {
         let t = times[i];
         if t < low {
             return false;
         }
         low = t;
-        i += 1;
     }
     low <= clock
 }
@@ -233,6 +222,7 @@ fn steady(times: &[u32], clock: u32, at: usize, count: usize) -> bool
 {
     let end = at + count;
     let mut low: u32 = 0;
+    // The index goes on by four, for speed, and where it ends the rest begins.
     let mut i = at;
     while i + 4 <= end {
         if !rising(times, low, i) {
@@ -278,10 +268,8 @@ pub fn sound(l: Ledger, names: &[u64], times: &[u32], values: &[i32]) -> bool
 pub fn known(vs: &[i32])
     ensures { T (every is_value vs.now) }
 {
-    let mut i: usize = 0;
-    while i < vs.len() {
-        let _v = vs[i];
-        i += 1;
+    for v in vs {
+        let _v = *v;
     }
 }
 
@@ -290,11 +278,7 @@ fn put(values: &mut [i32], at: usize, vs: &[i32])
     requires { at + length vs.now ≤ length values.old }
     ensures { values.new ≡ paste values.old at vs.now (length vs.now) }
 {
-    let mut c: usize = 0;
-    while c < vs.len() {
-        values[at + c] = vs[c];
-        c += 1;
-    }
+    values[at..at + vs.len()].copy_from_slice(vs);
 }
 
 impl Ledger {
