@@ -43,42 +43,20 @@ pub struct Identified {
 fn all_valid(codes: [u64; Caller::ROLES], n: usize) -> bool
     ensures { result ≡ every code_valid (take n codes) }
 {
-    let mut i: usize = 0;
-    while i < Caller::ROLES {
-        if n <= i {
-            return true;
-        }
-        if !schema::valid_name(codes[i]) {
+    for code in &codes[..n.min(Caller::ROLES)] {
+        if !schema::valid_name(*code) {
             return false;
         }
-        i += 1;
     }
     true
-}
-
-// A number by its place, or 0 past the last place.
-fn code_at(codes: [u64; Caller::ROLES], i: usize) -> u64
-    ensures { result ≡ get_or codes i 0 }
-{
-    if Caller::ROLES <= i {
-        return 0;
-    }
-    codes[i]
 }
 
 // Whether of the first n numbers none stands twice, and so none of their names.
 fn none_twice(codes: [u64; Caller::ROLES], n: usize) -> bool
     ensures { (result ≡ once codes n) × (result ≡ distinct same_list (names_of codes n)) }
 {
-    let a = code_at(codes, 0);
-    let b = code_at(codes, 1);
-    let c = code_at(codes, 2);
-    let d = code_at(codes, 3);
-    let six = [a, b, c, d, 0, 0];
-    if Caller::ROLES < n {
-        return items::once(six, Caller::ROLES);
-    }
-    items::once(six, n)
+    let six = [codes[0], codes[1], codes[2], codes[3], 0, 0];
+    items::once(six, n.min(Caller::ROLES))
 }
 
 // Whether the first n numbers are names, and none stands twice.
@@ -95,10 +73,8 @@ fn all_sound(codes: [u64; Caller::ROLES], n: usize) -> bool
 fn known(values: [i32; Caller::ENTRIES])
     ensures { T (every is_value values) }
 {
-    let mut i: usize = 0;
-    while i < Caller::ENTRIES {
-        let _v = values[i];
-        i += 1;
+    for v in &values {
+        let _v = *v;
     }
 }
 
@@ -120,11 +96,7 @@ fn unread(long: bool) -> CallerLine
 fn first_four(codes: [u64; Names::MOST]) -> [u64; Caller::ROLES]
     ensures { result ≡ take max_roles codes }
 {
-    let a = codes[0];
-    let b = codes[1];
-    let c = codes[2];
-    let d = codes[3];
-    [a, b, c, d]
+    [codes[0], codes[1], codes[2], codes[3]]
 }
 
 // Whether a name is too long, a value beyond 32 bits, or there are too many roles or entries.
