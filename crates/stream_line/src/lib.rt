@@ -37,15 +37,10 @@ fn unread(long: bool) -> StreamLine
 fn all_free(codes: [u64; Names::MOST], n: usize) -> bool
     ensures { result ≡ every code_free (take n codes) }
 {
-    let mut i: usize = 0;
-    while i < Names::MOST {
-        if n <= i {
-            return true;
-        }
-        if !schema::free_name(codes[i]) {
+    for code in &codes[..n.min(Names::MOST)] {
+        if !schema::free_name(*code) {
             return false;
         }
-        i += 1;
     }
     true
 }
