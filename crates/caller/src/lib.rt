@@ -1,7 +1,7 @@
 // The caller by value: at most four roles and four profile entries, and the `caller` line that gives one.
 #![tactic(auto)]
 
-ghost use Rattle.std.specs.Prelude.{◌≡◌, T, get_or, take};
+ghost use Rattle.std.specs.Prelude.{◌≡◌, T, take};
 ghost use Rattle.lists.specs.Lists.{every, distinct, same_list};
 ghost use Rattle.syntax.specs.Limits.{max_roles, max_entries, is_value};
 ghost use Rattle.items.specs.Items.{once};
