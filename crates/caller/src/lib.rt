@@ -9,7 +9,7 @@ ghost use Rattle.caller.specs.Callers.{caller_sound, no_caller, code_valid, name
 ghost use Rattle.caller.specs.Lines.{caller_line, unread_line, line_read, caller_read, identified};
 
 use items::{Entries, Names};
-use refusal::{Checks, Verdict};
+use refusal::{Checks, Refusal};
 use text::{Line, Word};
 
 // Names are numbers, as `text` reads them.
@@ -27,13 +27,6 @@ pub struct Caller {
 #[derive(Clone, Copy)]
 pub struct CallerLine {
     pub checks: Checks,
-    pub caller: Caller,
-}
-
-// The verdict, and the caller of the line, or the one that was.
-#[derive(Clone, Copy)]
-pub struct Identified {
-    pub verdict: Verdict,
     pub caller: Caller,
 }
 
@@ -230,24 +223,12 @@ impl Caller {
         all_sound(name, self.entries as usize)
     }
 
-    // The caller line. Returns the verdict, and the caller that the line names; refused, the caller as it was.
-    pub fn with_line(self, line: &[u8]) -> Identified
+    // The caller line. Returns the caller that the line names, or the refusal, after which the caller is who it was.
+    pub fn with_line(self, line: &[u8]) -> Result<Caller, Refusal>
         ensures { result ≡ identified self line.now }
     {
         let l = read(line);
-        let v = l.checks.verdict();
-        match v {
-            Verdict::Refused(f) => Identified {
-                verdict: Verdict::Refused(f),
-                caller: self,
-            },
-            Verdict::Accepted => {
-                let who = l.caller;
-                Identified {
-                    verdict: Verdict::Accepted,
-                    caller: who,
-                }
-            }
-        }
+        l.checks.result()?;
+        Ok(l.caller)
     }
 }

@@ -3,12 +3,13 @@
 
 ghost use Rattle.std.specs.Prelude.{◌≡◌, ◌+◌, ◌*◌, ◌-◌, ◌≤◌, ◌<◌, T, length, get_or};
 ghost use Rattle.std.proofs.Math.Seq.{paste};
+ghost use Rattle.refusal.specs.Results.{said_by, held_after};
 ghost use Rattle.lists.specs.Lists.{every};
 ghost use Rattle.syntax.specs.Limits.{max_streams, max_columns, max_rows, is_value};
 ghost use Rattle.ledger.specs.Records.{places_size, values_size, count_in, ledger_sound, undeclared_empty, times_steady, streams_steady, rows_sound, memory_sound};
-ghost use Rattle.ledger.specs.Calls.{begun, entered, clocked, clock_call, cleared, clear_call, row_place, with_rows, row_shown, Enters, Stored, RowCall};
+ghost use Rattle.ledger.specs.Calls.{begun, clocked, clock_call, cleared, clear_call, row_place, with_rows, row_shown, Enters, Stored, RowCall};
 
-use refusal::{Checks, Verdict};
+use refusal::{Checks, Refusal};
 use schema::Stream;
 use text::{Number, Time};
 
@@ -17,13 +18,6 @@ use text::{Number, Time};
 pub struct Ledger {
     pub clock: u32,
     pub rows: [u32; Stream::MOST],
-}
-
-// What a call says, and the ledger that it leaves.
-#[derive(Clone, Copy)]
-pub struct Entered {
-    pub verdict: Verdict,
-    pub ledger: Ledger,
 }
 
 impl Ledger {
@@ -80,37 +74,22 @@ impl Ledger {
         true
     }
 
-    // The verdict, with another ledger where it is accepted, and this one where it is refused.
-    fn entered(self, v: Verdict, next: Ledger) -> Entered
-        ensures { result ≡ entered v next self }
-    {
-        match v {
-            Verdict::Refused(f) => Entered {
-                verdict: Verdict::Refused(f),
-                ledger: self,
-            },
-            Verdict::Accepted => Entered {
-                verdict: Verdict::Accepted,
-                ledger: next,
-            },
-        }
-    }
-
     // Returns what `clock` does for a time, after what a line showed (`checks`).
-    pub fn clock_with(self, t: Time, checks: Checks) -> Entered
+    pub fn clock_with(self, t: Time, checks: Checks) -> Result<Ledger, Refusal>
         ensures { result ≡ clocked self t checks }
     {
         let mut c = checks;
         c.lent = !self.sound();
         c.bound = text::either(c.bound, t.beyond);
         c.back = t.value < self.clock;
+        c.result()?;
         let mut next = self;
         next.clock = t.value;
-        self.entered(c.verdict(), next)
+        Ok(next)
     }
 
-    // The clock call. Returns the verdict, and the ledger with the time, which may be any number; refused, the ledger as it was.
-    pub fn clock(self, t: i64) -> Entered
+    // The clock call. Returns the ledger with the time, which may be any number, or the refusal.
+    pub fn clock(self, t: i64) -> Result<Ledger, Refusal>
         ensures { result ≡ clock_call self t }
     {
         let n = Number {
@@ -122,18 +101,19 @@ impl Ledger {
     }
 
     // Returns what `clear` does, after what a line showed (`checks`).
-    pub fn clear_with(self, checks: Checks) -> Entered
+    pub fn clear_with(self, checks: Checks) -> Result<Ledger, Refusal>
         ensures { result ≡ cleared self checks }
     {
         let mut c = checks;
         c.lent = !self.sound();
+        c.result()?;
         let mut next = self;
         next.rows = [0; Stream::MOST];
-        self.entered(c.verdict(), next)
+        Ok(next)
     }
 
-    // The clear call. Returns the verdict, and the ledger with no rows and its clock; refused, the ledger as it was.
-    pub fn clear(self) -> Entered
+    // The clear call. Returns the ledger with no rows and its clock, or the refusal.
+    pub fn clear(self) -> Result<Ledger, Refusal>
         ensures { result ≡ clear_call self }
     {
         self.clear_with(Checks::new())
@@ -334,28 +314,17 @@ impl Ledger {
         times: &mut [u32],
         values: &mut [i32],
         checks: Checks,
-    ) -> Entered
-        ensures { Enters (record { ledger = self; names = names.now; times = times.old; values = values.old }) s vs.now checks (record { ledger = result.ledger; names = names.now; times = times.new; values = values.new }) result.verdict }
+    ) -> Result<Ledger, Refusal>
+        ensures { Enters (record { ledger = self; names = names.now; times = times.old; values = values.old }) s vs.now checks (record { ledger = held_after result self; names = names.now; times = times.new; values = values.new }) (said_by result) }
     {
         let c = self.row_checks(names, s, vs.len(), times, values, checks);
-        let v = c.verdict();
-        match v {
-            Verdict::Refused(f) => Entered {
-                verdict: Verdict::Refused(f),
-                ledger: self,
-            },
-            Verdict::Accepted => {
-                self.store(s, vs, times, values);
-                Entered {
-                    verdict: Verdict::Accepted, // the row is stored
-                    ledger: self.with_row(s),
-                }
-            }
-        }
+        c.result()?;
+        self.store(s, vs, times, values);
+        Ok(self.with_row(s))
     }
 
-    // The row call: one row more of the stream of a number. Returns the verdict, and the ledger with one row more. Leaves the clock in its time and the values in its places,
-    // and all else as it was; refused, the ledger and all places as they were.
+    // The row call: one row more of the stream of a number. Returns the ledger with one row more, or the refusal. Leaves the clock in its time and the values in its places,
+    // and all else as it was; refused, all places as they were.
     pub fn row(
         self,
         names: &[u64],
@@ -363,8 +332,8 @@ impl Ledger {
         vs: &[i32],
         times: &mut [u32],
         values: &mut [i32],
-    ) -> Entered
-        ensures { RowCall (record { ledger = self; names = names.now; times = times.old; values = values.old }) s vs.now (record { ledger = result.ledger; names = names.now; times = times.new; values = values.new }) result.verdict }
+    ) -> Result<Ledger, Refusal>
+        ensures { RowCall (record { ledger = self; names = names.now; times = times.old; values = values.old }) s vs.now (record { ledger = held_after result self; names = names.now; times = times.new; values = values.new }) (said_by result) }
     {
         known(vs);
         self.row_with(names, s, vs, times, values, Checks::new())

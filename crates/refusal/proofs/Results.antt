@@ -53,6 +53,15 @@ pub ruleset verdict_ends = (verdict_ok, verdict_err)
 
 -- ---- what is held after a result
 
+module _ {A : Type 0} (v : Said) (new : A) {r : Result A Refusal} where
+  pub given_refused : {f : Refusal} → v ≡ Err f → r ≡ Err f → r ≡ giving v new
+  unfolding giving
+  given_refused e h = h ∙ sym (rw e)
+
+  pub given_accepted : v ≡ Ok tt → r ≡ Ok new → r ≡ giving v new
+  unfolding giving
+  given_accepted e h = h ∙ sym (rw e)
+
 module _ {A : Type 0} where
   pub said_giving : (v : Said) (x : A) → said_by (giving v x) ≡ v
   unfolding giving said_by
