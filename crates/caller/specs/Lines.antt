@@ -1,10 +1,9 @@
 -- The `caller` line: what is read of it, what it says and what it leaves.
-use Rattle.std.specs.Prelude.{map, Bool, true, false, ◌&&◌, ◌||◌, not, cond, suc, min, pos, ltb, length, take}
+use Rattle.std.specs.Prelude.{map, Bool, true, false, ◌&&◌, ◌||◌, not, cond, suc, min, pos, ltb, length, take, Result}
 use Rattle.std.proofs.Math.Option.{Option, none, some}
-use Rattle.refusal.specs.Numbers.{verdict_of}
+use Rattle.refusal.specs.Results.{result_of, giving}
 use Rattle.refusal.specs.Checks.{first, unread, shown}
-use Rattle.refusal.specs.declared.Verdict.{Verdict}
-use Rattle.refusal.specs.declared.Verdict.TheVariants.{Accepted, Refused}
+use Rattle.refusal.specs.declared.Refusal.{Refusal}
 use Rattle.syntax.specs.Grammar as G
 use Rattle.syntax.specs.Grammar.{Bytes}
 use Rattle.syntax.specs.Limits.{max_line, max_columns, max_roles, max_entries}
@@ -17,7 +16,6 @@ use Rattle.items.specs.declared.Names.{Names}
 use Rattle.items.specs.declared.Entries.{Entries}
 use Rattle.caller.specs.declared.Caller.{Caller}
 use Rattle.caller.specs.declared.CallerLine.{CallerLine}
-use Rattle.caller.specs.declared.Identified.{Identified}
 use Rattle.caller.specs.Callers.{no_caller}
 
 -- ---- what is read of it
@@ -61,16 +59,12 @@ line_read rs es =
       caller = caller_read rs es;
     }
 
--- ---- what it says and leaves
+-- ---- what it says
 
 unfoldable pub with_caller : Caller → Option G.Caller → Caller
 with_caller w none = w
 with_caller w (some m) = caller_made m
 
-unfoldable pub outcome : Verdict → Caller → Caller → Identified
-outcome Accepted new old = record { verdict = Accepted; caller = new }
-outcome (Refused f) new old = record { verdict = Refused f; caller = old }
-
--- the first check that fails, and the caller as it was; or the caller of the line
-unfoldable pub identified : Caller → Bytes → Identified
-identified w bs = outcome (verdict_of (first (caller_table bs))) (with_caller w (parse_as G.caller bs)) w
+-- the first check that fails; or the caller of the line
+unfoldable pub identified : Caller → Bytes → Result Caller Refusal
+identified w bs = giving (result_of (first (caller_table bs))) (with_caller w (parse_as G.caller bs))

@@ -1,7 +1,7 @@
 // The caller by value: at most four roles and four profile entries, and the `caller` line that gives one.
 #![tactic(auto)]
 
-ghost use Rattle.std.specs.Prelude.{◌≡◌, T, get_or, take};
+ghost use Rattle.std.specs.Prelude.{◌≡◌, T, take};
 ghost use Rattle.lists.specs.Lists.{every, distinct, same_list};
 ghost use Rattle.syntax.specs.Limits.{max_roles, max_entries, is_value};
 ghost use Rattle.items.specs.Items.{once};
@@ -9,7 +9,7 @@ ghost use Rattle.caller.specs.Callers.{caller_sound, no_caller, code_valid, name
 ghost use Rattle.caller.specs.Lines.{caller_line, unread_line, line_read, caller_read, identified};
 
 use items::{Entries, Names};
-use refusal::{Checks, Verdict};
+use refusal::{Checks, Refusal};
 use text::{Line, Word};
 
 // Names are numbers, as `text` reads them.
@@ -30,55 +30,26 @@ pub struct CallerLine {
     pub caller: Caller,
 }
 
-// The verdict, and the caller of the line, or the one that was.
-#[derive(Clone, Copy)]
-pub struct Identified {
-    pub verdict: Verdict,
-    pub caller: Caller,
-}
-
 // ---- names as numbers
 
 // Whether each of the first n numbers is a name.
 fn all_valid(codes: [u64; Caller::ROLES], n: usize) -> bool
     ensures { result ≡ every code_valid (take n codes) }
 {
-    let mut i: usize = 0;
-    while i < Caller::ROLES {
-        if n <= i {
-            return true;
-        }
-        if !schema::valid_name(codes[i]) {
+    for code in &codes[..n.min(Caller::ROLES)] {
+        if !schema::valid_name(*code) {
             return false;
         }
-        i += 1;
     }
     true
-}
-
-// A number by its place, or 0 past the last place.
-fn code_at(codes: [u64; Caller::ROLES], i: usize) -> u64
-    ensures { result ≡ get_or codes i 0 }
-{
-    if Caller::ROLES <= i {
-        return 0;
-    }
-    codes[i]
 }
 
 // Whether of the first n numbers none stands twice, and so none of their names.
 fn none_twice(codes: [u64; Caller::ROLES], n: usize) -> bool
     ensures { (result ≡ once codes n) × (result ≡ distinct same_list (names_of codes n)) }
 {
-    let a = code_at(codes, 0);
-    let b = code_at(codes, 1);
-    let c = code_at(codes, 2);
-    let d = code_at(codes, 3);
-    let six = [a, b, c, d, 0, 0];
-    if Caller::ROLES < n {
-        return items::once(six, Caller::ROLES);
-    }
-    items::once(six, n)
+    let six = [codes[0], codes[1], codes[2], codes[3], 0, 0];
+    items::once(six, n.min(Caller::ROLES))
 }
 
 // Whether the first n numbers are names, and none stands twice.
@@ -95,10 +66,8 @@ fn all_sound(codes: [u64; Caller::ROLES], n: usize) -> bool
 fn known(values: [i32; Caller::ENTRIES])
     ensures { T (every is_value values) }
 {
-    let mut i: usize = 0;
-    while i < Caller::ENTRIES {
-        let _v = values[i];
-        i += 1;
+    for v in &values {
+        let _v = *v;
     }
 }
 
@@ -120,11 +89,7 @@ fn unread(long: bool) -> CallerLine
 fn first_four(codes: [u64; Names::MOST]) -> [u64; Caller::ROLES]
     ensures { result ≡ take max_roles codes }
 {
-    let a = codes[0];
-    let b = codes[1];
-    let c = codes[2];
-    let d = codes[3];
-    [a, b, c, d]
+    [codes[0], codes[1], codes[2], codes[3]]
 }
 
 // Whether a name is too long, a value beyond 32 bits, or there are too many roles or entries.
@@ -258,24 +223,12 @@ impl Caller {
         all_sound(name, self.entries as usize)
     }
 
-    // The caller line. Returns the verdict, and the caller that the line names; refused, the caller as it was.
-    pub fn with_line(self, line: &[u8]) -> Identified
+    // The caller line. Returns the caller that the line names, or the refusal, after which the caller is who it was.
+    pub fn with_line(self, line: &[u8]) -> Result<Caller, Refusal>
         ensures { result ≡ identified self line.now }
     {
         let l = read(line);
-        let v = l.checks.verdict();
-        match v {
-            Verdict::Refused(f) => Identified {
-                verdict: Verdict::Refused(f),
-                caller: self,
-            },
-            Verdict::Accepted => {
-                let who = l.caller;
-                Identified {
-                    verdict: Verdict::Accepted,
-                    caller: who,
-                }
-            }
-        }
+        l.checks.result()?;
+        Ok(l.caller)
     }
 }

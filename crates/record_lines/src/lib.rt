@@ -2,13 +2,14 @@
 #![tactic(auto)]
 
 ghost use Rattle.std.specs.Prelude.{◌≡◌, min};
+ghost use Rattle.refusal.specs.Results.{said_by, held_after};
 ghost use Rattle.syntax.specs.Limits.{max_columns};
 ghost use Rattle.record_lines.specs.Lines.{clock_line, unread_clock, clear_line, row_line, unread_row, row_read};
 ghost use Rattle.record_lines.specs.Calls.{clock_line_call, clear_line_call, RowLineCall};
 
 use items::{Names, Values};
-use ledger::{Entered, Ledger};
-use refusal::Checks;
+use ledger::Ledger;
+use refusal::{Checks, Refusal};
 use text::{Line, Name, Time, Word};
 
 // What is read of a clock line.
@@ -141,8 +142,8 @@ pub fn read_row(s: &[u8]) -> RowLine
     row_of(n, vs)
 }
 
-// The clock line. Returns the verdict, and the ledger with its time; refused, the ledger as it was.
-pub fn clock_line(l: Ledger, line: &[u8]) -> Entered
+// The clock line. Returns the ledger with its time, or the refusal.
+pub fn clock_line(l: Ledger, line: &[u8]) -> Result<Ledger, Refusal>
     ensures { result ≡ clock_line_call l line.now }
 {
     let c = read_clock(line);
@@ -151,8 +152,8 @@ pub fn clock_line(l: Ledger, line: &[u8]) -> Entered
     l.clock_with(time, checks)
 }
 
-// The clear line. Returns the verdict, and the ledger with no rows; refused, the ledger as it was.
-pub fn clear_line(l: Ledger, line: &[u8]) -> Entered
+// The clear line. Returns the ledger with no rows, or the refusal.
+pub fn clear_line(l: Ledger, line: &[u8]) -> Result<Ledger, Refusal>
     ensures { result ≡ clear_line_call l line.now }
 {
     l.clear_with(read_clear(line))
@@ -169,15 +170,15 @@ fn kept(count: u32) -> usize
     Names::MOST
 }
 
-// The row line. Returns the verdict, and the ledger with one row more. Leaves the row in its place, and all else as it was; refused, the ledger and all places as they were.
+// The row line. Returns the ledger with one row more, or the refusal. Leaves the row in its place, and all else as it was; refused, all places as they were.
 pub fn row_line(
     l: Ledger,
     names: &[u64],
     line: &[u8],
     times: &mut [u32],
     values: &mut [i32],
-) -> Entered
-    ensures { RowLineCall (record { ledger = l; names = names.now; times = times.old; values = values.old }) line.now (record { ledger = result.ledger; names = names.now; times = times.new; values = values.new }) result.verdict }
+) -> Result<Ledger, Refusal>
+    ensures { RowLineCall (record { ledger = l; names = names.now; times = times.old; values = values.old }) line.now (record { ledger = held_after result l; names = names.now; times = times.new; values = values.new }) (said_by result) }
 {
     let w = read_row(line);
     let checks = w.checks;

@@ -1,10 +1,8 @@
 -- The stream call: what is read of its line, its table, and what it leaves.
 use Rattle.std.specs.Prelude.{◌≡◌, List, ◌∷◌, map, Bool, true, false, ◌&&◌, ◌||◌, not, cond, ℕ, suc, min, leb, ltb, length, replicate, take}
 use Rattle.std.proofs.Math.Option.{Option, none, some}
-use Rattle.refusal.specs.Numbers.{verdict_of}
+use Rattle.refusal.specs.Results.{Said, result_of, settled}
 use Rattle.refusal.specs.Checks.{Check, refuse, first, unread, shown}
-use Rattle.refusal.specs.declared.Verdict.{Verdict}
-use Rattle.refusal.specs.declared.Verdict.TheVariants.{Accepted, Refused}
 use Rattle.refusal.specs.declared.Refusal.TheVariants.{Lent}
 use Rattle.lists.specs.Lists.{every}
 use Rattle.syntax.specs.Grammar as G
@@ -66,11 +64,7 @@ unfoldable pub with_stream : List ℕ → Option Stream → List ℕ
 with_stream ns none = ns
 with_stream ns (some s) = with_codes ns (code_of s.name) (first_of max_columns 0 (map code_of s.columns))
 
-unfoldable pub names_after : Verdict → List ℕ → Option Stream → List ℕ
-names_after Accepted ns o = with_stream ns o
-names_after (Refused f) ns o = ns
-
 -- the first check that fails, and the names as they were; or the names with those of the line's stream in the next places, and all others as they were
-pub record Declares (ns : List ℕ) (bs : Bytes) (ns' : List ℕ) (v : Verdict) : Type 0 where
-  pub said : v ≡ verdict_of (first (declare_table ns bs))
-  pub left : ns' ≡ names_after v ns (parse_as G.stream bs)
+pub record Declares (ns : List ℕ) (bs : Bytes) (ns' : List ℕ) (v : Said) : Type 0 where
+  pub said : v ≡ result_of (first (declare_table ns bs))
+  pub left : ns' ≡ settled v ns (with_stream ns (parse_as G.stream bs))

@@ -7,7 +7,7 @@ ghost use Rattle.schema.specs.Schemas.{code_free};
 ghost use Rattle.stream_line.specs.Declaring.{unread_line, line_read, stream_line, Declares};
 
 use items::Names;
-use refusal::{Checks, Verdict};
+use refusal::{Checks, Refusal};
 use schema::Stream;
 use text::{Line, Name, Word};
 
@@ -37,15 +37,10 @@ fn unread(long: bool) -> StreamLine
 fn all_free(codes: [u64; Names::MOST], n: usize) -> bool
     ensures { result ≡ every code_free (take n codes) }
 {
-    let mut i: usize = 0;
-    while i < Names::MOST {
-        if n <= i {
-            return true;
-        }
-        if !schema::free_name(codes[i]) {
+    for code in &codes[..n.min(Names::MOST)] {
+        if !schema::free_name(*code) {
             return false;
         }
-        i += 1;
     }
     true
 }
@@ -110,8 +105,8 @@ pub fn read(s: &[u8]) -> StreamLine
     line_of(n, cs)
 }
 
-// Returns the verdict. Leaves the names with the stream of the line in the next places and all others as they were; refused, all as they were.
-pub fn declare(names: &mut [u64], line: &[u8]) -> Verdict
+// Returns that it is accepted, or the refusal. Leaves the names with the stream of the line in the next places and all others as they were; refused, all as they were.
+pub fn declare(names: &mut [u64], line: &[u8]) -> Result<(), Refusal>
     ensures { Declares names.old line.now names.new result }
 {
     let l = read(line);
@@ -124,12 +119,7 @@ pub fn declare(names: &mut [u64], line: &[u8]) -> Verdict
         schema::stream_number(names, stream.name) < n,
         checks.repeated,
     );
-    let v = checks.verdict();
-    match v {
-        Verdict::Refused(f) => Verdict::Refused(f),
-        Verdict::Accepted => {
-            schema::put_stream(names, stream);
-            Verdict::Accepted
-        }
-    }
+    checks.result()?;
+    schema::put_stream(names, stream);
+    Ok(())
 }
