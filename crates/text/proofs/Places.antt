@@ -9,7 +9,7 @@ use native.Mathlib.Numerals.{add-one}
 use lib.IntN.{ℤ}
 use lib.Dec.{T, eqb, ltb, ltb→lt, leb}
 use lib.ListN.{length, drop, get_or, drop_of_length-le}
-use lib.Seq.{drop-cons, drop-drop, drop-append_seam}
+use lib.Seq.{drop-cons}
 use mir.Syntax.{w64}
 use mir.Val.{Fits}
 use borrow.Author.Tests.{eq-eqb, ne_eqb, eqb-true, eqb-false, ltb-true, ltb-false, le-leb, lt-leb}
@@ -18,20 +18,19 @@ use Rattle.lists.proofs.Laws.{cond_cases}
 use Rattle.syntax.specs.Grammar.{Bytes, bytes, eq, stream, grant, clock, row, clear, caller, ask, line, op_word, right_word, verb_word}
 use Rattle.syntax.specs.Readers.{Read, Reader, bind, ensure, ◌>>=◌, ◌>>◌, give, byte, run, past, plain, among, read_word, read_head, itself, read_open, read_name, read_int, head_word, heads, rights, kind_word, kinds, word_opens, part_opens, read_part}
 use Rattle.syntax.specs.Limits.{short}
-use Rattle.syntax.proofs.Steps.{from, done, run_past}
+use Rattle.syntax.proofs.Steps.{from, done}
 use Rattle.syntax.proofs.Leaving.{open_leaves, head_less}
-use Rattle.text.specs.declared.Class.{Class}
 use Rattle.text.specs.declared.Class.TheVariants.{Plain}
 use Rattle.text.specs.declared.Word.{Word}
 use Rattle.text.specs.declared.Kept.{Kept}
 use Rattle.text.specs.declared.Time.{Time}
 use Rattle.text.specs.declared.Name.{Name}
 use Rattle.text.specs.declared.Number.{Number}
-use Rattle.text.specs.Words.{class_of, run_end, code_of, name_of, name_read, name_at, clamp, number_read, number_at, kept_of, time_of}
+use Rattle.text.specs.Words.{class_of, code_of, name_of, name_read, name_at, clamp, number_read, number_at, kept_of, time_of}
 use Rattle.text.specs.Keywords.{keyword?, word_at, WordAt, coded, place, opened_at, part_at, closes_at, keywords_compute}
 use Rattle.text.specs.Readings.{whole, closed}
 use Rattle.text.proofs.Codes.{word_above, word_back}
-use Rattle.text.proofs.Runs.{inside}
+use Rattle.text.proofs.Runs.{inside, run_left}
 use Rattle.text.proofs.Keywords.{among_coded}
 use Rattle.text.proofs.Ranges.{kept_clamp, time_clamp}
 use Rattle.text.proofs.Views.{place_none, place_some, view_none, view_here, name_view, int_view}
@@ -73,14 +72,6 @@ module _ (s : Bytes) (p : ℕ) {b : ℕ} (e : b ≡ get_or s p 0) where
 
   pub close_not : (b ≡ 41 → ⊥) → byte 41 (drop p s) ≡ none
   close_not f = byte_not 41 f
-
--- what follows a run of bytes
-pub run_left : (c : Class) (s : Bytes) (at : ℕ) {e : ℕ} → e ≡ run_end c s at → drop e s ≡ past (class_of c) (drop at s)
-unfolding run_end
-run_left c s at q =
-    rw q (sym (drop-drop (length (run (class_of c) (drop at s))) at s)
-    ∙ ap (drop (length (run (class_of c) (drop at s)))) (sym (run_past (class_of c) (drop at s)))
-    ∙ drop-append_seam (run (class_of c) (drop at s)) (past (class_of c) (drop at s)))
 
 -- ---- names
 
