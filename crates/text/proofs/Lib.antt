@@ -11,3 +11,4 @@ pub mod Places
 pub mod Lines
 pub mod Fuel
 pub mod Flags
+pub mod Found

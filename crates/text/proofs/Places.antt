@@ -113,17 +113,17 @@ pub record Spells (c : ℕ) (w : Bytes) : Type 0 where
 pub spelt_name : {c : ℕ} {w : Bytes} → Spells c w → name_of c ≡ w
 spelt_name {w} k = ap name_of k.code ∙ word_back w k.keyword
 
-spelt_above : {c : ℕ} {w : Bytes} → Spells c w → 0 < c
+pub spelt_above : {c : ℕ} {w : Bytes} → Spells c w → 0 < c
 spelt_above {w} k = let h = word_above w k.keyword in let e = k.code in omega arith
 
 -- an opening bracket and a keyword, as readers see them
-open_what : (w bs : Bytes) (r : Read Bytes) → read_open w bs ≡ some r → r.what ≡ w
+pub open_what : (w bs : Bytes) (r : Read Bytes) → read_open w bs ≡ some r → r.what ≡ w
 unfolding read_open read_head read_word ◌>>◌ among itself
 open_what w bs r e =
     from _ _ e (λ b p q. from _ _ q (λ h u v. cond_cases (same_list w (run plain b.left)) (some w) none u
     (λ t d. done (λ x. x.what ≡ w) v (done (λ x. x ≡ w) d refl)) (λ t d. absurd (none-ne-some h d))))
 
-opens_not : (w bs : Bytes) → read_open w bs ≡ none → word_opens w bs ≡ false
+pub opens_not : (w bs : Bytes) → read_open w bs ≡ none → word_opens w bs ≡ false
 unfolding word_opens read_open read_head read_word ◌>>◌ byte ensure bind among itself
 opens_not w [] e = refl
 opens_not w (b ∷ bs) e = go (eqb 40 b) (same_list w (run plain bs)) refl e
@@ -135,7 +135,7 @@ opens_not w (b ∷ bs) e = go (eqb 40 b) (same_list w (run plain bs)) refl e
     go true false f e = refl
     go false y f e = refl
 
-opens_is : (w bs : Bytes) (r : Read Bytes) → read_open w bs ≡ some r → word_opens w bs ≡ true
+pub opens_is : (w bs : Bytes) (r : Read Bytes) → read_open w bs ≡ some r → word_opens w bs ≡ true
 unfolding word_opens read_open read_head read_word ◌>>◌ byte ensure bind among itself
 opens_is w [] r e = absurd (none-ne-some r e)
 opens_is w (b ∷ bs) r e = go (eqb 40 b) (same_list w (run plain bs)) refl e
