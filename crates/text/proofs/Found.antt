@@ -9,7 +9,7 @@ use lib.IntN.{ℤ, pos}
 use lib.Dec.{eqb, ltb}
 use lib.ListN.{length, drop}
 use borrow.Author.Tests.{ne_eqb}
-use Rattle.std.specs.Prelude.{unwrap_or, is_none}
+use Rattle.std.specs.Prelude.{unwrap_or, is_some, is_none}
 use Rattle.syntax.specs.Grammar.{Bytes, Verb, Body, right_word, verb_word}
 use Rattle.syntax.specs.Limits.{max_line, short, is_value, is_time, natural}
 use Rattle.syntax.specs.Readers.{Read, Reader, bind, ensure, ◌>>=◌, ◌>>◌, give, byte, read_word, read_open, read_name, read_int, head_word, heads, kind_word, kinds, rights, word_opens, part_opens, read_part, read_body, read_as, parse, parse_as}
@@ -75,6 +75,14 @@ value_is z e d = e ∙ ap value_given d ∙ value_clamp z
 
 pub time_is : (z : ℤ) {t : Found ℕ} {x : ℤ} → t ≡ time_given x → x ≡ clamp z → t ≡ time_given z
 time_is z e d = e ∙ ap time_given d ∙ given_clamp z
+
+-- what `is_none` ensures
+pub none_is : {A : Type 0} (o : Found A) {b : Bool} → is_some o ≡ not b → b ≡ is_none o
+none_is o {b} e = go b ∙ ap not (sym e)
+  where
+    go : (x : Bool) → x ≡ not (not x)
+    go true = refl
+    go false = refl
 
 -- whether it is kept, and as what
 pub value_flag : (z : ℤ) → is_none (value_given z) ≡ not (is_value z)
