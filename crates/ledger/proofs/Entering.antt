@@ -19,7 +19,8 @@ use Rattle.refusal.proofs.Results.{result_passed}
 use Rattle.lists.proofs.Laws.{true_T, or_last}
 use Rattle.syntax.specs.Limits.{max_streams, max_columns, max_rows, is_time, natural}
 use Rattle.calls.specs.Tables.{clock_checks}
-use Rattle.text.specs.Words.{time_kept, time_of}
+use Rattle.text.specs.Words.{time_kept, time_given}
+use Rattle.text.proofs.Found.{time_flag, time_or}
 use Rattle.schema.specs.Schemas.{streams_in, width_in}
 use Rattle.schema.proofs.Tests.{streams_most}
 use Rattle.schema.proofs.Soundness.{width_most}
@@ -31,9 +32,9 @@ use Rattle.ledger.proofs.Soundness.{sound_parts}
 -- ---- the clock
 
 -- a time as the code keeps it: one that is none is refused, whatever is kept of it
-pub clock_same : (l : Ledger) (t : ℤ) → clocked l (time_of t) no_fault ≡ clock_call l t
-unfolding giving clocked clock_shown clock_call clock_table clock_checks time_of time_kept natural table first refuse
-clock_same l t = go (ledger_sound l) (is_time t)
+pub clock_same : (l : Ledger) (t : ℤ) → clocked l (time_given t) no_fault ≡ clock_call l t
+unfolding giving clocked clock_shown clock_call clock_table clock_checks time_kept natural table first refuse
+clock_same l t = rw (time_flag t, time_or t) (go (ledger_sound l) (is_time t))
   where
     go : (a b : Bool)
         → giving {A = Ledger} (result_of (cond (not a) (some Lent) (cond (not b) (some Bound) (cond (ltb (cond b (natural t) 0) l.clock) (some ClockBack) none)))) (record { clock = cond b (natural t) 0; rows = l.rows })

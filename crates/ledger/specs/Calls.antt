@@ -1,5 +1,5 @@
 -- What the clock, row and clear calls say, and what they leave: every place that is lent, accepted and refused.
-use Rattle.std.specs.Prelude.{◌≡◌, List, [], ◌∷◌, ◌||◌, not, ℕ, suc, ◌+◌, ◌*◌, ℤ, leb, ltb, eqb, length, set, replicate, Result}
+use Rattle.std.specs.Prelude.{◌≡◌, List, [], ◌∷◌, ◌||◌, not, ℕ, suc, ◌+◌, ◌*◌, ℤ, leb, ltb, eqb, length, set, replicate, Result, is_none, unwrap_or}
 use Rattle.std.proofs.Math.Seq.{paste}
 use Rattle.refusal.specs.Results.{Said, result_of, giving, settled}
 use Rattle.refusal.specs.Checks.{Check, refuse, first, table}
@@ -8,7 +8,7 @@ use Rattle.refusal.specs.declared.Refusal.TheVariants.{Lent}
 use Rattle.refusal.specs.declared.Refusal.{Refusal}
 use Rattle.syntax.specs.Limits.{max_streams, max_columns, max_rows, natural}
 use Rattle.calls.specs.Tables.{clock_checks, row_checks}
-use Rattle.text.specs.declared.Time.{Time}
+use Rattle.text.specs.Words.{Found}
 use Rattle.schema.specs.Schemas.{streams_in, width_in}
 use Rattle.ledger.specs.declared.Ledger.{Ledger}
 use Rattle.ledger.specs.Records.{Memory, record_of, count_in, ledger_sound, memory_sound}
@@ -19,27 +19,27 @@ begun = record { clock = 0; rows = replicate max_streams 0 }
 
 -- ---- clock
 
--- what is wrong with it, beside what a line showed before
-unfoldable pub clock_shown : Ledger → Time → Checks → Checks
+-- what is wrong with a time, None where a number is none, beside what a line showed before
+unfoldable pub clock_shown : Ledger → Found ℕ → Checks → Checks
 clock_shown l t c =
     record {
       lent = not (ledger_sound l);
       long = c.long;
       malformed = c.malformed;
-      bound = c.bound || t.beyond;
+      bound = c.bound || is_none t;
       undeclared = c.undeclared;
       repeated = c.repeated;
       misplaced = c.misplaced;
       window = c.window;
-      back = ltb t.value l.clock;
+      back = ltb (unwrap_or t 0) l.clock;
       full = c.full;
       unrouted = c.unrouted;
       many = c.many;
       room = c.room;
     }
 
-unfoldable pub clocked : Ledger → Time → Checks → Result Ledger Refusal
-clocked l t c = giving (result_of (first (table (clock_shown l t c)))) (record { clock = t.value; rows = l.rows })
+unfoldable pub clocked : Ledger → Found ℕ → Checks → Result Ledger Refusal
+clocked l t c = giving (result_of (first (table (clock_shown l t c)))) (record { clock = unwrap_or t 0; rows = l.rows })
 
 -- the call
 unfoldable pub clock_table : Ledger → ℤ → List Check

@@ -11,7 +11,7 @@ ghost use Rattle.ledger.specs.Calls.{begun, clocked, clock_call, cleared, clear_
 
 use refusal::{Checks, Refusal};
 use schema::Stream;
-use text::{Number, Time};
+use text::{NumberAt, Time};
 
 #[repr(C)]
 #[derive(Clone, Copy)]
@@ -74,17 +74,18 @@ impl Ledger {
         true
     }
 
-    // Returns what `clock` does for a time, after what a line showed (`checks`).
-    pub fn clock_with(self, t: Time, checks: Checks) -> Result<Ledger, Refusal>
+    // Returns what `clock` does for a time, None where a number is none, after what a line showed (`checks`).
+    pub fn clock_with(self, t: Option<u32>, checks: Checks) -> Result<Ledger, Refusal>
         ensures { result ≡ clocked self t checks }
     {
+        let time = t.unwrap_or(0);
         let mut c = checks;
         c.lent = !self.sound();
-        c.bound = text::either(c.bound, t.beyond);
-        c.back = t.value < self.clock;
+        c.bound |= t.is_none();
+        c.back = time < self.clock;
         c.result()?;
         let mut next = self;
-        next.clock = t.value;
+        next.clock = time;
         Ok(next)
     }
 
@@ -92,11 +93,7 @@ impl Ledger {
     pub fn clock(self, t: i64) -> Result<Ledger, Refusal>
         ensures { result ≡ clock_call self t }
     {
-        let n = Number {
-            ok: true,
-            value: t,
-            next: 0,
-        };
+        let n = NumberAt { value: t, next: 0 };
         self.clock_with(n.time(), Checks::new())
     }
 
