@@ -24,7 +24,7 @@ use Rattle.ledger.specs.declared.Ledger.{Ledger}
 use Rattle.ledger.specs.Records.{ledger_sound}
 use Rattle.ledger.specs.Calls.{clock_shown, clocked, clock_table, clock_call, clear_shown, cleared}
 use Rattle.ledger.proofs.Entering.{clock_same}
-use Rattle.record_lines.specs.Lines.{unread_clock, clock_of, clock_line, clear_of, clear_line}
+use Rattle.record_lines.specs.Lines.{unread_clock, clock_given, clock_of, clock_line, clear_of, clear_line}
 use Rattle.record_lines.specs.declared.ClockLine.{ClockLine}
 use Rattle.record_lines.specs.Calls.{clock_line_table, with_clock, clock_line_call, clear_line_table, clear_line_call}
 
@@ -61,7 +61,7 @@ stays false r new other = refl
 clock_made : (l : Ledger) (bs : Bytes) (b : Bool) → ltb max_line (length bs) ≡ b → (o : Option ℤ) → parse_as G.clock bs ≡ o
     → clocked l (cond b (unread_clock true) (clock_of o)).time (cond b (unread_clock true) (clock_of o)).checks
     ≡ giving (result_of (first (refuse Lent (not (ledger_sound l)) ∷ written 0 bs o (clock_checks l.clock)))) (with_clock l o)
-unfolding flat clock_of unread_clock clocked clock_shown table first refuse with_clock
+unfolding flat clock_of clock_given unread_clock clocked clock_shown table first refuse with_clock
 clock_made l bs true e o p = rw (front_long (ledger_sound l) bs (clock_checks l.clock) e o) (stays (ledger_sound l) Bound _ _)
 clock_made l bs false e none p = rw (front_none (ledger_sound l) bs (clock_checks l.clock) e) (stays (ledger_sound l) Malformed _ _)
 clock_made l bs false e (some n) p =

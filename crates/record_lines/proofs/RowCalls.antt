@@ -3,13 +3,13 @@ use mathlib.Core.Path.{◌≡◌, refl, sym, ap, ap₂, ◌∙◌}
 use mathlib.Core.List.{List, [], ◌∷◌, map}
 use mathlib.Core.Bool.{Bool, true, false, not, cond}
 use mathlib.Core.Option.{Option, none, some}
-use Prim.Native.Nat.{ℕ, ◌-◌, min}
+use Prim.Native.Nat.{ℕ, min}
 use native.Mathlib.Omega.{arith}
 use lib.IntN.{ℤ, pos}
 use lib.Dec.{T, leb, ltb, eqb}
-use lib.ListN.{length, take, drop}
+use lib.ListN.{length, take}
 use borrow.Author.Tests.{ltb-true, ltb-false, ne_eqb}
-use Rattle.std.specs.Prelude.{Ok, Err}
+use Rattle.std.specs.Prelude.{Ok}
 use Rattle.refusal.specs.Results.{Said, result_of}
 use Rattle.refusal.specs.Checks.{refuse, first, table, no_fault}
 use Rattle.refusal.specs.declared.Refusal.{Refusal}
@@ -36,7 +36,7 @@ use Rattle.schema.proofs.Soundness.{width_most}
 use Rattle.ledger.specs.Records.{Memory, record_of, memory_sound}
 use Rattle.ledger.specs.Calls.{row_shown, row_table, with_row, Enters}
 use Rattle.ledger.proofs.Told.{row_told}
-use Rattle.record_lines.specs.Lines.{unread_row, row_of, row_line}
+use Rattle.record_lines.specs.Lines.{unread_row, row_given, row_of, row_line}
 use Rattle.record_lines.specs.declared.RowLine.{RowLine}
 use Rattle.record_lines.specs.Calls.{row_line_table, with_row_line, RowLineCall}
 use Rattle.record_lines.proofs.Calls.{front_long, front_none, front_some}
@@ -97,7 +97,7 @@ module _ (m : Memory) (bs : Bytes) (short_line : ltb max_line (length bs) ≡ fa
 
   -- a name too long, or a value beyond its range
   over_bound : row_bounded w ≡ false → RowSame m bs (some w) x
-  unfolding row_of row_shown row_line_checks table first refuse
+  unfolding row_of row_given row_shown row_line_checks table first refuse
   over_bound e = refused_both m bs (some w) x Bound (rw e) (said_read ∙ rw e)
 
   module _ (e : row_bounded w ≡ true) where
@@ -113,7 +113,7 @@ module _ (m : Memory) (bs : Bytes) (short_line : ltb max_line (length bs) ≡ fa
         ap name_of (code_named w.name (n, within.0)) ∙ name_back w.name n within.0
 
     same_stream : stream_of m x ≡ stream_number (schema_of m.names) w.name
-    unfolding row_of
+    unfolding row_of row_given
     same_stream = ap (stream_number (schema_of m.names)) named
 
     said_bounded : says m bs (some w) ≡ result_of (first (row_table m (stream_number (schema_of m.names) w.name) w.values))
@@ -126,7 +126,7 @@ module _ (m : Memory) (bs : Bytes) (short_line : ltb max_line (length bs) ≡ fa
 
     -- more values than any stream has columns
     over_columns : ltb max_columns (length w.values) ≡ true → RowSame m bs (some w) x
-    unfolding row_of row_shown table first refuse
+    unfolding row_of row_given row_shown table first refuse
     over_columns h =
         let f : eqb (length w.values) (width_in m.names (stream_number (schema_of m.names) w.name)) ≡ false =
         ne_eqb (length w.values) _ (λ z. let k = ltb-true max_columns (length w.values) h in let l = width_most m.names (stream_number (schema_of m.names) w.name) in omega arith) in
@@ -137,14 +137,14 @@ module _ (m : Memory) (bs : Bytes) (short_line : ltb max_line (length bs) ≡ fa
     -- as many as may be
     module _ (h : ltb max_columns (length w.values) ≡ false) where
       all_listed : listed x ≡ w.values
-      unfolding row_of
+      unfolding row_of row_given
       all_listed =
           let k = ltb-false max_columns (length w.values) h in
           let n : min (min (length w.values) 7) max_columns ≡ length w.values = omega arith in
           rw (n, values_kept w.values within.1) (first_taken max_columns (pos 0) w.values k)
 
       plain_checks : x.checks ≡ no_fault
-      unfolding row_of
+      unfolding row_of row_given
       plain_checks = rw (e, h)
 
       read_whole : RowSame m bs (some w) x
@@ -166,11 +166,10 @@ row_same m bs false h (some w) p = go (row_bounded w) refl (ltb max_columns (len
     go true e false f = read_whole m bs h w p e f
 
 pub row_lined : {m m' : Memory} (bs : Bytes) {w : RowLine} {n s : ℕ} {v : Said} → w ≡ row_line bs → s ≡ stream_number (schema_of m.names) (name_of w.name) → n ≡ min w.count max_columns
-    → Enters m s (take (n - 0) (drop 0 w.values)) w.checks m' v → RowLineCall m bs m' v
+    → Enters m s (take n w.values) w.checks m' v → RowLineCall m bs m' v
 unfolding row_line row_line_table
 row_lined {m} {m'} bs {w} {n} {s} {v} e f g d =
-    let k : n - 0 ≡ min w.count max_columns = omega arith in
-    let h : Enters m (stream_of m w) (listed w) w.checks m' v = rw (← f, ← k) d in
+    let h : Enters m (stream_of m w) (listed w) w.checks m' v = rw (← f, ← g) d in
     let r = row_same m bs (ltb max_line (length bs)) refl (parse_as G.row bs) refl in
     let q : RowSame m bs (parse_as G.row bs) w = rw e r in
     record { said = h.said ∙ q.said; left = h.left ∙ settled_same v m _ _ (λ a. q.left (sym h.said ∙ a)) }
