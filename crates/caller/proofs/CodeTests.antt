@@ -6,7 +6,7 @@ use Prim.Native.Nat.{ℕ, ◌<◌, min}
 use native.Mathlib.Omega.{arith}
 use lib.Dec.{eqb, eqb→eq}
 use lib.ListN.{length, take, drop, get_or, take-append-drop}
-use lib.Seq.{take_all, take-append-le}
+use lib.Seq.{take_all}
 use Rattle.std.proofs.lemmas.List.{take_min}
 use Rattle.lists.specs.Lists.{All, all_nil, all_cons, every, distinct, same_list, count_from}
 use Rattle.lists.proofs.Laws.{all_left, distinct_map, distinct_unmap, same_list_refl, same_truth}
@@ -44,11 +44,10 @@ module _ (xs : List ℕ) (l : length xs ≡ 4) (ha : Below (get_or xs 0 0)) (hb 
   below : All Below xs
   below = subst (λ l. All Below l) (four_of xs l) (all_cons ha (all_cons hb (all_cons hc (all_cons hd all_nil))))
 
-  pub twice : (n : ℕ) {r : Bool} {m : ℕ} → m ≡ min n 4 → r ≡ once (get_or xs 0 0 ∷ get_or xs 1 0 ∷ get_or xs 2 0 ∷ get_or xs 3 0 ∷ 0 ∷ 0 ∷ []) m → (r ≡ once xs n) × (r ≡ distinct same_list (names_of xs n))
+  pub twice : (n : ℕ) {r : Bool} {m : ℕ} → m ≡ min n 4 → r ≡ distinct eqb (take m xs) → (r ≡ once xs n) × (r ≡ distinct same_list (names_of xs n))
   unfolding once names_of
   twice n {r} {m} e f =
-      let four = get_or xs 0 0 ∷ get_or xs 1 0 ∷ get_or xs 2 0 ∷ get_or xs 3 0 ∷ [] in
-      let g : r ≡ distinct eqb (take n xs) = f ∙ ap (distinct eqb) (take-append-le m four (0 ∷ 0 ∷ []) (omega arith) ∙ ap (take m) (four_of xs l) ∙ first_few xs n l e) in
+      let g : r ≡ distinct eqb (take n xs) = f ∙ ap (distinct eqb) (first_few xs n l e) in
       (g, g ∙ distinct_names (all_take n xs below))
 
 -- ---- both

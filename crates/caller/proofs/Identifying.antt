@@ -26,7 +26,7 @@ use Rattle.calls.proofs.Written.{written_passes, written_short}
 use Rattle.caller.specs.declared.Caller.{Caller}
 use Rattle.caller.specs.declared.CallerLine.{CallerLine}
 use Rattle.caller.specs.Callers.{roles_in, entries_in, caller_of, caller_sound, no_caller}
-use Rattle.caller.specs.Lines.{caller_made, line_of, caller_line, with_caller, identified}
+use Rattle.caller.specs.Lines.{caller_made, line_given, line_of, caller_line, with_caller, identified}
 use Rattle.caller.proofs.Made.{made_back, made_sound}
 use Rattle.caller.proofs.LineChecks.{line_first}
 
@@ -42,7 +42,7 @@ module _ (bs : Bytes) (t : T (passes (caller_table bs))) where
   short_line = le-ltb max_line (length bs) (written_short 0 bs (parse_as G.caller bs) caller_checks t)
 
   read_caller : (w : Caller) → (caller_line bs).caller ≡ with_caller w (parse_as G.caller bs)
-  unfolding caller_line line_of with_caller
+  unfolding caller_line line_of line_given with_caller
   read_caller w = given (λ m e p. rw (short_line, e))
 
 -- ---- each return

@@ -6,9 +6,9 @@ ghost use Rattle.lists.specs.Lists.{every, distinct, same_list};
 ghost use Rattle.syntax.specs.Limits.{max_roles, max_entries, is_value};
 ghost use Rattle.items.specs.Items.{once};
 ghost use Rattle.caller.specs.Callers.{caller_sound, no_caller, code_valid, names_of, names_sound};
-ghost use Rattle.caller.specs.Lines.{caller_line, unread_line, line_read, caller_read, identified};
+ghost use Rattle.caller.specs.Lines.{caller_line, line_after, unread_line, line_read, caller_read, identified};
 
-use items::{Entries, Names};
+use items::{Entries, EntriesAt, Names, NamesAt};
 use refusal::{Checks, Refusal};
 use text::{Line, Word};
 
@@ -48,8 +48,7 @@ fn all_valid(codes: [u64; Caller::ROLES], n: usize) -> bool
 fn none_twice(codes: [u64; Caller::ROLES], n: usize) -> bool
     ensures { (result ≡ once codes n) × (result ≡ distinct same_list (names_of codes n)) }
 {
-    let six = [codes[0], codes[1], codes[2], codes[3], 0, 0];
-    items::once(six, n.min(Caller::ROLES))
+    items::distinct(&codes[..n.min(Caller::ROLES)])
 }
 
 // Whether the first n numbers are names, and none stands twice.
@@ -77,11 +76,9 @@ fn known(values: [i32; Caller::ENTRIES])
 fn unread(long: bool) -> CallerLine
     ensures { result ≡ unread_line long }
 {
-    let checks = Checks::unread(long);
-    let caller = Caller::new();
     CallerLine {
-        checks: checks,
-        caller: caller,
+        checks: Checks::unread(long),
+        caller: Caller::new(),
     }
 }
 
@@ -93,7 +90,7 @@ fn first_four(codes: [u64; Names::MOST]) -> [u64; Caller::ROLES]
 }
 
 // Whether a name is too long, a value beyond 32 bits, or there are too many roles or entries.
-fn beyond(rs: Names, es: Entries) -> bool
+fn beyond(rs: NamesAt, es: EntriesAt) -> bool
     ensures { result ≡ (line_read rs es).checks.bound }
 {
     if rs.long {
@@ -109,7 +106,7 @@ fn beyond(rs: Names, es: Entries) -> bool
 }
 
 // The caller of roles and entries.
-fn caller_of(rs: Names, es: Entries) -> Caller
+fn caller_of(rs: NamesAt, es: EntriesAt) -> Caller
     ensures { result ≡ caller_read rs es }
 {
     let codes = rs.codes;
@@ -126,7 +123,7 @@ fn caller_of(rs: Names, es: Entries) -> Caller
 }
 
 // The line of roles and entries.
-fn line_of(rs: Names, es: Entries) -> CallerLine
+fn line_of(rs: NamesAt, es: EntriesAt) -> CallerLine
     ensures { result ≡ line_read rs es }
 {
     let caller = caller_of(rs, es);
@@ -142,32 +139,27 @@ fn line_of(rs: Names, es: Entries) -> CallerLine
     }
 }
 
+// The caller line that a text is after its first word.
+fn line_after(s: &[u8], at: usize) -> Option<CallerLine>
+    ensures { result ≡ line_after s.now at }
+{
+    let rs = items::read_names(s, text::part(s, at, Word::ROLES)?)?;
+    // The entries follow the bracket that closes the roles.
+    let es = items::read_entries(s, text::skip(s, rs.next, b')')?)?;
+    if !text::closes_at(s, es.next) {
+        return None;
+    }
+    Some(line_of(rs, es))
+}
+
 // Returns the caller line that a text is, with what is wrong with it. This decides refusal 1 of caller lines.
 pub fn read(s: &[u8]) -> CallerLine
     ensures { result ≡ caller_line s.now }
 {
-    let o = Line::open(s, Word::CALLER);
-    let at = o.at;
-    if at == 0 {
-        return unread(o.long);
+    match Line::after(s, Word::CALLER) {
+        Ok(at) => line_after(s, at).unwrap_or(unread(false)),
+        Err(e) => unread(e.long()),
     }
-    let p = text::part_at(s, at, Word::ROLES);
-    if p == 0 {
-        return unread(false);
-    }
-    let rs = items::names_at(s, p);
-    if !rs.ok {
-        return unread(false);
-    }
-    // The entries follow the bracket that closes the roles.
-    let es = items::entries_at(s, rs.next + 1);
-    if !es.ok {
-        return unread(false);
-    }
-    if !text::closes_at(s, es.next) {
-        return unread(false);
-    }
-    line_of(rs, es)
 }
 
 impl Caller {

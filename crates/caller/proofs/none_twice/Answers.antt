@@ -19,4 +19,4 @@ returns c =
     let b : Fits w64 (get_or xs 1 0) = search rules in
     let d : Fits w64 (get_or xs 2 0) = search rules in
     let e : Fits w64 (get_or xs 3 0) = search rules in
-    twice xs (four (goal.at.returns c).Start) (omega arith) (omega arith) (omega arith) (omega arith) c.args.n c.min.ensures c.once.ensures
+    twice xs (four (goal.at.returns c).Start) (omega arith) (omega arith) (omega arith) (omega arith) c.args.n c.min.ensures c.distinct.ensures
