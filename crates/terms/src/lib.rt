@@ -125,12 +125,10 @@ fn find(names: &[u64], at: usize, n: usize, code: u64) -> usize
     requires { at + n ≤ schema_size }
     ensures { result ≡ found names.now at n code }
 {
-    let mut i: usize = 0;
-    while i < n {
+    for i in 0..n {
         if places::number_at(names, at + i) == code {
             return i;
         }
-        i += 1;
     }
     n
 }
