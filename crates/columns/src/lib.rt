@@ -1,8 +1,7 @@
 // Lists of streams and of columns of a line, resolved by the names of a schema.
 #![tactic(auto)]
 
-ghost use Rattle.std.specs.Prelude.{◌≡◌, eqb, length, take, drop};
-ghost use Rattle.lists.specs.Lists.{some?};
+ghost use Rattle.std.specs.Prelude.{◌≡◌, length, take, drop};
 ghost use Rattle.columns.specs.Columns.{no_streams, stream_added, streams_ended, streams_at, ends_by, max_own, again_in, kept_in, no_columns, column_added, columns_ended, columns_at};
 
 use schema::Stream;
@@ -148,23 +147,6 @@ pub fn streams_at(s: &[u8], at: usize, names: &[u64]) -> Streams
     no_streams()
 }
 
-// Whether a number is one of the first k.
-fn among(own: &[u64], k: usize, code: u64) -> bool
-    ensures { result ≡ some? (eqb code) (take k own.now) }
-{
-    let mut i: usize = 0;
-    while i < own.len() {
-        if k <= i {
-            return false;
-        }
-        if own[i] == code {
-            return true;
-        }
-        i += 1;
-    }
-    false
-}
-
 // Whether a column was seen before: by its code, or a profile entry by its name among the first k.
 fn again(mask: u32, own: &[u64], k: usize, code: u32, second: u64) -> bool
     requires { length own.now ≡ max_own }
@@ -176,7 +158,7 @@ fn again(mask: u32, own: &[u64], k: usize, code: u32, second: u64) -> bool
     if Columns::OWN <= k {
         return true;
     }
-    among(own, k, second)
+    own[..k].contains(&second)
 }
 
 // The first k names with that of one more column, where it is a profile entry and there is room for it; how many they are.
