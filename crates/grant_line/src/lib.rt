@@ -605,11 +605,7 @@ fn copy(words: &mut [u32], at: usize, from: &[u32], n: usize)
     requires { (n ≤ length from.now) × (at + n ≤ length words.old) }
     ensures { words.new ≡ paste words.old at from.now n }
 {
-    let mut i: usize = 0;
-    while i < n {
-        words[at + i] = from[i];
-        i += 1;
-    }
+    words[at..at + n].copy_from_slice(&from[..n]);
 }
 
 // A refusal, with no grant.

@@ -296,9 +296,7 @@ fn placed(r: Reading, names: &[u64]) -> Placing
     ensures { result ≡ placing_of names.now r }
 {
     let mut p = begun();
-    let mut n = r.count as usize;
-    while 0 < n {
-        n -= 1;
+    for n in (0..r.count as usize).rev() {
         let f = r.forms[n];
         p = with_form(p, names, f, r.lefts[n], r.rights[n]);
     }
