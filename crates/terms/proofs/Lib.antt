@@ -1,4 +1,5 @@
 pub mod Codes
+pub mod Found
 pub mod References
 pub mod Numbers
 pub mod Operands

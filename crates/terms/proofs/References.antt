@@ -7,6 +7,7 @@ use native.Mathlib.Omega.{arith}
 use lib.Dec.{T, eqb, ltb, not_T}
 use lib.ListN.{length, drop, get_or, drop_of_length-le}
 use borrow.Author.Tests.{eq-eqb, ne_eqb, ltb-true, ltb-false, not-true, not-false}
+use Rattle.std.specs.Prelude.{Some, None}
 use Rattle.lists.specs.Lists.{every, same_list}
 use Rattle.lists.proofs.Laws.{T_false, same_list→eq, not_both}
 use Rattle.syntax.specs.Grammar.{Bytes, bytes, Ref, dotted, time, figure, digit, letter, alnum, name?}
@@ -18,25 +19,16 @@ use Rattle.text.specs.declared.Name.{Name}
 use Rattle.text.specs.Words as W
 use Rattle.text.specs.Words.{code_from, code_of, name_at}
 use Rattle.text.proofs.Codes.{names_same}
-use Rattle.text.proofs.Views.{View, view_none, view_some, view_left, name_view}
+use Rattle.text.proofs.Views.{view_none, view_some, view_left, name_view}
 use Rattle.text.proofs.Places.{byte_here, byte_inside}
 use Rattle.items.specs.Items.{code_short}
 use Rattle.terms.specs.declared.Reference.{Reference}
-use Rattle.terms.specs.Terms.{first_code, second_code, ref_read, ref_at, no_ref, dotted_of, alone_of}
+use Rattle.terms.specs.Terms.{seen, first_code, second_code, ref_seen, ref_at, dotted_of, alone_of}
+use Rattle.terms.proofs.Found.{Finding}
 
-unfoldable pub ref_view : (s : Bytes) → View Ref Reference s
-unfolding ref_read
-ref_view s =
-    record {
-      item = read_ref;
-      leaves = ref_leaves;
-      seen = ref_read s;
-      ok = λ r. r.ok;
-      next = λ r. r.next;
-      unseen = refl;
-      ok_seen = λ a. refl;
-      next_seen = λ a. refl;
-    }
+unfoldable pub ref_found : (s : Bytes) → Finding Ref Reference s
+unfolding ref_seen
+ref_found s = record { item = read_ref; leaves = ref_leaves; made = ref_seen s; next = λ r. r.next; next_made = λ a. refl }
 
 -- ---- what follows a name
 
@@ -86,25 +78,25 @@ module _ (w l : Bytes) (t : T (name? w)) (u : T (short w)) where
 
 -- ---- each return
 
-two_names : (s : Bytes) (a w : Read Bytes) → dotted_of (W.name_read s (some a)) (W.name_read s (some w)) ≡ ref_read s (some (record { what = dotted a.what w.what; left = w.left }))
-unfolding dotted_of W.name_read ref_read short_ref first_code second_code code_short
+two_names : (s : Bytes) (a w : Read Bytes) → dotted_of (W.name_read s (some a)) (W.name_read s (some w)) ≡ ref_seen s (record { what = dotted a.what w.what; left = w.left })
+unfolding dotted_of W.name_read ref_seen short_ref first_code second_code code_short
 two_names s a w = rw (not_both (short a.what) (short w.what))
 
 module _ (s : Bytes) (at : ℕ) where
   -- where nothing is read
-  missing : {x : Reference} → read_ref (drop at s) ≡ none → x ≡ no_ref → x ≡ ref_at s at
-  unfolding ref_at ref_read no_ref
-  missing e d = d ∙ sym (rw e)
+  missing : read_ref (drop at s) ≡ none → None ≡ ref_at s at
+  unfolding ref_at seen
+  missing e = sym (rw e)
 
   -- where something is
-  present : {x : Reference} (r : Read Ref) → read_ref (drop at s) ≡ some r → x ≡ ref_read s (some r) → x ≡ ref_at s at
-  unfolding ref_at
-  present r e d = d ∙ sym (ap (ref_read s) e)
+  present : {x : Reference} (r : Read Ref) → read_ref (drop at s) ≡ some r → x ≡ ref_seen s r → Some x ≡ ref_at s at
+  unfolding ref_at seen
+  present r e d = ap Some d ∙ sym (ap (seen (ref_seen s)) e)
 
   module _ {n : Name} (p : n ≡ name_at s at) where
-    pub ref_nameless : {x : Reference} → not n.ok ≡ true → x ≡ no_ref → x ≡ ref_at s at
+    pub ref_nameless : not n.ok ≡ true → None ≡ ref_at s at
     unfolding read_ref bind name_at name_view
-    ref_nameless q d = missing (rw (view_none (name_view s) at p q)) d
+    ref_nameless q = missing (rw (view_none (name_view s) at p q))
 
     module _ (q : not n.ok ≡ false) where
       ref_after : {X : Type 0} → ((a : Read Bytes) → T (name? a.what) → n ≡ W.name_read s (some a) → drop n.next s ≡ a.left → read_ref (drop at s) ≡ after_name a.what (drop n.next s) → X) → X
@@ -120,11 +112,11 @@ module _ (s : Bytes) (at : ℕ) where
           ref_second f = ref_after (λ a t m l h. f a m (h ∙ after_dot a.what s n.next (sym c ∙ e) (byte_inside s n.next c e (omega arith))))
 
           module _ {m : Name} (r : m ≡ name_at s (n.next + 1)) where
-            pub ref_undotted : {x : Reference} → not m.ok ≡ true → x ≡ no_ref → x ≡ ref_at s at
+            pub ref_undotted : not m.ok ≡ true → None ≡ ref_at s at
             unfolding read_dotted bind name_at name_view
-            ref_undotted v d = ref_second (λ a i h. missing (h ∙ rw (view_none (name_view s) (n.next + 1) r v)) d)
+            ref_undotted v = ref_second (λ a i h. missing (h ∙ rw (view_none (name_view s) (n.next + 1) r v)))
 
-            pub ref_dotted : {x : Reference} → not m.ok ≡ false → x ≡ dotted_of n m → x ≡ ref_at s at
+            pub ref_dotted : {x : Reference} → not m.ok ≡ false → x ≡ dotted_of n m → Some x ≡ ref_at s at
             unfolding read_dotted bind name_at name_view
             ref_dotted v d =
                 ref_second (λ a i h. view_some (name_view s) (n.next + 1) r v (λ w z j o.
@@ -134,9 +126,9 @@ module _ (s : Bytes) (at : ℕ) where
           ref_lone : {X : Type 0} → ((a : Read Bytes) → T (name? a.what) → n ≡ W.name_read s (some a) → read_ref (drop at s) ≡ lone a.what a.left → X) → X
           ref_lone f = ref_after (λ a t m l h. f a t m (h ∙ after_other a.what s n.next (λ d. e (c ∙ d)) ∙ ap (lone a.what) l))
 
-          pub ref_long : {x : Reference} → n.long ≡ true → x ≡ no_ref → x ≡ ref_at s at
+          pub ref_long : n.long ≡ true → None ≡ ref_at s at
           unfolding W.name_read
-          ref_long h d = ref_lone (λ a t m i. missing (i ∙ lone_long a.what a.left (not-true (short a.what) (sym (ap (λ n. n.long) m) ∙ h))) d)
+          ref_long h = ref_lone (λ a t m i. missing (i ∙ lone_long a.what a.left (not-true (short a.what) (sym (ap (λ n. n.long) m) ∙ h))))
 
           module _ (h : n.long ≡ false) where
             -- a name that is short, and its number
@@ -148,20 +140,20 @@ module _ (s : Bytes) (at : ℕ) where
                 let u : short a.what ≡ true = not-false (short a.what) (sym (ap (λ n. n.long) m) ∙ h) in
                 f a t (rw u tt) (ap (λ n. n.code) m ∙ rw u) (ap (λ n. n.next) m) i)
 
-            pub ref_time : {x : Reference} → n.code ≡ 0x74696d65 → x ≡ alone_of n → x ≡ ref_at s at
-            unfolding alone_of ref_read short_ref first_code second_code code_of code_from
+            pub ref_time : {x : Reference} → n.code ≡ 0x74696d65 → x ≡ alone_of n → Some x ≡ ref_at s at
+            unfolding alone_of ref_seen short_ref first_code second_code code_of code_from
             ref_time g d =
                 ref_short (λ a t u k o i.
                 present (record { what = time; left = a.left }) (i ∙ lone_time a.what a.left t u (sym k ∙ g)) (d ∙ rw (g, o)))
 
             module _ (g : n.code ≡ 0x74696d65 → ⊥) where
-              pub ref_figure : {x : Reference} → n.code ≡ 0x666967757265 → x ≡ alone_of n → x ≡ ref_at s at
-              unfolding alone_of ref_read short_ref first_code second_code code_of code_from
+              pub ref_figure : {x : Reference} → n.code ≡ 0x666967757265 → x ≡ alone_of n → Some x ≡ ref_at s at
+              unfolding alone_of ref_seen short_ref first_code second_code code_of code_from
               ref_figure j d =
                   ref_short (λ a t u k o i.
                   present (record { what = figure; left = a.left }) (i ∙ lone_figure a.what a.left t u (λ y. g (k ∙ y)) (sym k ∙ j)) (d ∙ rw (j, o)))
 
-              pub ref_other : {x : Reference} → (n.code ≡ 0x666967757265 → ⊥) → x ≡ no_ref → x ≡ ref_at s at
-              ref_other j d = ref_short (λ a t u k o i. missing (i ∙ lone_other a.what a.left t u (λ y. g (k ∙ y)) (λ y. j (k ∙ y))) d)
+              pub ref_other : (n.code ≡ 0x666967757265 → ⊥) → None ≡ ref_at s at
+              ref_other j = ref_short (λ a t u k o i. missing (i ∙ lone_other a.what a.left t u (λ y. g (k ∙ y)) (λ y. j (k ∙ y))))
 
 pub ruleset ref_ends = (ref_nameless, ref_undotted, ref_dotted, ref_long, ref_time, ref_figure, ref_other)

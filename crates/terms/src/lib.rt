@@ -3,7 +3,7 @@
 
 ghost use Rattle.std.specs.Prelude.{◌≡◌, cond, ◌+◌, ◌≤◌, eqb};
 ghost use Rattle.schema.specs.Schemas.{schema_size};
-ghost use Rattle.terms.specs.Terms.{entry_code, found, stream_found, place_in, no_ref, dotted_of, alone_of, ref_at, code_in, biased, no_term, ref_term_at, number_term_at, operand_at, no_comparison, compared, comparison_at};
+ghost use Rattle.terms.specs.Terms.{entry_code, found, stream_found, place_in, dotted_of, alone_of, ref_at, code_in, biased, ref_term_at, number_term_at, operand_at, compared, comparison_at};
 
 use schema::Stream;
 use text::{Kept, Name, Word};
@@ -11,7 +11,6 @@ use text::{Kept, Name, Word};
 // What stands where a column may: the numbers of its two names, the second 0 where it stands alone.
 #[derive(Clone, Copy)]
 pub struct Reference {
-    pub ok: bool,
     pub over: bool,
     pub first: u64,
     pub second: u64,
@@ -21,7 +20,6 @@ pub struct Reference {
 // The right side of a comparison. `over`: a name is too long or a number beyond 32 bits.
 #[derive(Clone, Copy)]
 pub struct Term {
-    pub ok: bool,
     pub over: bool,
     pub code: u32,
     pub value: u64,
@@ -44,25 +42,11 @@ impl Term {
 // A comparison: the codes of its terms, and the number or the profile entry on its right.
 #[derive(Clone, Copy)]
 pub struct Comparison {
-    pub ok: bool,
     pub over: bool,
     pub left: u32,
     pub right: u32,
     pub value: u64,
     pub next: usize,
-}
-
-// No column was read.
-fn no_ref() -> Reference
-    ensures { result ≡ no_ref }
-{
-    Reference {
-        ok: false,
-        over: false,
-        first: 0,
-        second: 0,
-        next: 0,
-    }
 }
 
 // Two names with a dot between them.
@@ -71,7 +55,6 @@ fn dotted_of(n: Name, m: Name) -> Reference
 {
     let over = text::either(n.long, m.long);
     Reference {
-        ok: true,
         over: over,
         first: n.code,
         second: m.code,
@@ -84,7 +67,6 @@ fn alone_of(n: Name) -> Reference
     ensures { result ≡ alone_of n }
 {
     Reference {
-        ok: true,
         over: false,
         first: n.code,
         second: 0,
@@ -92,32 +74,32 @@ fn alone_of(n: Name) -> Reference
     }
 }
 
-// Returns what stands at a place where a column may, and the place after it; `ok` is false where there is no such thing, and all else 0.
-pub fn ref_at(s: &[u8], at: usize) -> Reference
+// Returns what stands at a place where a column may, and the place after it.
+pub fn ref_at(s: &[u8], at: usize) -> Option<Reference>
     ensures { result ≡ ref_at s.now at }
 {
     let n = text::name_at(s, at);
     if !n.ok {
-        return no_ref();
+        return None;
     }
     let p = n.next;
     if text::byte(s, p) == b'.' {
         let m = text::name_at(s, p + 1);
         if !m.ok {
-            return no_ref();
+            return None;
         }
-        return dotted_of(n, m);
+        return Some(dotted_of(n, m));
     }
     if n.long {
-        return no_ref();
+        return None;
     }
     if n.code == Word::TIME {
-        return alone_of(n);
+        return Some(alone_of(n));
     }
     if n.code == Word::FIGURE {
-        return alone_of(n);
+        return Some(alone_of(n));
     }
-    no_ref()
+    None
 }
 
 // The first of n numbers from a place on that is a given one, or n.
@@ -184,19 +166,6 @@ fn biased(k: Kept) -> u64
     ((v as i64) + 2147483648) as u64
 }
 
-// No operand was read.
-fn no_term() -> Term
-    ensures { result ≡ no_term }
-{
-    Term {
-        ok: false,
-        over: false,
-        code: 0,
-        value: 0,
-        next: 0,
-    }
-}
-
 // The number of a profile entry's name, and 0 for any other term.
 fn entry_value(code: u32, m: u64) -> u64
     ensures { result ≡ cond (eqb code entry_code) m 0 }
@@ -208,45 +177,40 @@ fn entry_value(code: u32, m: u64) -> u64
 }
 
 // The operand at a place that begins with a letter.
-fn ref_term(s: &[u8], at: usize, names: &[u64]) -> Term
+fn ref_term(s: &[u8], at: usize, names: &[u64]) -> Option<Term>
     ensures { result ≡ ref_term_at names.now s.now at }
 {
-    let r = ref_at(s, at);
-    if !r.ok {
-        return no_term();
-    }
+    let r = ref_at(s, at)?;
     let code = term_code(names, r.first, r.second);
     let value = entry_value(code, r.second);
-    Term {
-        ok: true,
+    Some(Term {
         over: r.over,
         code: code,
         value: value,
         next: r.next,
-    }
+    })
 }
 
 // The operand at a place that begins with none.
-fn number_term(s: &[u8], at: usize) -> Term
+fn number_term(s: &[u8], at: usize) -> Option<Term>
     ensures { result ≡ number_term_at s.now at }
 {
     let z = text::number_at(s, at);
     if !z.ok {
-        return no_term();
+        return None;
     }
     let k = z.kept();
     let value = biased(k);
-    Term {
-        ok: true,
+    Some(Term {
         over: k.wide,
         code: Term::NUMBER,
         value: value,
         next: z.next,
-    }
+    })
 }
 
-// Returns the right side of a comparison at a place, and the place after it; `ok` is false where there is none, and all else 0.
-pub fn operand_at(s: &[u8], at: usize, names: &[u64]) -> Term
+// Returns the right side of a comparison at a place, and the place after it.
+pub fn operand_at(s: &[u8], at: usize, names: &[u64]) -> Option<Term>
     ensures { result ≡ operand_at names.now s.now at }
 {
     if !text::is_letter(text::byte(s, at) as u64) {
@@ -255,27 +219,12 @@ pub fn operand_at(s: &[u8], at: usize, names: &[u64]) -> Term
     ref_term(s, at, names)
 }
 
-// No comparison was read.
-fn no_comparison() -> Comparison
-    ensures { result ≡ no_comparison }
-{
-    Comparison {
-        ok: false,
-        over: false,
-        left: 0,
-        right: 0,
-        value: 0,
-        next: 0,
-    }
-}
-
 // A comparison by its two sides, which ends at a place.
 fn compared(l: Reference, left: u32, t: Term, next: usize) -> Comparison
     ensures { result ≡ compared l left t next }
 {
     let over = text::either(l.over, t.over);
     Comparison {
-        ok: true,
         over: over,
         left: left,
         right: t.code,
@@ -284,29 +233,23 @@ fn compared(l: Reference, left: u32, t: Term, next: usize) -> Comparison
     }
 }
 
-// Returns the comparison whose head ended at a place, and the place after its bracket; `ok` is false where there is none, and all else 0.
-pub fn comparison_at(s: &[u8], at: usize, names: &[u64]) -> Comparison
+// Returns the comparison whose head ended at a place, and the place after its bracket.
+pub fn comparison_at(s: &[u8], at: usize, names: &[u64]) -> Option<Comparison>
     ensures { result ≡ comparison_at names.now s.now at }
 {
     if text::byte(s, at) != b' ' {
-        return no_comparison();
+        return None;
     }
-    let l = ref_at(s, at + 1);
-    if !l.ok {
-        return no_comparison();
-    }
+    let l = ref_at(s, at + 1)?;
     let i = l.next;
     if text::byte(s, i) != b' ' {
-        return no_comparison();
+        return None;
     }
-    let t = operand_at(s, i + 1, names);
-    if !t.ok {
-        return no_comparison();
-    }
+    let t = operand_at(s, i + 1, names)?;
     let j = t.next;
     if text::byte(s, j) != b')' {
-        return no_comparison();
+        return None;
     }
     let left = term_code(names, l.first, l.second);
-    compared(l, left, t, j + 1)
+    Some(compared(l, left, t, j + 1))
 }
