@@ -10,7 +10,6 @@ use terms::Term;
 // Streams by their places in the schema.
 #[derive(Clone, Copy)]
 pub struct Streams {
-    pub ok: bool,
     pub next: usize,
     pub over: bool,
     pub unknown: bool,
@@ -27,7 +26,6 @@ impl Streams {
 // Columns, by their codes as bits of a mask, and in their order as one number.
 #[derive(Clone, Copy)]
 pub struct Columns {
-    pub ok: bool,
     pub next: usize,
     pub over: bool,
     pub unknown: bool,
@@ -57,12 +55,11 @@ fn ends_at(s: &[u8], i: usize, form: bool) -> bool
     text::byte(s, i + 1) == b'('
 }
 
-// Returns what is read where there is no list of streams.
-pub fn no_streams() -> Streams
+// No stream is read yet.
+fn no_streams() -> Streams
     ensures { result ≡ no_streams }
 {
     Streams {
-        ok: false,
         next: 0,
         over: false,
         unknown: false,
@@ -80,21 +77,18 @@ fn with_stream(r: Streams, long: bool, place: u32, again: bool) -> Streams
     let unknown = text::either(r.unknown, place == Stream::MOST as u32);
     let repeated = text::either(r.repeated, again);
     let at = r.count as usize;
-    let mut places = r.places;
     if Stream::MOST <= at {
         return Streams {
-            ok: r.ok,
-            next: r.next,
             over: over,
             unknown: unknown,
             repeated: repeated,
             count: Streams::OVER,
-            places: places,
+            ..r
         };
     }
+    let mut places = r.places;
     places[at] = place;
     Streams {
-        ok: r.ok,
         next: r.next,
         over: over,
         unknown: unknown,
@@ -108,20 +102,11 @@ fn with_stream(r: Streams, long: bool, place: u32, again: bool) -> Streams
 fn streams_ended(r: Streams, at: usize) -> Streams
     ensures { result ≡ streams_ended r at }
 {
-    let places = r.places;
-    Streams {
-        ok: true,
-        next: at,
-        over: r.over,
-        unknown: r.unknown,
-        repeated: r.repeated,
-        count: r.count,
-        places: places,
-    }
+    Streams { next: at, ..r }
 }
 
-// Returns the streams at a place up to a closing bracket, and the place of that; `ok` is false where there is no such list, and all else 0.
-pub fn streams_at(s: &[u8], at: usize, names: &[u64]) -> Streams
+// Returns the streams at a place up to a closing bracket, and the place of that.
+pub fn streams_at(s: &[u8], at: usize, names: &[u64]) -> Option<Streams>
     ensures { result ≡ streams_at names.now s.now at }
 {
     let mut r = no_streams();
@@ -129,14 +114,14 @@ pub fn streams_at(s: &[u8], at: usize, names: &[u64]) -> Streams
     let mut i = at;
     while i < s.len() {
         if ends_at(s, i, false) {
-            return streams_ended(r, i);
+            return Some(streams_ended(r, i));
         }
         if s[i] != b' ' {
-            return no_streams();
+            return None;
         }
         let n = text::name_at(s, i + 1);
         if !n.ok {
-            return no_streams();
+            return None;
         }
         let place = terms::stream_place(names, n.code);
         let again = masks::shows(seen, place);
@@ -144,7 +129,7 @@ pub fn streams_at(s: &[u8], at: usize, names: &[u64]) -> Streams
         seen = masks::with(seen, place);
         i = n.next;
     }
-    no_streams()
+    None
 }
 
 // Whether a column was seen before: by its code, or a profile entry by its name among the first k.
@@ -176,12 +161,11 @@ fn keep(own: &mut [u64], k: usize, code: u32, second: u64) -> usize
     k + 1
 }
 
-// No column was read.
+// No column is read yet.
 fn no_columns() -> Columns
     ensures { result ≡ no_columns }
 {
     Columns {
-        ok: false,
         next: 0,
         over: false,
         unknown: false,
@@ -201,7 +185,6 @@ fn with_column(r: Columns, over: bool, code: u32, again: bool) -> Columns
     let mask = masks::with(r.mask, code);
     let order = orders::with_code(r.order, code);
     Columns {
-        ok: r.ok,
         next: r.next,
         over: wide,
         unknown: unknown,
@@ -215,19 +198,11 @@ fn with_column(r: Columns, over: bool, code: u32, again: bool) -> Columns
 fn columns_ended(r: Columns, at: usize) -> Columns
     ensures { result ≡ columns_ended r at }
 {
-    Columns {
-        ok: true,
-        next: at,
-        over: r.over,
-        unknown: r.unknown,
-        repeated: r.repeated,
-        mask: r.mask,
-        order: r.order,
-    }
+    Columns { next: at, ..r }
 }
 
-// Returns the columns at a place up to a closing bracket, or up to a form where `form`, and the place of that; `ok` is false where there is no such list, and all else 0.
-pub fn columns_at(s: &[u8], at: usize, names: &[u64], form: bool) -> Columns
+// Returns the columns at a place up to a closing bracket, or up to a form where `form`, and the place of that.
+pub fn columns_at(s: &[u8], at: usize, names: &[u64], form: bool) -> Option<Columns>
     ensures { result ≡ columns_at names.now form s.now at }
 {
     let mut r = no_columns();
@@ -236,20 +211,17 @@ pub fn columns_at(s: &[u8], at: usize, names: &[u64], form: bool) -> Columns
     let mut i = at;
     while i < s.len() {
         if ends_at(s, i, form) {
-            return columns_ended(r, i);
+            return Some(columns_ended(r, i));
         }
         if s[i] != b' ' {
-            return no_columns();
+            return None;
         }
-        let c = terms::ref_at(s, i + 1);
-        if !c.ok {
-            return no_columns();
-        }
+        let c = terms::ref_at(s, i + 1)?;
         let code = terms::term_code(names, c.first, c.second);
         let seen = again(r.mask, &own, k, code, c.second);
         k = keep(&mut own, k, code, c.second);
         r = with_column(r, c.over, code, seen);
         i = c.next;
     }
-    no_columns()
+    None
 }

@@ -12,14 +12,14 @@ returns-then-ends_at c = search columns_ends
 pub returns-then-s-i-ne32 : goal.returns-then-s-i-ne32
 returns-then-s-i-ne32 c = search columns_ends
 
-pub returns-then-not-c : goal.returns-then-not-c
-returns-then-not-c c = search columns_ends
+pub returns-in_err-c : goal.returns-in_err-c
+returns-in_err-c c = search (columns_ends, c.in_err-c.ensures)
 
 pub loop-i-smaller : goal.loop-i-smaller
-loop-i-smaller c = search columns_ends
+loop-i-smaller c = search (columns_ends, c.in_ok-c.ensures)
 
 pub loop-i-preserved : goal.loop-i-preserved
-loop-i-preserved c = (search rules, search columns_ends)
+loop-i-preserved c = (search rules, search (columns_ends, c.in_ok-c.ensures))
 
 pub returns : goal.returns
 returns c = search columns_ends
