@@ -2,20 +2,19 @@
 use mathlib.Core.Path.{◌≡◌, refl, sym, ap, ◌∙◌}
 use mathlib.Core.List.{List}
 use mathlib.Core.Option.{Option, none, some}
-use Prim.Native.Nat.{ℕ, ◌+◌, ◌-◌, ◌≤◌}
+use Prim.Native.Nat.{ℕ, ◌-◌, ◌≤◌}
 use native.Mathlib.Omega.{arith}
-use lib.ListN.{length, drop, get_or, length-drop}
-use Rattle.std.specs.Prelude.{Option as Found, Some, None}
+use lib.ListN.{length, drop, length-drop}
 use Rattle.syntax.specs.Grammar.{Bytes, eq, Ref, Operand, Test, Cond, test}
 use Rattle.syntax.specs.Readers.{Read, bind, ◌>>=◌, ◌>>◌, give, byte, read_ref, read_operand, read_test}
-use Rattle.text.proofs.Places.{byte_inside, space_is, space_not, close_is, close_not}
+use Rattle.text.specs.Words.{Found, Some, None, left_at, read_end}
+use Rattle.text.proofs.Views.{read_none, read_here, skip_none, skip_is, skip_within}
 use Rattle.terms.specs.declared.Reference.{Reference}
 use Rattle.terms.specs.declared.Term.{Term}
 use Rattle.terms.specs.declared.Comparison.{Comparison}
 use Rattle.terms.specs.Terms.{ref_seen, ref_at, code_in, ref_code, operand_seen, operand_at, test_over, left_code, right_code, test_value, comparison_of, comparison_from, comparison_read, comparison_at, compared}
-use Rattle.terms.proofs.Found.{found_none, found_some, found_left}
-use Rattle.terms.proofs.References.{ref_found}
-use Rattle.terms.proofs.Operands.{operand_found}
+use Rattle.terms.proofs.References.{ref_reading}
+use Rattle.terms.proofs.Operands.{operand_reading}
 
 -- ---- the reader, step by step
 
@@ -44,62 +43,57 @@ module _ (ns : List ℕ) (s : Bytes) (at : ℕ) where
   -- where a comparison is read, up to a place
   made : (a : Read Ref) (w : Read Operand) (i : ℕ) {l : Reference} {c : ℕ} {t : Term} → i ≤ length s → l ≡ ref_seen s a → c ≡ code_in ns l.first l.second → t ≡ operand_seen ns s w
       → read_test eq (drop at s) ≡ some (record { what = test (record { op = eq; left = a.what; right = w.what }); left = drop i s }) → Some (compared l c t i) ≡ comparison_at ns s at
-  unfolding comparison_at comparison_read comparison_from comparison_of compared ref_seen operand_seen test_over left_code right_code test_value ref_code
+  unfolding comparison_at comparison_read comparison_from comparison_of compared ref_seen operand_seen left_at test_over left_code right_code test_value ref_code
   made a w i g m k n e =
       let o : length s - length (drop i s) ≡ i = omega (arith, length-drop i s) in
       rw (k, m, n, e, o)
 
-  module _ {b : ℕ} (p : b ≡ get_or s at 0) where
-    pub test_unspaced : (b ≡ 32 → ⊥) → None ≡ comparison_at ns s at
+  pub test_unspaced : {x : Found Comparison} → None ≡ read_end s (byte 32 (drop at s)) → x ≡ None → x ≡ comparison_at ns s at
+  unfolding bind
+  test_unspaced p d = d ∙ missing (test_steps (drop at s) ∙ rw (skip_none s at 32 p))
+
+  module _ {p : ℕ} (sp : Some p ≡ read_end s (byte 32 (drop at s))) where
+    test_begun : read_test eq (drop at s) ≡ begun (drop p s)
     unfolding bind
-    test_unspaced f = missing (test_steps (drop at s) ∙ rw (space_not s at p f))
+    test_begun = test_steps (drop at s) ∙ rw (skip_is s at 32 sp)
 
-    module _ (q : b ≡ 32) where
-      test_begun : read_test eq (drop at s) ≡ begun (drop (at + 1) s)
-      unfolding bind
-      test_begun = test_steps (drop at s) ∙ rw (space_is s at p q)
+    pub test_leftless : {x : Found Comparison} → None ≡ ref_at s p → x ≡ None → x ≡ comparison_at ns s at
+    unfolding begun bind ref_at ref_reading
+    test_leftless g d = d ∙ missing (test_begun ∙ rw (read_none (ref_reading s) p g))
 
-      pub test_leftless : {x : Found Comparison} → None ≡ ref_at s (at + 1) → x ≡ None → x ≡ comparison_at ns s at
-      unfolding begun bind ref_at ref_found
-      test_leftless g d = d ∙ missing (test_begun ∙ rw (found_none (ref_found s) (at + 1) g))
+    module _ {l : Reference} (g : Some l ≡ ref_at s p) where
+      test_spaced : {X : Type 0} → ((a : Read Ref) → l ≡ ref_seen s a → read_test eq (drop at s) ≡ spaced a.what (drop l.next s) → X) → X
+      unfolding begun bind ref_at ref_reading
+      test_spaced f = read_here (ref_reading s) p g (λ x z m. f (record { what = x; left = drop l.next s }) m (test_begun ∙ rw z))
 
-      module _ {l : Reference} (g : Some l ≡ ref_at s (at + 1)) {u : ℕ} (c : u ≡ get_or s l.next 0) where
-        test_spaced : {X : Type 0} → ((a : Read Ref) → l ≡ ref_seen s a → read_test eq (drop at s) ≡ spaced a.what (drop l.next s) → X) → X
-        unfolding begun bind ref_at ref_found
-        test_spaced f =
-            found_some (ref_found s) (at + 1) g (λ a z m d.
-            f a m (test_begun ∙ rw (z, found_left (ref_found s) (at + 1) g a z)))
+      pub test_joined : {x : Found Comparison} → None ≡ read_end s (byte 32 (drop l.next s)) → x ≡ None → x ≡ comparison_at ns s at
+      unfolding spaced bind
+      test_joined u d = test_spaced (λ a m h. d ∙ missing (h ∙ rw (skip_none s l.next 32 u)))
 
-        pub test_joined : (u ≡ 32 → ⊥) → None ≡ comparison_at ns s at
+      module _ {q : ℕ} (sq : Some q ≡ read_end s (byte 32 (drop l.next s))) where
+        test_sided : {X : Type 0} → ((a : Read Ref) → l ≡ ref_seen s a → read_test eq (drop at s) ≡ sided a.what (drop q s) → X) → X
         unfolding spaced bind
-        test_joined f = test_spaced (λ a m h. missing (h ∙ rw (space_not s l.next c f)))
+        test_sided f = test_spaced (λ a m h. f a m (h ∙ rw (skip_is s l.next 32 sq)))
 
-        module _ (e : u ≡ 32) where
-          test_sided : {X : Type 0} → ((a : Read Ref) → l ≡ ref_seen s a → read_test eq (drop at s) ≡ sided a.what (drop (l.next + 1) s) → X) → X
-          unfolding spaced bind
-          test_sided f = test_spaced (λ a m h. f a m (h ∙ rw (space_is s l.next c e)))
+        pub test_rightless : {x : Found Comparison} → None ≡ operand_at ns s q → x ≡ None → x ≡ comparison_at ns s at
+        unfolding sided bind operand_at operand_reading
+        test_rightless r d = test_sided (λ a m h. d ∙ missing (h ∙ rw (read_none (operand_reading ns s) q r)))
 
-          pub test_rightless : {x : Found Comparison} → None ≡ operand_at ns s (l.next + 1) → x ≡ None → x ≡ comparison_at ns s at
-          unfolding sided bind operand_at operand_found
-          test_rightless r d = test_sided (λ a m h. d ∙ missing (h ∙ rw (found_none (operand_found ns s) (l.next + 1) r)))
+        module _ {t : Term} (r : Some t ≡ operand_at ns s q) where
+          test_closed : {X : Type 0} → ((a : Read Ref) (w : Read Operand) → l ≡ ref_seen s a → t ≡ operand_seen ns s w
+              → read_test eq (drop at s) ≡ closed a.what w.what (drop t.next s) → X) → X
+          unfolding sided bind operand_at operand_reading
+          test_closed f =
+              test_sided (λ a m h. read_here (operand_reading ns s) q r (λ x z i.
+              f a (record { what = x; left = drop t.next s }) m i (h ∙ rw z)))
 
-          module _ {t : Term} (r : Some t ≡ operand_at ns s (l.next + 1)) {k : ℕ} (y : k ≡ get_or s t.next 0) where
-            test_closed : {X : Type 0} → ((a : Read Ref) (w : Read Operand) → l ≡ ref_seen s a → t ≡ operand_seen ns s w
-                → read_test eq (drop at s) ≡ closed a.what w.what (drop t.next s) → X) → X
-            unfolding sided bind operand_at operand_found
-            test_closed f =
-                test_sided (λ a m h. found_some (operand_found ns s) (l.next + 1) r (λ w z i d.
-                f a w m i (h ∙ rw (z, found_left (operand_found ns s) (l.next + 1) r w z))))
+          pub test_unclosed : {x : Found Comparison} → None ≡ read_end s (byte 41 (drop t.next s)) → x ≡ None → x ≡ comparison_at ns s at
+          unfolding closed bind
+          test_unclosed u d = test_closed (λ a w m i h. d ∙ missing (h ∙ rw (skip_none s t.next 41 u)))
 
-            pub test_unclosed : (k ≡ 41 → ⊥) → None ≡ comparison_at ns s at
-            unfolding closed bind
-            test_unclosed f = test_closed (λ a w m i h. missing (h ∙ rw (close_not s t.next y f)))
-
-            pub test_whole : {o : ℕ} {x : Comparison} → k ≡ 41 → o ≡ code_in ns l.first l.second → x ≡ compared l o t (t.next + 1) → Some x ≡ comparison_at ns s at
-            unfolding closed bind
-            test_whole z n d =
-                test_closed (λ a w m i h.
-                let f = byte_inside s t.next y z (omega arith) in
-                ap Some d ∙ made a w (t.next + 1) (omega arith) m n i (h ∙ rw (close_is s t.next y z)))
+          pub test_whole : {e o : ℕ} {x : Comparison} → Some e ≡ read_end s (byte 41 (drop t.next s)) → o ≡ code_in ns l.first l.second → x ≡ compared l o t e → Some x ≡ comparison_at ns s at
+          unfolding closed bind
+          test_whole {e} u n d =
+              test_closed (λ a w m i h. ap Some d ∙ made a w e (skip_within s t.next 41 u) m n i (h ∙ rw (skip_is s t.next 41 u)))
 
 pub ruleset test_ends = (test_unspaced, test_leftless, test_joined, test_rightless, test_unclosed, test_whole)

@@ -1,5 +1,4 @@
 pub mod Codes
-pub mod Found
 pub mod References
 pub mod Numbers
 pub mod Operands

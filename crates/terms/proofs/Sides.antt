@@ -6,7 +6,6 @@ use Prim.Native.Nat.{ℕ, ◌-◌, ◌≤◌, ◌<◌}
 use native.Mathlib.Omega.{arith}
 use lib.Dec.{T}
 use lib.ListN.{length, drop, length-drop}
-use Rattle.std.specs.Prelude.{Option as Found, Some, None}
 use Rattle.std.proofs.lemmas.Option.{none-some, same_Some}
 use Rattle.lists.proofs.Laws.{and_l, and_r}
 use Rattle.syntax.specs.Grammar.{Bytes, Op, eq, Ref, Operand, Test, Cond, test, ref?, operand?, cond?, test?}
@@ -14,6 +13,7 @@ use Rattle.syntax.specs.Readers.{Read, bind, ◌>>=◌, ◌>>◌, give, byte, re
 use Rattle.syntax.proofs.Steps.{from, done, bind_bind}
 use Rattle.syntax.proofs.Conditions.{test_read}
 use Rattle.syntax.proofs.Leaving.{Ends, ends_both, ends_within, Leaves, byte_less, byte_leaves, ref_leaves, operand_leaves}
+use Rattle.text.specs.Words.{Found, Some, None, left_at}
 use Rattle.text.proofs.Views.{left_drop}
 use Rattle.text.proofs.Fuel.{bind_same}
 use Rattle.terms.specs.declared.Comparison.{Comparison}
@@ -74,7 +74,7 @@ module _ (ns : List ℕ) (s : Bytes) (at : ℕ) {x : Found Comparison} (p : x �
 
   sides_cases : {X : Type 0} → (read_sides (drop at s) ≡ none → x ≡ None → X)
       → ((r : Read Sides) → read_sides (drop at s) ≡ some r → x ≡ Some (comparison_of ns (record { op = eq; left = r.what.left; right = r.what.right }) (length s - length r.left)) → X) → X
-  unfolding read comparison_read comparison_from bind with_op
+  unfolding read comparison_read comparison_from bind with_op left_at
   sides_cases {X} f g = go (read_sides (drop at s)) refl
     where
       go : (o : Option (Read Sides)) → read_sides (drop at s) ≡ o → X

@@ -1,13 +1,12 @@
 -- Columns, operands and comparisons as they are read: a column by its place in the schema, a term by its code.
-use Rattle.std.specs.Prelude.{List, Bool, false, ◌&&◌, ◌||◌, not, cond, ℕ, zero, suc, ◌+◌, ◌*◌, ◌-◌, ℤ, pos, negsuc, ltb, eqb, length, drop, get_or}
-use Rattle.std.specs.Prelude.{Option as Found, Some, None}
+use Rattle.std.specs.Prelude.{List, Bool, false, ◌&&◌, ◌||◌, not, cond, ℕ, zero, suc, ◌+◌, ◌*◌, ◌-◌, ℤ, pos, negsuc, ltb, eqb, drop, get_or}
 use Rattle.std.proofs.Math.Option.{Option, none, some}
 use Rattle.syntax.specs.Grammar as G
 use Rattle.syntax.specs.Grammar.{Bytes, bytes, eq, Ref, Operand, Test, Cond, test, all, any, neg}
 use Rattle.syntax.specs.Readers.{Read, read_int, read_ref, read_operand, read_test}
 use Rattle.syntax.specs.Limits.{max_streams, max_columns, short_ref, is_value}
-use Rattle.text.specs.Words.{code_of, value_kept}
-use Rattle.text.specs.declared.Name.{Name}
+use Rattle.text.specs.Words.{Found, Some, None, seen, left_at, code_of, value_kept}
+use Rattle.text.specs.declared.NameAt.{NameAt}
 use Rattle.items.specs.Items.{code_short}
 use Rattle.schema.specs.Schemas.{column_place}
 use Rattle.terms.specs.declared.Reference.{Reference}
@@ -48,11 +47,6 @@ place_in ns n m =
     let c = found ns (column_place s) max_columns m in
     cond (ltb s max_streams && ltb c max_columns) (s * max_columns + c) unknown_code
 
--- what is made of a read, where there is one
-unfoldable pub seen : {A N : Type 0} → (A → N) → Option A → Found N
-seen f none = None
-seen f (some a) = Some (f a)
-
 -- ---- what stands where a column may
 
 -- the numbers of its two names; the second is 0 where it stands alone
@@ -67,16 +61,16 @@ second_code G.time = 0
 second_code G.figure = 0
 
 unfoldable pub ref_seen : Bytes → Read Ref → Reference
-ref_seen s r = record { over = not (short_ref r.what); first = first_code r.what; second = second_code r.what; next = length s - length r.left }
+ref_seen s r = record { over = not (short_ref r.what); first = first_code r.what; second = second_code r.what; next = left_at s r }
 
 unfoldable pub ref_at : Bytes → ℕ → Found Reference
 ref_at s at = seen (ref_seen s) (read_ref (drop at s))
 
 -- what the code makes of it: two names with a dot between them, a name that stands alone
-unfoldable pub dotted_of : Name → Name → Reference
+unfoldable pub dotted_of : NameAt → NameAt → Reference
 dotted_of n m = record { over = n.long || m.long; first = n.code; second = m.code; next = m.next }
 
-unfoldable pub alone_of : Name → Reference
+unfoldable pub alone_of : NameAt → Reference
 alone_of n = record { over = false; first = n.code; second = 0; next = n.next }
 
 -- the code of a term by the numbers of its names
@@ -106,7 +100,7 @@ operand_value ns (G.ref r) = cond (eqb (ref_code ns r) entry_code) (second_code 
 operand_value ns (G.number z) = biased (value_kept z)
 
 unfoldable pub operand_seen : List ℕ → Bytes → Read Operand → Term
-operand_seen ns s r = record { over = operand_over r.what; code = operand_code ns r.what; value = operand_value ns r.what; next = length s - length r.left }
+operand_seen ns s r = record { over = operand_over r.what; code = operand_code ns r.what; value = operand_value ns r.what; next = left_at s r }
 
 unfoldable pub operand_at : List ℕ → Bytes → ℕ → Found Term
 operand_at ns s at = seen (operand_seen ns s) (read_operand (drop at s))
@@ -114,13 +108,13 @@ operand_at ns s at = seen (operand_seen ns s) (read_operand (drop at s))
 -- an operand that is a column, and one that is a number
 unfoldable pub ref_term : List ℕ → Bytes → Read Ref → Term
 ref_term ns s r =
-    record { over = not (short_ref r.what); code = ref_code ns r.what; value = cond (eqb (ref_code ns r.what) entry_code) (second_code r.what) 0; next = length s - length r.left }
+    record { over = not (short_ref r.what); code = ref_code ns r.what; value = cond (eqb (ref_code ns r.what) entry_code) (second_code r.what) 0; next = left_at s r }
 
 unfoldable pub ref_term_at : List ℕ → Bytes → ℕ → Found Term
 ref_term_at ns s at = seen (ref_term ns s) (read_ref (drop at s))
 
 unfoldable pub number_term : Bytes → Read ℤ → Term
-number_term s r = record { over = not (is_value r.what); code = number_code; value = biased (value_kept r.what); next = length s - length r.left }
+number_term s r = record { over = not (is_value r.what); code = number_code; value = biased (value_kept r.what); next = left_at s r }
 
 unfoldable pub number_term_at : Bytes → ℕ → Found Term
 number_term_at s at = seen (number_term s) (read_int (drop at s))
@@ -156,7 +150,7 @@ comparison_from ns (neg c) next = None
 
 unfoldable pub comparison_read : List ℕ → Bytes → Option (Read (Cond Test)) → Found Comparison
 comparison_read ns s none = None
-comparison_read ns s (some r) = comparison_from ns r.what (length s - length r.left)
+comparison_read ns s (some r) = comparison_from ns r.what (left_at s r)
 
 unfoldable pub comparison_at : List ℕ → Bytes → ℕ → Found Comparison
 comparison_at ns s at = comparison_read ns s (read_test eq (drop at s))

@@ -6,7 +6,7 @@ ghost use Rattle.schema.specs.Schemas.{schema_size};
 ghost use Rattle.terms.specs.Terms.{entry_code, found, stream_found, place_in, dotted_of, alone_of, ref_at, code_in, biased, ref_term_at, number_term_at, operand_at, compared, comparison_at};
 
 use schema::Stream;
-use text::{Kept, Name, Word};
+use text::{NameAt, Word};
 
 // What stands where a column may: the numbers of its two names, the second 0 where it stands alone.
 #[derive(Clone, Copy)]
@@ -50,7 +50,7 @@ pub struct Comparison {
 }
 
 // Two names with a dot between them.
-fn dotted_of(n: Name, m: Name) -> Reference
+fn dotted_of(n: NameAt, m: NameAt) -> Reference
     ensures { result ≡ dotted_of n m }
 {
     let over = text::either(n.long, m.long);
@@ -63,7 +63,7 @@ fn dotted_of(n: Name, m: Name) -> Reference
 }
 
 // A name that stands alone.
-fn alone_of(n: Name) -> Reference
+fn alone_of(n: NameAt) -> Reference
     ensures { result ≡ alone_of n }
 {
     Reference {
@@ -78,16 +78,9 @@ fn alone_of(n: Name) -> Reference
 pub fn ref_at(s: &[u8], at: usize) -> Option<Reference>
     ensures { result ≡ ref_at s.now at }
 {
-    let n = text::name_at(s, at);
-    if !n.ok {
-        return None;
-    }
-    let p = n.next;
-    if text::byte(s, p) == b'.' {
-        let m = text::name_at(s, p + 1);
-        if !m.ok {
-            return None;
-        }
+    let n = text::read_name(s, at)?;
+    if let Some(p) = text::skip(s, n.next, b'.') {
+        let m = text::read_name(s, p)?;
         return Some(dotted_of(n, m));
     }
     if n.long {
@@ -159,10 +152,9 @@ pub fn term_code(names: &[u64], n: u64, m: u64) -> u32
 }
 
 // A number of 32 bits, the lowest as 0.
-fn biased(k: Kept) -> u64
-    ensures { result ≡ biased k.value }
+fn biased(v: i32) -> u64
+    ensures { result ≡ biased v }
 {
-    let v = k.value;
     ((v as i64) + 2147483648) as u64
 }
 
@@ -195,14 +187,11 @@ fn ref_term(s: &[u8], at: usize, names: &[u64]) -> Option<Term>
 fn number_term(s: &[u8], at: usize) -> Option<Term>
     ensures { result ≡ number_term_at s.now at }
 {
-    let z = text::number_at(s, at);
-    if !z.ok {
-        return None;
-    }
+    let z = text::read_number(s, at)?;
     let k = z.kept();
-    let value = biased(k);
+    let value = biased(k.unwrap_or(0));
     Some(Term {
-        over: k.wide,
+        over: k.is_none(),
         code: Term::NUMBER,
         value: value,
         next: z.next,
@@ -237,19 +226,11 @@ fn compared(l: Reference, left: u32, t: Term, next: usize) -> Comparison
 pub fn comparison_at(s: &[u8], at: usize, names: &[u64]) -> Option<Comparison>
     ensures { result ≡ comparison_at names.now s.now at }
 {
-    if text::byte(s, at) != b' ' {
-        return None;
-    }
-    let l = ref_at(s, at + 1)?;
-    let i = l.next;
-    if text::byte(s, i) != b' ' {
-        return None;
-    }
-    let t = operand_at(s, i + 1, names)?;
-    let j = t.next;
-    if text::byte(s, j) != b')' {
-        return None;
-    }
+    let p = text::skip(s, at, b' ')?;
+    let l = ref_at(s, p)?;
+    let q = text::skip(s, l.next, b' ')?;
+    let t = operand_at(s, q, names)?;
+    let end = text::skip(s, t.next, b')')?;
     let left = term_code(names, l.first, l.second);
-    Some(compared(l, left, t, j + 1))
+    Some(compared(l, left, t, end))
 }
