@@ -3,29 +3,28 @@ use mathlib.Core.Path.{◌≡◌, refl, sym, ap, ◌∙◌}
 use mathlib.Core.List.{List, [], ◌∷◌, map}
 use mathlib.Core.Bool.{Bool, true, false, ◌&&◌, ◌||◌, not, or-false}
 use mathlib.Core.Option.{Option, none, some}
-use Prim.Native.Nat.{ℕ, ◌+◌, ◌-◌, ◌≤◌, ◌<◌, ◌^◌}
+use Prim.Native.Nat.{ℕ, ◌-◌, ◌≤◌, ◌<◌, ◌^◌}
 use native.Mathlib.Omega.{arith}
 use lib.Bits.{bit_or, or_zero_l, or_zero_r}
 use lib.Dec.{T, eqb, ltb, lt→ltb}
-use lib.ListN.{length, take, drop, get_or}
-use Rattle.std.specs.Prelude.{Option as Found, Some, None}
-use Rattle.std.proofs.lemmas.Option.{same_Some}
+use lib.ListN.{length, take, drop}
 use Rattle.lists.specs.Lists.{every, some?}
 use Rattle.lists.proofs.Laws.{and_both}
 use Rattle.syntax.specs.Grammar.{Bytes, Ref}
 use Rattle.syntax.specs.Limits.{short_ref}
-use Rattle.syntax.specs.Readers.{Read, bind, read_ref}
+use Rattle.syntax.specs.Readers.{Read, bind, byte, read_ref}
 use Rattle.syntax.proofs.Leaving.{ref_leaves}
+use Rattle.text.specs.Words.{Found, Some, None, seen, left_at, read_end}
 use Rattle.text.specs.Readings.{any_items}
+use Rattle.text.proofs.Views.{Reading}
 use Rattle.text.proofs.Fuel.{any_items_leaves}
 use Rattle.items.proofs.Lists.{more}
 use Rattle.masks.specs.Masks.{with_bit, mask_of}
 use Rattle.masks.proofs.Lists.{or_assoc}
 use Rattle.orders.specs.Orders.{with_code, order_from, order_of}
 use Rattle.terms.specs.declared.Reference.{Reference}
-use Rattle.terms.specs.Terms.{seen, second_code, ref_seen, ref_at, code_in, ref_code}
-use Rattle.terms.proofs.Found.{Finding, view_of}
-use Rattle.terms.proofs.References.{ref_found}
+use Rattle.terms.specs.Terms.{second_code, ref_seen, ref_at, code_in, ref_code}
+use Rattle.terms.proofs.References.{ref_reading}
 use Rattle.terms.proofs.Resolving.{code_range}
 use Rattle.columns.specs.declared.Columns.{Columns}
 use Rattle.columns.specs.Columns.{ends_by, again_in, kept_in, repeats, no_columns, columns_seen, columns_at, column_added, columns_ended}
@@ -87,12 +86,12 @@ column_more ns s r c (some xs) =
     (or_regroup r.read.repeated (again_in r.read.mask r.own (ref_code ns c) (second_code c)) _)
     (code_joins ns r.read.mask c (mask_of (map (ref_code ns) xs.what)))
 
-unfoldable pub columns_walk : (ns : List ℕ) (form : Bool) (s : Bytes) → Walk Ref (Found Reference) Seen (Found Columns) s
+unfoldable pub columns_walk : (ns : List ℕ) (form : Bool) (s : Bytes) → Walk Ref Reference Seen (Found Columns) s
 columns_walk ns form s =
     record {
       ends = ends_by form;
       unended = ends_none form;
-      view = view_of (ref_found s);
+      reading = ref_reading s;
       answer = columns_answer ns s;
       step = column_step ns;
       stepped = column_more ns s;
@@ -107,7 +106,7 @@ columns_on ns form s r own i = on (columns_walk ns form s) (both r own) i
 
 -- at first nothing is read
 pub columns_start : (ns : List ℕ) (form : Bool) (s : Bytes) (at : ℕ) (own : List ℕ) {r : Columns} → r ≡ no_columns → columns_at ns form s at ≡ columns_on ns form s r (take 0 own) at
-unfolding columns_walk ref_found view_of columns_on on columns_at seen columns_seen columns_answer no_columns order_of
+unfolding columns_walk ref_reading columns_on on columns_at seen left_at columns_seen columns_answer no_columns order_of
 columns_start ns form s at own e = rw e (go (any_items (ends_by form) read_ref (drop at s)))
   where
     go : (o : Option (Read (List Ref))) → seen (columns_seen ns s) o ≡ columns_answer ns s (both no_columns []) o
@@ -120,9 +119,9 @@ ended : (ns : List ℕ) (s : Bytes) (i : ℕ) (r : Columns) (own : List ℕ) →
 unfolding columns_answer columns_ended repeats every some? mask_of order_from
 ended ns s i r own h = rw (end_place s i h) (alike (or-false r.over) (or-false r.unknown) (or-false r.repeated) (or_zero_r r.mask))
 
-pub columns_less : (s : Bytes) (i : ℕ) {c : Reference} → i < length s → Some c ≡ ref_at s (i + 1) → length s - c.next < length s - i
-unfolding columns_walk ref_found view_of ref_at
-columns_less s i h p = walk_falls (columns_walk [] false s) i h p refl
+pub columns_less : (s : Bytes) (i p : ℕ) {c : Reference} → i < length s → Some p ≡ read_end s (byte 32 (drop i s)) → Some c ≡ ref_at s p → length s - c.next < length s - i
+unfolding columns_walk ref_reading ref_at
+columns_less s i p h b q = walk_falls (columns_walk [] false s) i p h b q
 
 module _ (ns : List ℕ) (form : Bool) (s : Bytes) (at i : ℕ) (r : Columns) (own : List ℕ) (inv : columns_at ns form s at ≡ columns_on ns form s r own i) where
   pub columns_over : length s ≤ i → None ≡ columns_at ns form s at
@@ -135,19 +134,19 @@ module _ (ns : List ℕ) (form : Bool) (s : Bytes) (at i : ℕ) (r : Columns) (o
     columns_close d e = ap Some e ∙ sym (walk_end (columns_walk ns form s) (both r own) i inv u d ∙ ended ns s i r own h)
 
     module _ (d : t ≡ false) where
-      pub columns_other : (get_or s i 0 ≡ 32 → ⊥) → None ≡ columns_at ns form s at
+      pub columns_other : {x : Found Columns} → None ≡ read_end s (byte 32 (drop i s)) → x ≡ None → x ≡ columns_at ns form s at
       unfolding columns_on columns_walk columns_answer
-      columns_other f = sym (walk_other (columns_walk ns form s) (both r own) i inv u h d f)
+      columns_other f e = e ∙ sym (walk_other (columns_walk ns form s) (both r own) i inv u d f)
 
-      module _ (b : get_or s i 0 ≡ 32) where
-        pub columns_stuck : {x : Found Columns} → None ≡ ref_at s (i + 1) → x ≡ None → x ≡ columns_at ns form s at
-        unfolding columns_on columns_walk columns_answer ref_found view_of ref_at
-        columns_stuck p e = e ∙ sym (walk_stuck (columns_walk ns form s) (both r own) i inv u h d b p refl)
+      module _ {p : ℕ} (b : Some p ≡ read_end s (byte 32 (drop i s))) where
+        pub columns_stuck : {x : Found Columns} → None ≡ ref_at s p → x ≡ None → x ≡ columns_at ns form s at
+        unfolding columns_on columns_walk columns_answer ref_reading ref_at
+        columns_stuck q e = e ∙ sym (walk_stuck (columns_walk ns form s) (both r own) i inv u d b q)
 
-        pub columns_more : {c : Reference} {x : Columns} {code : ℕ} {again : Bool} {kept : List ℕ} → Some c ≡ ref_at s (i + 1) → code ≡ code_in ns c.first c.second → again ≡ again_in r.mask own code c.second
+        pub columns_more : {c : Reference} {x : Columns} {code : ℕ} {again : Bool} {kept : List ℕ} → Some c ≡ ref_at s p → code ≡ code_in ns c.first c.second → again ≡ again_in r.mask own code c.second
             → kept ≡ kept_in own code c.second → x ≡ column_added r c.over code again → columns_at ns form s at ≡ columns_on ns form s x kept c.next
-        unfolding columns_on columns_walk ref_found view_of seen ref_at column_step ref_code ref_seen
-        columns_more {c} {x} {code} {again} {kept} p a z k e = walk_more (columns_walk ns form s) (both r own) i inv u h d b p (both x kept) refl (λ w v. step w (same_Some c (ref_seen s w) v))
+        unfolding columns_on columns_walk ref_reading ref_at column_step ref_code ref_seen
+        columns_more {c} {x} {code} {again} {kept} q a z k e = walk_more (columns_walk ns form s) (both r own) i inv u d b (both x kept) q (λ w v. step w v)
           where
             step : (w : Read Ref) → c ≡ ref_seen s w → both x kept ≡ column_step ns (both r own) w.what
             step w v = rw (e, k, z, a, v)
@@ -163,9 +162,9 @@ column_made r over again code e f g h i = rw (e, f, g, h, i)
 
 -- ---- the whole list, for a reader of lines
 
-unfoldable pub columns_found : (ns : List ℕ) (form : Bool) (s : Bytes) → Finding (List Ref) Columns s
+unfoldable pub columns_reading : (ns : List ℕ) (form : Bool) (s : Bytes) → Reading (List Ref) Columns s
 unfolding columns_seen
-columns_found ns form s =
+columns_reading ns form s =
     record {
       item = any_items (ends_by form) read_ref;
       leaves = any_items_leaves (ends_by form) (ends_none form) read_ref ref_leaves;

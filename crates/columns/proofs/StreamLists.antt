@@ -7,28 +7,25 @@ use Prim.Native.Nat.{ℕ, suc, ◌+◌, ◌-◌, ◌≤◌, ◌<◌, ◌^◌, mi
 use native.Mathlib.Omega.{arith}
 use lib.Bits.{bit_or, or_zero_r}
 use lib.Dec.{eqb}
-use lib.ListN.{length, drop, get_or, set, length-map}
+use lib.ListN.{length, drop, set, length-map}
 use lib.Seq.{set_out}
 use borrow.Author.Tests.{lt-ltb}
-use Rattle.std.specs.Prelude.{Option as Found, Some, None}
 use Rattle.lists.specs.Lists.{every, some?, distinct, count_from}
 use Rattle.syntax.specs.Grammar.{Bytes}
-use Rattle.syntax.specs.Readers.{Read, bind, closes, read_name}
+use Rattle.syntax.specs.Readers.{Read, bind, byte, closes, read_name}
 use Rattle.syntax.specs.Limits.{short}
 use Rattle.syntax.proofs.Leaving.{name_leaves}
-use Rattle.text.specs.declared.Name.{Name}
-use Rattle.text.specs.Words as W
-use Rattle.text.specs.Words.{name_at}
+use Rattle.text.specs.declared.NameAt.{NameAt}
+use Rattle.text.specs.Words.{Found, Some, None, seen, left_at, read_end, name_seen, name_found}
 use Rattle.text.specs.Readings.{any_items}
-use Rattle.text.proofs.Views.{name_view}
+use Rattle.text.proofs.Views.{Reading, name_reading}
 use Rattle.text.proofs.Fuel.{no_close, any_items_leaves}
 use Rattle.items.specs.Items.{first_of, code_short}
 use Rattle.items.proofs.Lists.{more}
 use Rattle.items.proofs.Folds.{first_more, every_more, map_more, length_more, fold, fold_from}
 use Rattle.masks.specs.Masks.{bit?, with_bit, mask_of}
 use Rattle.masks.proofs.Lists.{bit_mask, mask_append}
-use Rattle.terms.specs.Terms.{seen, stream_found}
-use Rattle.terms.proofs.Found.{Finding}
+use Rattle.terms.specs.Terms.{stream_found}
 use Rattle.terms.proofs.Codes.{stream_most}
 use Rattle.columns.specs.declared.Streams.{Streams}
 use Rattle.columns.specs.Columns.{stream_place, no_streams, streams_seen, streams_at, stream_added, streams_ended, ends_by}
@@ -131,12 +128,12 @@ unfolding streams_answer more bind fold
 answer_more ns s r x none = refl
 answer_more ns s r x (some xs) = refl
 
-unfoldable pub streams_walk : (ns : List ℕ) (s : Bytes) → Walk Bytes Name Seen (Found Streams) s
+unfoldable pub streams_walk : (ns : List ℕ) (s : Bytes) → Walk Bytes NameAt Seen (Found Streams) s
 streams_walk ns s =
     record {
       ends = ends_by false;
       unended = ends_none false;
-      view = name_view s;
+      reading = name_reading s;
       answer = streams_answer ns s;
       step = seen_step ns;
       stepped = answer_more ns s;
@@ -152,7 +149,7 @@ nothing_yet ns = refl
 
 -- at first nothing is read
 pub streams_start : (ns : List ℕ) (s : Bytes) (at : ℕ) {r : Streams} → r ≡ no_streams → streams_at ns s at ≡ streams_on ns s r 0 at
-unfolding streams_walk name_view streams_on on streams_at seen ends_by streams_seen streams_answer streams_ended so_far
+unfolding streams_walk name_reading streams_on on streams_at seen left_at ends_by streams_seen streams_answer streams_ended so_far
 streams_start ns s at e = rw e (go (any_items closes read_name (drop at s)))
   where
     go : (o : Option (Read (List Bytes))) → seen (streams_seen ns s) o ≡ streams_answer ns s (record { read = no_streams; mask = 0 }) o
@@ -166,9 +163,9 @@ streams_start ns s at e = rw e (go (any_items closes read_name (drop at s)))
 abbrev both : Streams → ℕ → Seen
 both r seen = record { read = r; mask = seen }
 
-pub streams_less : (ns : List ℕ) (s : Bytes) (i : ℕ) {n : Name} → i < length s → n ≡ name_at s (i + 1) → not n.ok ≡ false → length s - n.next < length s - i
-unfolding streams_walk name_view name_at
-streams_less ns s i h p q = walk_falls (streams_walk ns s) i h p q
+pub streams_less : (ns : List ℕ) (s : Bytes) (i p : ℕ) {n : NameAt} → i < length s → Some p ≡ read_end s (byte 32 (drop i s)) → Some n ≡ name_found s p → length s - n.next < length s - i
+unfolding streams_walk name_reading name_found
+streams_less ns s i p h b q = walk_falls (streams_walk ns s) i p h b q
 
 module _ (ns : List ℕ) (s : Bytes) (at i : ℕ) (r : Streams) (seen : ℕ) (inv : streams_at ns s at ≡ streams_on ns s r seen i) where
   pub streams_over : length s ≤ i → None ≡ streams_at ns s at
@@ -181,22 +178,22 @@ module _ (ns : List ℕ) (s : Bytes) (at i : ℕ) (r : Streams) (seen : ℕ) (in
     streams_close d e = ap Some e ∙ sym (walk_end (streams_walk ns s) (both r seen) i inv u d ∙ ap (λ j. Some (streams_ended r j)) (end_place s i h))
 
     module _ (d : t ≡ false) where
-      pub streams_other : (get_or s i 0 ≡ 32 → ⊥) → None ≡ streams_at ns s at
+      pub streams_other : {x : Found Streams} → None ≡ read_end s (byte 32 (drop i s)) → x ≡ None → x ≡ streams_at ns s at
       unfolding streams_on streams_walk streams_answer
-      streams_other f = sym (walk_other (streams_walk ns s) (both r seen) i inv u h d f)
+      streams_other f e = e ∙ sym (walk_other (streams_walk ns s) (both r seen) i inv u d f)
 
-      module _ {n : Name} (b : get_or s i 0 ≡ 32) (p : n ≡ name_at s (i + 1)) where
-        pub streams_stuck : not n.ok ≡ true → None ≡ streams_at ns s at
-        unfolding streams_on streams_walk streams_answer name_view name_at
-        streams_stuck q = sym (walk_stuck (streams_walk ns s) (both r seen) i inv u h d b p q)
+      module _ {p : ℕ} (b : Some p ≡ read_end s (byte 32 (drop i s))) where
+        pub streams_stuck : {x : Found Streams} → None ≡ name_found s p → x ≡ None → x ≡ streams_at ns s at
+        unfolding streams_on streams_walk streams_answer name_reading name_found
+        streams_stuck q e = e ∙ sym (walk_stuck (streams_walk ns s) (both r seen) i inv u d b q)
 
-        pub streams_more : {x : Streams} {place mask : ℕ} {again : Bool} → not n.ok ≡ false → place ≡ stream_found ns n.code → again ≡ bit? seen place
+        pub streams_more : {n : NameAt} {x : Streams} {place mask : ℕ} {again : Bool} → Some n ≡ name_found s p → place ≡ stream_found ns n.code → again ≡ bit? seen place
             → x ≡ stream_added r n.long place again → mask ≡ with_bit seen place → streams_at ns s at ≡ streams_on ns s x mask n.next
-        unfolding streams_on streams_walk name_view name_at seen_step stream_place code_short W.name_read
-        streams_more {x} {place} {mask} {again} q a c e m =
-            walk_more (streams_walk ns s) (both r seen) i inv u h d b p (record { read = x; mask = mask }) q (λ w v. step w v)
+        unfolding streams_on streams_walk name_reading name_found seen_step stream_place code_short name_seen
+        streams_more {n} {x} {place} {mask} {again} q a c e m =
+            walk_more (streams_walk ns s) (both r seen) i inv u d b (record { read = x; mask = mask }) q (λ w v. step w v)
           where
-            step : (w : Read Bytes) → n ≡ W.name_read s (some w) → ◌≡◌ {A = Seen} (record { read = x; mask = mask }) (seen_step ns (both r seen) w.what)
+            step : (w : Read Bytes) → n ≡ name_seen s w → ◌≡◌ {A = Seen} (record { read = x; mask = mask }) (seen_step ns (both r seen) w.what)
             step w v =
                 let k : place ≡ stream_place ns w.what = a ∙ ap (λ n. stream_found ns n.code) v in
                 let l : n.long ≡ not (short w.what) = ap (λ n. n.long) v in
@@ -225,9 +222,9 @@ pub ruleset stream_adds = (stream_full, stream_room)
 
 -- ---- the whole list, for a reader of lines
 
-unfoldable pub streams_found : (ns : List ℕ) (s : Bytes) → Finding (List Bytes) Streams s
+unfoldable pub streams_reading : (ns : List ℕ) (s : Bytes) → Reading (List Bytes) Streams s
 unfolding streams_seen
-streams_found ns s =
+streams_reading ns s =
     record {
       item = any_items closes read_name;
       leaves = any_items_leaves closes no_close read_name name_leaves;

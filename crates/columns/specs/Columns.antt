@@ -1,15 +1,15 @@
 -- Lists of streams and of columns in a line, resolved by the names of a schema.
-use Rattle.std.specs.Prelude.{List, [], ◌∷◌, ◌++◌, map, Bool, false, ◌&&◌, ◌||◌, not, cond, ℕ, suc, ◌-◌, min, leb, ltb, eqb, length, drop, set, replicate}
-use Rattle.std.specs.Prelude.{Option as Found}
+use Rattle.std.specs.Prelude.{List, [], ◌∷◌, ◌++◌, map, Bool, false, ◌&&◌, ◌||◌, not, cond, ℕ, suc, min, leb, ltb, eqb, length, drop, set, replicate}
 use Rattle.lists.specs.Lists.{every, some?, distinct}
 use Rattle.syntax.specs.Grammar.{Bytes, Ref}
 use Rattle.syntax.specs.Limits.{max_streams, short, short_ref}
 use Rattle.syntax.specs.Readers.{Read, closes, form_next, read_name, read_ref}
+use Rattle.text.specs.Words.{Found, seen, left_at}
 use Rattle.text.specs.Readings.{any_items}
 use Rattle.items.specs.Items.{code_short, first_of}
 use Rattle.masks.specs.Masks.{bit?, with_bit, mask_of}
 use Rattle.orders.specs.Orders.{with_code, order_of}
-use Rattle.terms.specs.Terms.{seen, entry_code, unknown_code, stream_found, second_code, ref_code}
+use Rattle.terms.specs.Terms.{entry_code, unknown_code, stream_found, second_code, ref_code}
 use Rattle.columns.specs.declared.Streams.{Streams}
 use Rattle.columns.specs.declared.Columns.{Columns}
 
@@ -26,7 +26,7 @@ no_streams = record { next = 0; over = false; unknown = false; repeated = false;
 unfoldable pub streams_seen : List ℕ → Bytes → Read (List Bytes) → Streams
 streams_seen ns s r =
     record {
-      next = length s - length r.left;
+      next = left_at s r;
       over = not (every short r.what);
       unknown = some? (λ n. eqb (stream_place ns n) max_streams) r.what;
       repeated = not (distinct eqb (map (stream_place ns) r.what));
@@ -83,7 +83,7 @@ no_columns = record { next = 0; over = false; unknown = false; repeated = false;
 unfoldable pub columns_seen : List ℕ → Bytes → Read (List Ref) → Columns
 columns_seen ns s r =
     record {
-      next = length s - length r.left;
+      next = left_at s r;
       over = not (every short_ref r.what);
       unknown = some? (λ c. eqb (ref_code ns c) unknown_code) r.what;
       repeated = repeats ns 0 [] r.what;

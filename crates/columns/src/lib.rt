@@ -116,13 +116,8 @@ pub fn streams_at(s: &[u8], at: usize, names: &[u64]) -> Option<Streams>
         if ends_at(s, i, false) {
             return Some(streams_ended(r, i));
         }
-        if s[i] != b' ' {
-            return None;
-        }
-        let n = text::name_at(s, i + 1);
-        if !n.ok {
-            return None;
-        }
+        let p = text::skip(s, i, b' ')?;
+        let n = text::read_name(s, p)?;
         let place = terms::stream_place(names, n.code);
         let again = masks::shows(seen, place);
         r = with_stream(r, n.long, place, again);
@@ -213,10 +208,8 @@ pub fn columns_at(s: &[u8], at: usize, names: &[u64], form: bool) -> Option<Colu
         if ends_at(s, i, form) {
             return Some(columns_ended(r, i));
         }
-        if s[i] != b' ' {
-            return None;
-        }
-        let c = terms::ref_at(s, i + 1)?;
+        let p = text::skip(s, i, b' ')?;
+        let c = terms::ref_at(s, p)?;
         let code = terms::term_code(names, c.first, c.second);
         let seen = again(r.mask, &own, k, code, c.second);
         k = keep(&mut own, k, code, c.second);
