@@ -8,7 +8,6 @@ use native.Mathlib.Omega.{arith}
 use lib.Dec.{leb, eqb, leb-suc-suc}
 use lib.ListN.{length, drop, get_or, length-drop}
 use borrow.Author.Tests.{ne_eqb, eqb-true, eqb-false, le-leb}
-use Rattle.std.specs.Prelude.{Option as Found, Some, None}
 use Rattle.std.proofs.lemmas.Option.{none-some, same_Some}
 use Rattle.lists.specs.Lists.{some?}
 use Rattle.lists.proofs.Laws.{never, by_test}
@@ -16,11 +15,12 @@ use Rattle.syntax.specs.Grammar.{Bytes, Op, eq, Ref, Operand, Test, Cond, test}
 use Rattle.syntax.specs.Limits.{cond_depth}
 use Rattle.syntax.specs.Readers.{Read, bind, byte, read_test}
 use Rattle.model.specs.Conditions.{tests, map_cond}
+use Rattle.text.specs.Words.{Found, Some, None, seen, left_at}
 use Rattle.text.specs.Keywords.{op_number}
 use Rattle.text.proofs.Runs.{inside}
 use Rattle.text.proofs.Places.{byte_is, byte_not}
 use Rattle.terms.specs.declared.Comparison.{Comparison}
-use Rattle.terms.specs.Terms.{seen, test_over, left_code, right_code, test_value, comparison_of, comparison_at}
+use Rattle.terms.specs.Terms.{test_over, left_code, right_code, test_value, comparison_of, comparison_at}
 use Rattle.terms.proofs.Sides.{comparison_none, comparison_some}
 use Rattle.nodes.specs.Nodes.{node_words}
 use Rattle.nodes.specs.Storing.{put_node, size, store, inner_node}
@@ -50,15 +50,15 @@ module _ {A : Type 0} (ks : List ℕ) (k : Kind A) (s : Bytes) (b level : ℕ) w
     left_place = length s - length r.left
 
     pub told_near : leb (k.depth r.what) level ≡ true → told_read ks k s b level r ≡ seen_of ks (k.tests r.what) left_place (counted (b + k.words r.what))
-    unfolding told_read
+    unfolding told_read left_at
     told_near e = rw e
 
     pub told_deep : leb (k.depth r.what) level ≡ false → told_read ks k s b level r ≡ deep_seen left_place
-    unfolding told_read
+    unfolding told_read left_at
     told_deep e = rw e
 
     pub told_next : (told_read ks k s b level r).next ≡ left_place
-    unfolding told_read seen_of deep_seen
+    unfolding told_read seen_of deep_seen left_at
     told_next = by_test (leb (k.depth r.what) level) (λ e. rw e) (λ e. rw e)
 
     pub told_is : {i : Seen} → Some i ≡ told ks k s b level (some r) → i ≡ told_read ks k s b level r
@@ -115,7 +115,7 @@ module _ (ks : List ℕ) (s : Bytes) (b level : ℕ) (o : Op) (ws : List ℕ) (p
     t = record { op = o; left = a; right = c }
 
     made : (n : ℕ) → n ≤ length s → compared_one b (comparison_of ks (record { op = eq; left = a; right = c }) n) ≡ told_read ks (one ks) s b level (record { what = test t; left = drop n s })
-    unfolding told_read comparison_of compared_one compared_node seen_of nodes_of map_cond size tests some? test_node cond_depth test_over test_unknown left_code right_code test_value node_words
+    unfolding told_read comparison_of compared_one compared_node seen_of nodes_of map_cond size tests some? test_node cond_depth test_over test_unknown left_code right_code test_value node_words left_at
     made n l =
         let e : length s - length (drop n s) ≡ n = omega (arith, length-drop n s) in
         rw (le-leb 1 level up, e, mask_one (left_code ks t) (left_small ks t), mask_one (right_code ks t) (right_small ks t), or-false (test_over t), or-false (test_unknown ks t))
@@ -204,12 +204,12 @@ module _ {A : Type 0} (ks : List ℕ) (k : Kind A) (s : Bytes) (b level : ℕ) (
       whole_next = let l = inside s q (omega arith) in omega (arith, length-drop (q + 1) s)
 
       whole_near : leb (k.depth r.what) level ≡ true → Some (seen_of ks (k.tests r.what) (q + 1) (counted (counted (b + k.words r.what) + 1))) ≡ told ks (one ks) s b (suc level) (closing (some r))
-      unfolding told told_read seen
+      unfolding told told_read seen left_at
       whole_near t =
           rw (closed_at z, around.depth r.what, leb-suc-suc (k.depth r.what) level, t, around.inner r.what, whole_next, around.words r.what, count_on b (k.words r.what))
 
       whole_deep : leb (k.depth r.what) level ≡ false → Some (deep_seen (q + 1)) ≡ told ks (one ks) s b (suc level) (closing (some r))
-      unfolding told told_read seen
+      unfolding told told_read seen left_at
       whole_deep t = rw (closed_at z, around.depth r.what, leb-suc-suc (k.depth r.what) level, t, whole_next)
 
   module _ (r : Read A) (d : drop (length s - length r.left) s ≡ r.left) {i : Seen} (ws : List ℕ) {ws₁ : List ℕ} (j : ReadIn ks k s b level (some r) ws ws₁ (Some i)) where

@@ -9,7 +9,7 @@ use lib.ListN.{length, drop, get_or}
 use mir.Syntax.{w64}
 use mir.Val.{Fits}
 use borrow.Author.Tests.{lt-leb}
-use Rattle.std.specs.Prelude.{Option as Found, Some, None, option_map}
+use Rattle.std.specs.Prelude.{option_map}
 use Rattle.std.proofs.lemmas.Option.{same_Some}
 use Rattle.lists.proofs.Laws.{never}
 use Rattle.syntax.specs.Grammar.{Bytes, Test, Cond, all, any, neg, Conds}
@@ -17,18 +17,19 @@ use Rattle.syntax.specs.Limits.{cond_depth}
 use Rattle.syntax.specs.Readers as R
 use Rattle.syntax.specs.Readers.{Read, bind, ◌>>◌, ◌>>=◌, give, read_headed, compare, and, or, not_of}
 use Rattle.model.specs.Conditions.{tests, map_cond}
+use Rattle.text.specs.Words.{Found, Some, None, seen, left_at, read_end}
 use Rattle.text.specs.Keywords.{head_number}
 use Rattle.text.specs.Readings.{any_cond, any_conds}
 use Rattle.text.proofs.Places.{byte_inside, space_is, space_not}
 use Rattle.text.proofs.Views.{left_drop}
 use Rattle.text.proofs.Fuel.{any_cond_leaves, any_conds_leaves}
-use Rattle.terms.specs.Terms.{seen, comparison_at}
+use Rattle.terms.specs.Terms.{comparison_at}
 use Rattle.nodes.specs.Storing.{size, store}
 use Rattle.nodes.proofs.Depths.{depth_some}
 use Rattle.conditions.specs.declared.Seen.{Seen}
 use Rattle.conditions.specs.declared.Headed.{Headed}
 use Rattle.conditions.specs.Seeing.{head_at, nodes_of, deep_seen}
-use Rattle.conditions.specs.Steps.{Answers, compared_seen, compared_stored, closed_seen, closed_stored, Kind, one, many, told_read, told, ReadIn, CondIn, CondsIn, left_at, read_end, skipped_seen}
+use Rattle.conditions.specs.Steps.{Answers, compared_seen, compared_stored, closed_seen, closed_stored, Kind, one, many, told_read, told, ReadIn, CondIn, CondsIn, skipped_seen}
 use Rattle.conditions.proofs.Heads.{op_small, unheaded, headed}
 use Rattle.conditions.proofs.Closing.{unread, told_few, read_none, answered, compared_all, Around, closing, close_none, close_some}
 

@@ -8,7 +8,6 @@ use native.Mathlib.Omega.{arith}
 use lib.Dec.{leb, eqb}
 use lib.ListN.{length, drop, get_or, length-append, length-drop, drop_of_length-le}
 use borrow.Author.Tests.{ne_eqb}
-use Rattle.std.specs.Prelude.{Option as Found, Some, None}
 use Rattle.std.proofs.lemmas.Option.{same_Some}
 use Rattle.lists.specs.Lists.{every, some?, gather}
 use Rattle.lists.proofs.Laws.{append_nil, gather_append, never, by_test}
@@ -18,12 +17,12 @@ use Rattle.syntax.specs.Readers.{Read, Reader, bind, byte, read_more, head_word,
 use Rattle.syntax.proofs.Steps.{from}
 use Rattle.syntax.proofs.Leaving.{left_within, head_less, headed_leaves}
 use Rattle.model.specs.Conditions.{tests, tests_of, map_cond, map_conds, conds_of}
+use Rattle.text.specs.Words.{Found, Some, None, seen, left_at}
 use Rattle.text.specs.Readings.{any_cond, any_conds}
 use Rattle.text.proofs.Places.{space_is, space_not, byte_here}
 use Rattle.text.proofs.Views.{left_drop}
 use Rattle.text.proofs.Fuel.{any_cond_leaves, any_conds_leaves, cond_step, conds_step}
 use Rattle.masks.specs.Masks.{mask_of}
-use Rattle.terms.specs.Terms.{seen}
 use Rattle.nodes.specs.declared.Node.{Node}
 use Rattle.nodes.specs.Storing.{size, sizes, store, store_all, list_size, store_list}
 use Rattle.nodes.proofs.Sizes.{size_append, store_append}
@@ -228,7 +227,7 @@ module _ (ks : List ℕ) (s : Bytes) (b level at : ℕ) (ws : List ℕ) where
 
   -- what is told of all of them
   part_told : (cs : Conds Test) (p : ℕ) → p ≤ length s → Some (part_seen ks b level (list_of cs) p) ≡ told ks (many ks) s b level (some (record { what = cs; left = drop p s }))
-  unfolding part_seen told told_read seen
+  unfolding part_seen told told_read seen left_at
   part_told cs p h =
       let e : length s - length (drop p s) ≡ p = omega (arith, length-drop p s) in
       rw (depth_list level cs, tests_list cs, sizes_list ks cs, e)

@@ -8,8 +8,8 @@ use lib.Dec.{eqb, leb}
 use lib.ListN.{get_or}
 use lib.Bits.{bit_or}
 use borrow.Author.Tests.{ne_eqb, le-leb, lt-leb}
-use Rattle.std.specs.Prelude.{Option as Found, Some, None}
 use Rattle.syntax.specs.Grammar.{Bytes}
+use Rattle.text.specs.Words.{Found, Some, None}
 use Rattle.masks.specs.Masks.{with_bit}
 use Rattle.terms.specs.declared.Comparison.{Comparison}
 use Rattle.nodes.specs.Nodes.{node_words}

@@ -8,7 +8,6 @@ use native.Mathlib.Omega.{arith}
 use lib.Dec.{leb, eqb}
 use lib.ListN.{length, drop, get_or}
 use borrow.Author.Tests.{eqb-true, eq-eqb, ne_eqb, lt-leb, leb-true, leb-false, lt-ltb, le-ltb}
-use Rattle.std.specs.Prelude.{Option as Found, Some, None}
 use Rattle.std.proofs.lemmas.Option.{same_Some}
 use Rattle.lists.specs.Lists.{empty?}
 use Rattle.lists.proofs.Laws.{never, by_test}
@@ -17,16 +16,16 @@ use Rattle.syntax.specs.Limits.{cond_depth}
 use Rattle.syntax.specs.Readers.{Read, bind, ensure, byte, closes, read_items, read_some, read_more, read_cond}
 use Rattle.syntax.proofs.Steps.{bind_bind}
 use Rattle.syntax.proofs.Leaving.{left_within, byte_less}
+use Rattle.text.specs.Words.{Found, Some, None, seen, left_at, read_end}
 use Rattle.text.specs.Readings.{any_cond, any_conds, any_some}
 use Rattle.text.proofs.Runs.{first_byte}
 use Rattle.text.proofs.Views.{left_drop}
 use Rattle.text.proofs.Fuel.{bind_same, any_cond_leaves, any_conds_leaves, conds_step}
-use Rattle.terms.specs.Terms.{seen}
 use Rattle.nodes.specs.Storing.{size, store, list_size}
 use Rattle.nodes.proofs.Depths.{depth_some}
 use Rattle.conditions.specs.declared.Seen.{Seen}
 use Rattle.conditions.specs.Seeing.{nodes_of, deep_seen, seen_of, has_room, cond_seen, cond_stored, cond_at, CondRead, list_seen, list_stored, list_at, ListRead}
-use Rattle.conditions.specs.Steps.{counted, Kind, one, many, told_read, told, put_read, CondIn, CondsIn, fitted, left_at, read_end, skipped_seen}
+use Rattle.conditions.specs.Steps.{counted, Kind, one, many, told_read, told, put_read, CondIn, CondsIn, fitted, skipped_seen}
 use Rattle.conditions.proofs.Leaves.{count_exact}
 use Rattle.conditions.proofs.Closing.{unread, told_near, told_deep, told_none, told_some}
 use Rattle.conditions.proofs.Conditions.{skipped_silent}
@@ -173,7 +172,7 @@ unfolding counted
 count_first b w l = omega arith
 
 told_counted : (ks : List ℕ) (s : Bytes) (b level : ℕ) (o : Option (Read (Cond Test))) → told ks (one ks) s (counted b) level o ≡ told ks (one ks) s b level o
-unfolding told told_read seen
+unfolding told told_read seen left_at
 told_counted ks s b level none = refl
 told_counted ks s b level (some r) = rw (count_twice b (size (nodes_of ks r.what)))
 

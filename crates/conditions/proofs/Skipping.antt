@@ -10,26 +10,26 @@ use lib.Dec.{eqb}
 use lib.ListN.{length, drop, get_or, set, replicate, length-drop, length-set, length-replicate, drop_of_length-le}
 use lib.Seq.{get_or-set_same, get_or-set_other}
 use borrow.Author.Tests.{eq-eqb, ne_eqb, eqb-true, eqb-false}
-use Rattle.std.specs.Prelude.{Option as Found, Some, None}
 use Rattle.lists.proofs.Laws.{never}
 use Rattle.syntax.specs.Grammar.{Bytes, Op, Test, Cond, all, any, neg, Conds, last, more}
 use Rattle.syntax.specs.Readers as R
 use Rattle.syntax.specs.Readers.{Read, Reader, bind, ensure, ◌>>◌, ◌>>=◌, give, byte, read_test, read_headed, read_more, compare, and, or, not_of, head_word}
 use Rattle.syntax.proofs.Steps.{bind_bind}
+use Rattle.text.specs.Words.{Found, Some, None, seen, left_at, read_end}
 use Rattle.text.specs.Keywords.{head_number}
 use Rattle.text.specs.Readings.{any_cond, any_conds}
 use Rattle.text.proofs.Runs.{inside, first_byte}
 use Rattle.text.proofs.Places.{byte_here, space_is, space_not}
 use Rattle.text.proofs.Fuel.{bind_same, conds_step}
 use Rattle.terms.specs.declared.Comparison.{Comparison}
-use Rattle.terms.specs.Terms.{seen, comparison_at}
+use Rattle.terms.specs.Terms.{comparison_at}
 use Rattle.terms.proofs.Sides.{comparison_none, comparison_some}
 use Rattle.conditions.specs.declared.Headed.{Headed}
 use Rattle.conditions.specs.declared.Skip.{Skip}
 use Rattle.conditions.specs.declared.Skip.TheVariants.{Ended, Next}
 use Rattle.conditions.specs.declared.Seen.{Seen}
 use Rattle.conditions.specs.Seeing.{head_at, deep_seen}
-use Rattle.conditions.specs.Steps.{after_cond, left_at, read_end, skipped_seen}
+use Rattle.conditions.specs.Steps.{after_cond, skipped_seen}
 use Rattle.conditions.proofs.Heads.{op_small, unheaded, headed}
 
 -- ---- what is still to be read

@@ -1,6 +1,5 @@
 -- What is read of conditions: how many words they take, what their comparisons name, and the nodes that are stored of them.
 use Rattle.std.specs.Prelude.{◌≡◌, List, map, Bool, true, false, ◌||◌, ◌&&◌, cond, ℕ, ◌+◌, ◌-◌, leb, ltb, eqb, length, drop}
-use Rattle.std.specs.Prelude.{Option as Found, Some, None}
 use Rattle.std.proofs.Math.Option.{Option, none, some}
 use Rattle.lists.specs.Lists.{some?, every, gather}
 use Rattle.syntax.specs.Grammar.{Bytes, Test, Cond}
@@ -8,10 +7,11 @@ use Rattle.syntax.specs.Limits.{max_line, cond_depth}
 use Rattle.syntax.specs.Readers as R
 use Rattle.syntax.specs.Readers.{Read, closes, read_head, head_word, heads}
 use Rattle.model.specs.Conditions.{tests, map_cond}
+use Rattle.text.specs.Words.{Found, Some, None, seen, left_at}
 use Rattle.text.specs.Keywords.{op_number, head_number}
 use Rattle.text.specs.Readings.{any_cond, any_some}
 use Rattle.masks.specs.Masks.{mask_of}
-use Rattle.terms.specs.Terms.{seen, unknown_code, test_over, left_code, right_code, test_value}
+use Rattle.terms.specs.Terms.{unknown_code, test_over, left_code, right_code, test_value}
 use Rattle.nodes.specs.Storing.{size, list_size, store, store_list}
 use Rattle.nodes.specs.declared.Node.{Node}
 use Rattle.conditions.specs.declared.Seen.{Seen}
@@ -19,7 +19,7 @@ use Rattle.conditions.specs.declared.Headed.{Headed}
 
 -- the head at a place, and the place after it
 unfoldable pub head_seen : Bytes → Read R.Head → Headed
-head_seen s r = record { head = head_number r.what; next = length s - length r.left }
+head_seen s r = record { head = head_number r.what; next = left_at s r }
 
 unfoldable pub head_at : Bytes → ℕ → Found Headed
 head_at s at = seen (head_seen s) (read_head head_word heads (drop at s))

@@ -1,15 +1,16 @@
 -- The steps by which conditions are read: a comparison, a closing bracket, the conditions of a list one after another; and the skip over one that nests too deep.
-use Rattle.std.specs.Prelude.{◌≡◌, List, Bool, false, ◌||◌, ◌&&◌, not, cond, ℕ, zero, suc, ◌+◌, ◌-◌, ◌≤◌, min, leb, eqb, length, drop, get_or}
-use Rattle.std.specs.Prelude.{Option as Found, Some, None, option_map}
+use Rattle.std.specs.Prelude.{◌≡◌, List, Bool, false, ◌||◌, ◌&&◌, not, cond, ℕ, zero, suc, ◌+◌, ◌≤◌, min, leb, eqb, length, drop, get_or}
+use Rattle.std.specs.Prelude.{option_map}
 use Rattle.std.proofs.Math.Option.{Option, none, some}
 use Rattle.std.specs.Int.Bits.{bit_or}
 use Rattle.syntax.specs.Grammar.{Bytes, Test, Cond, Conds}
 use Rattle.syntax.specs.Limits.{cond_depth, conds_depth}
 use Rattle.syntax.specs.Readers.{Read}
 use Rattle.model.specs.Conditions.{tests, tests_of, map_conds}
+use Rattle.text.specs.Words.{Found, Some, None, seen, left_at, read_end}
 use Rattle.text.specs.Readings.{any_cond, any_conds}
 use Rattle.masks.specs.Masks.{with_bit}
-use Rattle.terms.specs.Terms.{seen, unknown_code}
+use Rattle.terms.specs.Terms.{unknown_code}
 use Rattle.terms.specs.declared.Comparison.{Comparison}
 use Rattle.nodes.specs.Nodes.{node_words}
 use Rattle.nodes.specs.Storing.{put_node, size, sizes, store, store_all, inner_node}
@@ -106,7 +107,7 @@ many ks = record { words = λ cs. sizes (map_conds (test_node ks) cs); tests = t
 -- what is told of them, whether or not their words have room
 unfoldable pub told_read : {A : Type 0} → List ℕ → Kind A → Bytes → ℕ → ℕ → Read A → Seen
 told_read ks k s b level r =
-    let next = length s - length r.left in
+    let next = left_at s r in
     cond (leb (k.depth r.what) level) (seen_of ks (k.tests r.what) next (counted (b + k.words r.what))) (deep_seen next)
 
 unfoldable pub told : {A : Type 0} → List ℕ → Kind A → Bytes → ℕ → ℕ → Option (Read A) → Found Seen
@@ -144,14 +145,6 @@ after_cond s single p zero = Some (Ended p)
 after_cond s single p (suc n) =
     cond (eqb (get_or s p 0) 41) (after_cond s single (p + 1) n)
     (cond (eqb (get_or s p 0) 32 && not (get_or single n false)) (Some (Next (p + 1) (suc n))) None)
-
--- where in a text begins what is left of it
-unfoldable pub left_at : {A : Type 0} → Bytes → Read A → ℕ
-left_at s r = length s - length r.left
-
--- the same where there is a read
-unfoldable pub read_end : {A : Type 0} → Bytes → Option (Read A) → Found ℕ
-read_end s o = seen (left_at s) o
 
 -- a condition that is skipped
 unfoldable pub skipped_seen : Bytes → ℕ → Found Seen

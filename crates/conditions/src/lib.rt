@@ -3,14 +3,15 @@
 
 ghost use Rattle.std.specs.Prelude.{◌≡◌, true, ◌||◌, suc, ◌≤◌, eqb, length, drop};
 ghost use Rattle.syntax.specs.Limits.{max_line};
+ghost use Rattle.text.specs.Words.{read_end};
 ghost use Rattle.text.specs.Readings.{any_cond};
 ghost use Rattle.terms.specs.Terms.{unknown_code, comparison_at};
 ghost use Rattle.conditions.specs.Seeing.{head_at, deep_seen, begun, CondRead, ListRead, most_words};
-ghost use Rattle.conditions.specs.Steps.{counted, Placed, compared_seen, compared_stored, closed_seen, closed_stored, both_seen, Answers, fitted, CondIn, CondsIn, after_cond, read_end, skipped_seen, max_nest};
+ghost use Rattle.conditions.specs.Steps.{counted, Placed, compared_seen, compared_stored, closed_seen, closed_stored, both_seen, Answers, fitted, CondIn, CondsIn, after_cond, skipped_seen, max_nest};
 
 use nodes::Node;
 use terms::Term;
-use text::{Line, Word};
+use text::Line;
 
 // The head of a condition by its number, and the place after it.
 #[derive(Clone, Copy)]
@@ -43,14 +44,9 @@ impl Seen {
 pub fn head_at(s: &[u8], at: usize) -> Option<Headed>
     ensures { result ≡ head_at s.now at }
 {
-    if text::byte(s, at) != b'(' {
-        return None;
-    }
-    let w = text::word_at(s, at + 1);
-    let n = Word::head(w.code);
-    if n == 0 {
-        return None;
-    }
+    let p = text::skip(s, at, b'(')?;
+    let w = text::read_word(s, p)?;
+    let n = w.as_head()?;
     Some(Headed {
         head: n,
         next: w.next,
