@@ -340,10 +340,9 @@ fn asked_of(r: Reading, p: Placing) -> Asked
 pub fn read(s: &[u8], at: usize, names: &[u64], words: &mut [u32]) -> Asked
     ensures { Asks names.now s.now at words.old words.new result }
 {
-    let r = query_read::read(s, at, names, words);
-    if !r.ok {
+    let Some(r) = query_read::read(s, at, names, words) else {
         return unread(false);
-    }
+    };
     let p = placed(r, names);
     asked_of(r, p)
 }
