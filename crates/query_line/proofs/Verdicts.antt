@@ -12,7 +12,7 @@ use Rattle.refusal.specs.Checks.{Check, refuse, first, table, shown}
 use Rattle.refusal.specs.declared.Refusal.TheVariants.{Bound, Undeclared, Repeated, Misplaced, WindowSize}
 use Rattle.std.proofs.lemmas.Option.{same_Some}
 use Rattle.lists.specs.Lists.{every, distinct}
-use Rattle.lists.proofs.Laws.{and_both, true_T, T_true, every_both, never, by_test}
+use Rattle.lists.proofs.Laws.{and_both, true_T, T_true, every_both, by_test}
 use Rattle.syntax.specs.Grammar.{Bytes, Form, Entry, form?, put_form}
 use Rattle.syntax.specs.Limits.{form_depth}
 use Rattle.syntax.specs.Readers.{Read}
@@ -46,7 +46,7 @@ use Rattle.query_read.proofs.Answering as A
 use Rattle.query_line.specs.declared.Asked.{Asked}
 use Rattle.query_line.specs.declared.Placing.{Placing}
 use Rattle.query_line.specs.Placing.{begun}
-use Rattle.query_line.specs.Asking.{placing_of, asked_of, unread_asked, asked_form, asked_read, form_checks, Tells, Asks, Means}
+use Rattle.query_line.specs.Asking.{placing_of, asked_of, asked_form, asked_seen, form_checks, Tells, Asks, Means}
 use Rattle.query_line.proofs.Bounds.{part_fine, over_is, parts_fine, parts_few}
 use Rattle.query_line.proofs.Known.{sane, part_declared, all_sane, all_declared, unknown_is, repeated_is, keeps_few}
 use Rattle.query_line.proofs.Running.{run_parts, placing_is, nothing_full, nothing_counted}
@@ -219,16 +219,12 @@ module _ (ns : List ℕ) (sound : T (schema_sound ns)) (s : Bytes) (at : ℕ) (w
 
 -- ---- what is answered
 
-asked_ok : (r : Reading) (p : Placing) → (asked_of r p).ok ≡ true
-unfolding asked_of
-asked_ok r p = refl
-
 asked_bound : (r : Reading) (p : Placing) → (asked_of r p).checks.bound ≡ r.over
 unfolding asked_of
 asked_bound r p = refl
 
-form_asked : (ns : List ℕ) (s : Bytes) (q : Read Form) → asked_of (form_seen ns s q) (placing_of ns (form_seen ns s q)) ≡ asked_form ns q.what (length s - length q.left)
-unfolding asked_form form_seen left_at
+form_asked : (ns : List ℕ) (s : Bytes) (q : Read Form) → asked_of (form_seen ns s q) (placing_of ns (form_seen ns s q)) ≡ asked_seen ns s q
+unfolding asked_seen asked_form form_seen
 form_asked ns s q = refl
 
 asked_next : (ns : List ℕ) (s : Bytes) (q : Read Form) (p : Placing) → (asked_of (form_seen ns s q) p).next ≡ length s - length q.left
@@ -258,22 +254,21 @@ module _ (ns : List ℕ) (s : Bytes) (at : ℕ) (ws vs : List ℕ) where
     unread e = by_test (readable s ws) (λ a. h.is ∙ rw (a, e)) (λ a. read_not a)
 
   -- what is answered, by whether the line may be read and by what stands there
-  answered_by : {x : Asked} → (readable s ws ≡ false → x ≡ unread_asked false) → (any_form (drop at s) ≡ none → x ≡ unread_asked false)
-      → (T (readable s ws) → (q : Read Form) → any_form (drop at s) ≡ some q → x ≡ asked_form ns q.what (length s - length q.left)) → x ≡ cond (readable s ws) (asked_read ns s (any_form (drop at s))) (unread_asked false)
-  unfolding asked_read
+  answered_by : {x : Found Asked} → (readable s ws ≡ false → x ≡ None) → (any_form (drop at s) ≡ none → x ≡ None)
+      → (T (readable s ws) → (q : Read Form) → any_form (drop at s) ≡ some q → x ≡ Some (asked_seen ns s q)) → x ≡ cond (readable s ws) (seen (asked_seen ns s) (any_form (drop at s))) None
+  unfolding seen
   answered_by {x} f g k = by_test (readable s ws) (λ a. go a (any_form (drop at s)) refl) (λ a. f a ∙ rw a)
     where
-      go : readable s ws ≡ true → (o : Option (Read Form)) → any_form (drop at s) ≡ o → x ≡ cond (readable s ws) (asked_read ns s (any_form (drop at s))) (unread_asked false)
+      go : readable s ws ≡ true → (o : Option (Read Form)) → any_form (drop at s) ≡ o → x ≡ cond (readable s ws) (seen (asked_seen ns s) (any_form (drop at s))) None
       go a none e = g e ∙ rw (a, e)
       go a (some q) e = k (true_T (readable s ws) a) q e ∙ rw (a, e)
 
-  pub asks_none : {x : Asked} → FormRead ns s at ws vs None → x ≡ unread_asked false → Asks ns s at ws vs x
-  unfolding unread_asked
+  pub asks_none : {x : Found Asked} → FormRead ns s at ws vs None → x ≡ None → Asks ns s at ws vs x
   asks_none {x} h d =
       record {
         is = answered_by (λ a. d) (λ e. d) (λ rd q e. absurd (no_some (read_is h rd q e)));
-        stored = λ k o. never (sym k ∙ ap (λ y. y.ok) d);
-        none_read = λ e. ap (λ y. y.ok) d;
+        stored = λ a k o. absurd (no_some (sym d ∙ k));
+        none_read = λ e. d;
         some_read = λ sound rd q e. absurd (no_some (read_is h rd q e));
         kept = h.kept;
       }
@@ -289,11 +284,11 @@ module _ (ns : List ℕ) (s : Bytes) (at : ℕ) (ws vs : List ℕ) where
         some_few a none e = absurd (no_some (sym (unread h e)))
         some_few a (some q) e = let k = ap (λ y. y.count) (r_is (true_T (readable s ws) a) q e) in let m = counted_most ns s q in omega arith
 
-    pub asks_some : {x : Asked} {p : Placing} → p ≡ placing_of ns r → x ≡ asked_of r p → Asks ns s at ws vs x
+    pub asks_some : {x : Asked} {p : Placing} → p ≡ placing_of ns r → x ≡ asked_of r p → Asks ns s at ws vs (Some x)
     asks_some {x} {p} f d =
         record {
-          is = answered_by (λ a. absurd (no_some (sym (read_not h a)))) (λ e. absurd (no_some (sym (unread h e)))) (λ rd q e. made rd q e ∙ form_asked ns s q);
-          stored = λ k o. h.stored r refl (sym (asked_bound r p) ∙ sym (ap (λ y. y.checks.bound) d) ∙ o);
+          is = answered_by (λ a. absurd (no_some (sym (read_not h a)))) (λ e. absurd (no_some (sym (unread h e)))) (λ rd q e. ap Some (made rd q e ∙ form_asked ns s q));
+          stored = λ a k o. h.stored r refl (sym (asked_bound r p) ∙ sym (ap (λ y. y.checks.bound) d) ∙ ap (λ y. y.checks.bound) (same_Some x a k) ∙ o);
           none_read = λ e. absurd (no_some (sym (unread h e)));
           some_read = λ sound rd q e. told sound rd q e;
           kept = h.kept;
@@ -307,7 +302,6 @@ module _ (ns : List ℕ) (s : Bytes) (at : ℕ) (ws vs : List ℕ) where
             let i = r_is rd q e in
             let y = made rd q e in
             record {
-              ok = ap (λ a. a.ok) y ∙ asked_ok (form_seen ns s q) (placing_of ns (form_seen ns s q));
               next = ap (λ a. a.next) y ∙ asked_next ns s q (placing_of ns (form_seen ns s q));
               checks = ap (λ a. first (table a.checks)) y ∙ verdict ns sound s at ws rd q e;
               query = λ none_fails.
