@@ -21,7 +21,7 @@ use Rattle.calls.specs.Replies.{written}
 use Rattle.calls.specs.Tables.{caller_checks}
 use Rattle.calls.specs.Calls.{caller_table}
 use Rattle.items.specs.Items.{once}
-use Rattle.caller.specs.Lines.{caller_made, unread_line, line_of, caller_line}
+use Rattle.caller.specs.Lines.{caller_made, unread_line, line_given, line_of, caller_line}
 use Rattle.caller.proofs.Made.{once_same}
 
 -- where the first check holds off, the second is the same
@@ -30,7 +30,7 @@ same_checks true b c h = ap (λ x. cond (not x) (some Repeated) none) (h tt)
 same_checks false b c h = refl
 
 checks_first : (m : G.Caller) → T (body? G.caller m) → first (table (line_of (some m)).checks) ≡ first (caller_checks m)
-unfolding first table refuse line_of caller_checks
+unfolding first table refuse line_of line_given caller_checks
 checks_first m t =
     same_checks (caller_bounded m) (once (caller_made m).role (caller_made m).roles && once (caller_made m).name (caller_made m).entries)
     (distinct same_list m.roles && distinct same_list (entry_names m.profile)) (once_same m t)

@@ -1,14 +1,11 @@
 -- Lists by what stands at their first places.
 use mathlib.Core.Path.{◌≡◌, refl, sym, ap, ◌∙◌}
 use mathlib.Core.List.{List, [], ◌∷◌, map, map-map, map-id}
-use mathlib.Core.Bool.{Bool, true, false, not}
-use Prim.Native.Nat.{ℕ, zero, suc, ◌+◌, ◌≤◌, ◌<◌}
+use Prim.Native.Nat.{ℕ, zero, suc, ◌≤◌, ◌<◌}
 use native.Mathlib.Omega.{arith}
-use native.Mathlib.Numerals.{add-one}
-use lib.ListN.{length, take, drop, get_or, length-map, length-take, drop_of_length-le}
-use lib.Seq.{length-take-le, drop-cons, get_or-take}
-use borrow.Author.Tests.{not-true, not-false}
-use Rattle.lists.specs.Lists.{All, every, count_from}
+use lib.ListN.{length, take, get_or, length-map}
+use lib.Seq.{length-take-le, get_or-take}
+use Rattle.lists.specs.Lists.{All, count_from}
 use Rattle.lists.proofs.Laws.{map_same}
 use Rattle.lists.proofs.Counting.{map_alike, map_places}
 use Rattle.items.specs.Items.{first_of}
@@ -42,31 +39,3 @@ module _ {A B : Type 0} (f : A → B) (d : A) (e : B) where
   kept_at n xs l i h =
       let m = length-map xs f in
       sym (get_or-take (length (map f xs)) (first_of n e (map f xs)) i e (omega arith)) ∙ ap (λ ys. get_or ys i e) (first_taken n e (map f xs) (omega arith)) ∙ at_map xs i h
-
--- ---- a test of each of the first n, place by place
-
-module _ (p : ℕ → Bool) (xs : List ℕ) (n i : ℕ) where
-  here : i < n → i < length xs → drop i (take n xs) ≡ get_or xs i 0 ∷ drop (i + 1) (take n xs)
-  here h l = drop-cons (take n xs) i 0 (let k = length-take n xs in omega arith) ∙ rw (get_or-take n xs i 0 h, add-one i)
-
-  module _ (inv : every p (take n xs) ≡ every p (drop i (take n xs))) where
-    ended : length (take n xs) ≤ i → true ≡ every p (take n xs)
-    unfolding every
-    ended k = sym (inv ∙ rw (drop_of_length-le (take n xs) k))
-
-    pub tested_end : n ≤ i → true ≡ every p (take n xs)
-    tested_end h = ended (omega (arith, length-take n xs))
-
-    pub tested_over : {m : ℕ} → length xs ≡ m → m ≤ i → true ≡ every p (take n xs)
-    tested_over l h = ended (omega (arith, length-take n xs))
-
-    module _ {m : ℕ} {x : Bool} (h : i < n) (k : length xs ≡ m) (l : i < m) (e : x ≡ p (get_or xs i 0)) where
-      pub tested_stop : not x ≡ true → false ≡ every p (take n xs)
-      unfolding every
-      tested_stop q = sym (inv ∙ rw (here h (omega arith), sym e ∙ not-true x q))
-
-      pub tested_more : not x ≡ false → every p (take n xs) ≡ every p (drop (i + 1) (take n xs))
-      unfolding every
-      tested_more q = inv ∙ rw (here h (omega arith), sym e ∙ not-false x q)
-
-pub ruleset tested_ends = (tested_end, tested_over, tested_stop, tested_more)

@@ -1,23 +1,22 @@
 -- The `caller` line: what is read of it, what it says and what it leaves.
-use Rattle.std.specs.Prelude.{map, Bool, true, false, ◌&&◌, ◌||◌, not, cond, suc, min, pos, ltb, length, take}
+use Rattle.std.specs.Prelude.{map, Bool, true, false, ◌&&◌, ◌||◌, not, cond, ℕ, suc, min, pos, ltb, length, drop, take, Result}
 use Rattle.std.proofs.Math.Option.{Option, none, some}
-use Rattle.refusal.specs.Numbers.{verdict_of}
+use Rattle.refusal.specs.Results.{result_of, giving}
 use Rattle.refusal.specs.Checks.{first, unread, shown}
-use Rattle.refusal.specs.declared.Verdict.{Verdict}
-use Rattle.refusal.specs.declared.Verdict.TheVariants.{Accepted, Refused}
+use Rattle.refusal.specs.declared.Refusal.{Refusal}
 use Rattle.syntax.specs.Grammar as G
 use Rattle.syntax.specs.Grammar.{Bytes}
 use Rattle.syntax.specs.Limits.{max_line, max_columns, max_roles, max_entries}
-use Rattle.syntax.specs.Readers.{parse_as}
+use Rattle.syntax.specs.Readers.{read_body, parse_as}
 use Rattle.calls.specs.Bounds.{caller_bounded}
 use Rattle.calls.specs.Calls.{caller_table}
-use Rattle.text.specs.Words.{value_kept}
+use Rattle.text.specs.Words.{Found, seen, value_kept}
+use Rattle.text.specs.Readings.{closed}
 use Rattle.items.specs.Items.{code_short, first_of, once}
-use Rattle.items.specs.declared.Names.{Names}
-use Rattle.items.specs.declared.Entries.{Entries}
+use Rattle.items.specs.declared.NamesAt.{NamesAt}
+use Rattle.items.specs.declared.EntriesAt.{EntriesAt}
 use Rattle.caller.specs.declared.Caller.{Caller}
 use Rattle.caller.specs.declared.CallerLine.{CallerLine}
-use Rattle.caller.specs.declared.Identified.{Identified}
 use Rattle.caller.specs.Callers.{no_caller}
 
 -- ---- what is read of it
@@ -37,22 +36,29 @@ caller_made w =
     }
 
 -- a name is too long, a value beyond its range, or there are too many (3); a role or an entry stands twice (6)
-unfoldable pub line_of : Option G.Caller → CallerLine
-line_of none = unread_line false
-line_of (some w) =
+unfoldable pub line_given : G.Caller → CallerLine
+line_given w =
     record {
       checks = shown (not (caller_bounded w)) false (not (once (caller_made w).role (caller_made w).roles && once (caller_made w).name (caller_made w).entries)) false false;
       caller = caller_made w;
     }
 
+unfoldable pub line_of : Option G.Caller → CallerLine
+line_of none = unread_line false
+line_of (some w) = line_given w
+
+-- what a text says from a place on, after its first word
+unfoldable pub line_after : Bytes → ℕ → Found CallerLine
+line_after s at = seen line_given (closed (read_body G.caller (length s) (drop at s)))
+
 unfoldable pub caller_line : Bytes → CallerLine
 caller_line bs = cond (ltb max_line (length bs)) (unread_line true) (line_of (parse_as G.caller bs))
 
 -- the same by roles and entries as the code reads them
-unfoldable pub caller_read : Names → Entries → Caller
+unfoldable pub caller_read : NamesAt → EntriesAt → Caller
 caller_read rs es = record { roles = rs.count; role = take max_roles rs.codes; entries = es.count; name = es.names; value = es.values }
 
-unfoldable pub line_read : Names → Entries → CallerLine
+unfoldable pub line_read : NamesAt → EntriesAt → CallerLine
 line_read rs es =
     record {
       checks =
@@ -61,16 +67,12 @@ line_read rs es =
       caller = caller_read rs es;
     }
 
--- ---- what it says and leaves
+-- ---- what it says
 
 unfoldable pub with_caller : Caller → Option G.Caller → Caller
 with_caller w none = w
 with_caller w (some m) = caller_made m
 
-unfoldable pub outcome : Verdict → Caller → Caller → Identified
-outcome Accepted new old = record { verdict = Accepted; caller = new }
-outcome (Refused f) new old = record { verdict = Refused f; caller = old }
-
--- the first check that fails, and the caller as it was; or the caller of the line
-unfoldable pub identified : Caller → Bytes → Identified
-identified w bs = outcome (verdict_of (first (caller_table bs))) (with_caller w (parse_as G.caller bs)) w
+-- the first check that fails; or the caller of the line
+unfoldable pub identified : Caller → Bytes → Result Caller Refusal
+identified w bs = giving (result_of (first (caller_table bs))) (with_caller w (parse_as G.caller bs))

@@ -1,15 +1,15 @@
 // The caller by value: at most four roles and four profile entries, and the `caller` line that gives one.
 #![tactic(auto)]
 
-ghost use Rattle.std.specs.Prelude.{◌≡◌, T, get_or, take};
+ghost use Rattle.std.specs.Prelude.{◌≡◌, T, take};
 ghost use Rattle.lists.specs.Lists.{every, distinct, same_list};
 ghost use Rattle.syntax.specs.Limits.{max_roles, max_entries, is_value};
 ghost use Rattle.items.specs.Items.{once};
 ghost use Rattle.caller.specs.Callers.{caller_sound, no_caller, code_valid, names_of, names_sound};
-ghost use Rattle.caller.specs.Lines.{caller_line, unread_line, line_read, caller_read, identified};
+ghost use Rattle.caller.specs.Lines.{caller_line, line_after, unread_line, line_read, caller_read, identified};
 
-use items::{Entries, Names};
-use refusal::{Checks, Verdict};
+use items::{Entries, EntriesAt, Names, NamesAt};
+use refusal::{Checks, Refusal};
 use text::{Line, Word};
 
 // Names are numbers, as `text` reads them.
@@ -30,55 +30,25 @@ pub struct CallerLine {
     pub caller: Caller,
 }
 
-// The verdict, and the caller of the line, or the one that was.
-#[derive(Clone, Copy)]
-pub struct Identified {
-    pub verdict: Verdict,
-    pub caller: Caller,
-}
-
 // ---- names as numbers
 
 // Whether each of the first n numbers is a name.
 fn all_valid(codes: [u64; Caller::ROLES], n: usize) -> bool
     ensures { result ≡ every code_valid (take n codes) }
 {
-    let mut i: usize = 0;
-    while i < Caller::ROLES {
-        if n <= i {
-            return true;
-        }
-        if !schema::valid_name(codes[i]) {
+    for code in &codes[..n.min(Caller::ROLES)] {
+        if !schema::valid_name(*code) {
             return false;
         }
-        i += 1;
     }
     true
-}
-
-// A number by its place, or 0 past the last place.
-fn code_at(codes: [u64; Caller::ROLES], i: usize) -> u64
-    ensures { result ≡ get_or codes i 0 }
-{
-    if Caller::ROLES <= i {
-        return 0;
-    }
-    codes[i]
 }
 
 // Whether of the first n numbers none stands twice, and so none of their names.
 fn none_twice(codes: [u64; Caller::ROLES], n: usize) -> bool
     ensures { (result ≡ once codes n) × (result ≡ distinct same_list (names_of codes n)) }
 {
-    let a = code_at(codes, 0);
-    let b = code_at(codes, 1);
-    let c = code_at(codes, 2);
-    let d = code_at(codes, 3);
-    let six = [a, b, c, d, 0, 0];
-    if Caller::ROLES < n {
-        return items::once(six, Caller::ROLES);
-    }
-    items::once(six, n)
+    items::distinct(&codes[..n.min(Caller::ROLES)])
 }
 
 // Whether the first n numbers are names, and none stands twice.
@@ -95,10 +65,8 @@ fn all_sound(codes: [u64; Caller::ROLES], n: usize) -> bool
 fn known(values: [i32; Caller::ENTRIES])
     ensures { T (every is_value values) }
 {
-    let mut i: usize = 0;
-    while i < Caller::ENTRIES {
-        let _v = values[i];
-        i += 1;
+    for v in &values {
+        let _v = *v;
     }
 }
 
@@ -108,11 +76,9 @@ fn known(values: [i32; Caller::ENTRIES])
 fn unread(long: bool) -> CallerLine
     ensures { result ≡ unread_line long }
 {
-    let checks = Checks::unread(long);
-    let caller = Caller::new();
     CallerLine {
-        checks: checks,
-        caller: caller,
+        checks: Checks::unread(long),
+        caller: Caller::new(),
     }
 }
 
@@ -120,15 +86,11 @@ fn unread(long: bool) -> CallerLine
 fn first_four(codes: [u64; Names::MOST]) -> [u64; Caller::ROLES]
     ensures { result ≡ take max_roles codes }
 {
-    let a = codes[0];
-    let b = codes[1];
-    let c = codes[2];
-    let d = codes[3];
-    [a, b, c, d]
+    [codes[0], codes[1], codes[2], codes[3]]
 }
 
 // Whether a name is too long, a value beyond 32 bits, or there are too many roles or entries.
-fn beyond(rs: Names, es: Entries) -> bool
+fn beyond(rs: NamesAt, es: EntriesAt) -> bool
     ensures { result ≡ (line_read rs es).checks.bound }
 {
     if rs.long {
@@ -144,7 +106,7 @@ fn beyond(rs: Names, es: Entries) -> bool
 }
 
 // The caller of roles and entries.
-fn caller_of(rs: Names, es: Entries) -> Caller
+fn caller_of(rs: NamesAt, es: EntriesAt) -> Caller
     ensures { result ≡ caller_read rs es }
 {
     let codes = rs.codes;
@@ -161,7 +123,7 @@ fn caller_of(rs: Names, es: Entries) -> Caller
 }
 
 // The line of roles and entries.
-fn line_of(rs: Names, es: Entries) -> CallerLine
+fn line_of(rs: NamesAt, es: EntriesAt) -> CallerLine
     ensures { result ≡ line_read rs es }
 {
     let caller = caller_of(rs, es);
@@ -177,32 +139,27 @@ fn line_of(rs: Names, es: Entries) -> CallerLine
     }
 }
 
+// The caller line that a text is after its first word.
+fn line_after(s: &[u8], at: usize) -> Option<CallerLine>
+    ensures { result ≡ line_after s.now at }
+{
+    let rs = items::read_names(s, text::part(s, at, Word::ROLES)?)?;
+    // The entries follow the bracket that closes the roles.
+    let es = items::read_entries(s, text::skip(s, rs.next, b')')?)?;
+    if !text::closes_at(s, es.next) {
+        return None;
+    }
+    Some(line_of(rs, es))
+}
+
 // Returns the caller line that a text is, with what is wrong with it. This decides refusal 1 of caller lines.
 pub fn read(s: &[u8]) -> CallerLine
     ensures { result ≡ caller_line s.now }
 {
-    let o = Line::open(s, Word::CALLER);
-    let at = o.at;
-    if at == 0 {
-        return unread(o.long);
+    match Line::after(s, Word::CALLER) {
+        Ok(at) => line_after(s, at).unwrap_or(unread(false)),
+        Err(e) => unread(e.long()),
     }
-    let p = text::part_at(s, at, Word::ROLES);
-    if p == 0 {
-        return unread(false);
-    }
-    let rs = items::names_at(s, p);
-    if !rs.ok {
-        return unread(false);
-    }
-    // The entries follow the bracket that closes the roles.
-    let es = items::entries_at(s, rs.next + 1);
-    if !es.ok {
-        return unread(false);
-    }
-    if !text::closes_at(s, es.next) {
-        return unread(false);
-    }
-    line_of(rs, es)
 }
 
 impl Caller {
@@ -258,24 +215,12 @@ impl Caller {
         all_sound(name, self.entries as usize)
     }
 
-    // The caller line. Returns the verdict, and the caller that the line names; refused, the caller as it was.
-    pub fn with_line(self, line: &[u8]) -> Identified
+    // The caller line. Returns the caller that the line names, or the refusal, after which the caller is who it was.
+    pub fn with_line(self, line: &[u8]) -> Result<Caller, Refusal>
         ensures { result ≡ identified self line.now }
     {
         let l = read(line);
-        let v = l.checks.verdict();
-        match v {
-            Verdict::Refused(f) => Identified {
-                verdict: Verdict::Refused(f),
-                caller: self,
-            },
-            Verdict::Accepted => {
-                let who = l.caller;
-                Identified {
-                    verdict: Verdict::Accepted,
-                    caller: who,
-                }
-            }
-        }
+        l.checks.result()?;
+        Ok(l.caller)
     }
 }

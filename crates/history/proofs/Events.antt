@@ -8,6 +8,9 @@ use lib.ListN.{length}
 use Rattle.refusal.specs.Checks.{refuse, first}
 use Rattle.refusal.specs.declared.Refusal.TheVariants.{Lent}
 use Rattle.refusal.specs.declared.Verdict.TheVariants.{Refused}
+use Rattle.std.specs.Prelude.{Err}
+use Rattle.refusal.specs.Results.{Said, held_after}
+use Rattle.refusal.proofs.Results.{result_some}
 use Rattle.refusal.proofs.Verdicts.{verdict_some, never_first}
 use Rattle.lists.specs.Lists.{every}
 use Rattle.lists.proofs.Laws.{and_both}
@@ -31,7 +34,7 @@ use Rattle.grant.proofs.Later.{catalogue_kept, catalogue_later}
 use Rattle.grant_line.specs.declared.Granted.{Granted}
 use Rattle.grant_line.specs.Granting.{grants_after, Grants}
 use Rattle.grant_line.proofs.Steps.{next_sound, next_is, here_said}
-use Rattle.history.specs.States.{State, Promise, verdict_in}
+use Rattle.history.specs.States.{State, Promise, said_in}
 use Rattle.history.specs.Fixtures.{Store, fixture_of, with_memory, with_grants, with_caller, Happens, called, granted, named, asked, Trace, stop, then, Sound, Fresh}
 use Rattle.history.proofs.Steps.{step_call}
 use Rattle.history.proofs.Beginning.{fresh_record, fresh_sound}
@@ -61,7 +64,7 @@ module _ (s : Store) (ok : Sound s) where
         record { memory = ok.memory; grants = next_sound s.memory.names (length s.grants) bs s.words ws r g s.grants refl ok.grants; caller = ok.caller },
       )
 
-  after_caller : (bs : Bytes) → (fixture_of (with_caller s (identified s.caller bs).caller) ≡ happen (fixture_of s) (caller bs)) × Sound (with_caller s (identified s.caller bs).caller)
+  after_caller : (bs : Bytes) → (fixture_of (with_caller s (held_after (identified s.caller bs) s.caller)) ≡ happen (fixture_of s) (caller bs)) × Sound (with_caller s (held_after (identified s.caller bs) s.caller))
   unfolding fixture_of with_caller happen
   after_caller bs = (
     ap (λ w. made (record_of s.memory) (catalogue_of s.memory.names s.grants s.words) w) (left_means s.caller bs),
@@ -72,7 +75,7 @@ pub step : {e : Event} {s t : Store} → Happens e s t → Sound s → (fixture_
 step (called {s} {c} {m} p) ok = after_call s ok c m p
 step (granted {s} {bs} {ws} {r} g) ok = after_grant s ok bs ws r g
 step (named {s} {bs} {r} e) ok =
-    subst (λ w. (fixture_of (with_caller s w) ≡ happen (fixture_of s) (caller bs)) × Sound (with_caller s w)) (sym (ap (λ x. x.caller) e)) (after_caller s ok bs)
+    subst (λ w. (fixture_of (with_caller s w) ≡ happen (fixture_of s) (caller bs)) × Sound (with_caller s w)) (sym (ap (λ x. held_after x s.caller) e)) (after_caller s ok bs)
 step (asked {s}) ok = (unfold happen in refl, ok)
 
 -- ---- a list of them
@@ -120,11 +123,11 @@ module _ {s t : Store} {es : List Event} (f : Fresh s) (r : Trace s es t) where
   sound_then : Sound t
   sound_then = (left_after f r).1
 
-  pub never_lent : {c : Call} {m : State} (p : Promise c t.memory m) → verdict_in p ≡ Refused Lent → ⊥
+  pub never_lent : {c : Call} {m : State} (p : Promise c t.memory m) → said_in p ≡ Err Lent → ⊥
   never_lent {c} p e =
       let k = step_call p sound_then.memory in
       let x = record_of t.memory in
-      never_first 12 (call_checks x c) Lent (call_never x c) (verdict_some (first (call_checks x c)) Lent (sym k.said ∙ e)) refl
+      never_first 12 (call_checks x c) Lent (call_never x c) (result_some (first (call_checks x c)) Lent (sym k.said ∙ e)) refl
 
   pub never_lent_grant : {bs : Bytes} {ws : List ℕ} {g : Granted} → Grants t.memory.names (length t.grants) bs t.words ws g → g.verdict ≡ Refused Lent → ⊥
   unfolding grant_checks refuse every

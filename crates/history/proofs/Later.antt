@@ -3,9 +3,9 @@ use mathlib.Core.Path.{◌≡◌, refl, sym, ap, ◌∙◌, subst}
 use mathlib.Core.List.{List}
 use mathlib.Core.Option.{Option, none, some}
 use Prim.Native.Nat.{ℕ}
-use Rattle.refusal.specs.declared.Verdict.{Verdict}
-use Rattle.refusal.specs.declared.Verdict.TheVariants.{Accepted, Refused}
-use Rattle.refusal.proofs.Verdicts.{not_accepted}
+use Rattle.std.specs.Prelude.{Ok, Err}
+use Rattle.refusal.specs.Results.{Said, settled}
+use Rattle.refusal.proofs.Results.{not_ok}
 use Rattle.syntax.specs.Grammar as G
 use Rattle.syntax.specs.Grammar.{Bytes, RowLine}
 use Rattle.syntax.specs.Readers.{parse_as}
@@ -14,21 +14,21 @@ use Rattle.schema.proofs.Later.{Later, same_later}
 use Rattle.stream_line.specs.Declaring.{Declares}
 use Rattle.stream_line.proofs.Declared.{refused_kept, accepted_read, accepted_later}
 use Rattle.ledger.specs.Records.{Memory}
-use Rattle.ledger.specs.Calls.{with_row, memory_after}
+use Rattle.ledger.specs.Calls.{with_row}
 use Rattle.record_lines.specs.Calls.{with_row_line}
 use Rattle.history.specs.States.{State, Promise, declared, clocked, rowed, cleared, clock_lined, row_lined, clear_lined}
 
-declared_later : (ns : List ℕ) (bs : Bytes) (ns' : List ℕ) (v : Verdict) → Declares ns bs ns' v → Later ns ns'
+declared_later : (ns : List ℕ) (bs : Bytes) (ns' : List ℕ) (v : Said) → Declares ns bs ns' v → Later ns ns'
 declared_later ns bs ns' v d = go v refl
   where
-    go : (u : Verdict) → v ≡ u → Later ns ns'
-    go Accepted e = accepted_read ns bs ns' v d e (λ s p. accepted_later ns bs ns' v d e s p)
-    go (Refused f) e = subst (Later ns) (sym (refused_kept ns bs ns' v d (λ a. not_accepted f (sym e ∙ a)))) (same_later ns)
+    go : (u : Said) → v ≡ u → Later ns ns'
+    go (Ok u) e = accepted_read ns bs ns' v d e (λ s p. accepted_later ns bs ns' v d e s p)
+    go (Err f) e = subst (Later ns) (sym (refused_kept ns bs ns' v d (λ a. not_ok f (sym e ∙ a)))) (same_later ns)
 
-after_names : (v : Verdict) (s t : Memory) → t.names ≡ s.names → (memory_after v s t).names ≡ s.names
-unfolding memory_after
-after_names Accepted s t e = e
-after_names (Refused f) s t e = refl
+after_names : (v : Said) (s t : Memory) → t.names ≡ s.names → (settled v s t).names ≡ s.names
+unfolding settled
+after_names (Ok u) s t e = e
+after_names (Err f) s t e = refl
 
 row_names : (s : Memory) (o : Option RowLine) → (with_row_line s o).names ≡ s.names
 unfolding with_row_line with_row

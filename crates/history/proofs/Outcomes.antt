@@ -8,6 +8,7 @@ use lib.IntN.{pos}
 use lib.Dec.{lit≤}
 use lib.ListN.{length, replicate, length-replicate}
 use Rattle.refusal.specs.Numbers.{verdict_of}
+use Rattle.refusal.specs.Results.{held_after, settled}
 use Rattle.refusal.specs.Checks.{refuse, first}
 use Rattle.refusal.specs.declared.Refusal.TheVariants.{Lent}
 use Rattle.refusal.specs.declared.Verdict.{Verdict}
@@ -22,9 +23,9 @@ use Rattle.calls.specs.Tables.{grant_checks}
 use Rattle.calls.specs.Calls.{Call, stream, clock, row, clear, clock_line, row_line, clear_line}
 use Rattle.calls.specs.Events.{Event, call, grant, caller, query}
 use Rattle.schema.specs.Schemas.{schema_size, schema_of}
-use Rattle.stream_line.specs.Declaring.{names_after}
+use Rattle.stream_line.specs.Declaring.{with_stream}
 use Rattle.ledger.specs.Records.{with_ledger, with_names, places_size, values_size}
-use Rattle.ledger.specs.Calls.{begun, with_row, memory_after}
+use Rattle.ledger.specs.Calls.{begun, with_row}
 use Rattle.record_lines.specs.Calls.{with_row_line}
 use Rattle.caller.specs.Callers.{no_caller}
 use Rattle.grant.specs.declared.Grant.{Grant}
@@ -49,13 +50,13 @@ some_left (row_line bs) s = (_, row_lined (record { said = refl; left = refl }))
 some_left (clear_line bs) s = (_, clear_lined refl)
 
 one_left : {c : Call} {s t u : State} → Promise c s t → Promise c s u → t ≡ u
-one_left (declared {s} {bs} d) (declared k) = ap (with_names s) (d.left ∙ ap (λ v. names_after v s.names (parse_as G.stream bs)) (d.said ∙ sym k.said) ∙ sym k.left)
-one_left (clocked {s} d) (clocked k) = ap (λ r. with_ledger s r.ledger) (d ∙ sym k)
-one_left (rowed {s} {t} {n} {vs} d) (rowed k) = d.left ∙ ap (λ v. memory_after v s (with_row s n vs)) (d.said ∙ sym k.said) ∙ sym k.left
-one_left (cleared {s} d) (cleared k) = ap (λ r. with_ledger s r.ledger) (d ∙ sym k)
-one_left (clock_lined {s} d) (clock_lined k) = ap (λ r. with_ledger s r.ledger) (d ∙ sym k)
-one_left (row_lined {s} {t} {bs} d) (row_lined k) = d.left ∙ ap (λ v. memory_after v s (with_row_line s (parse_as G.row bs))) (d.said ∙ sym k.said) ∙ sym k.left
-one_left (clear_lined {s} d) (clear_lined k) = ap (λ r. with_ledger s r.ledger) (d ∙ sym k)
+one_left (declared {s} {bs} d) (declared k) = ap (with_names s) (d.left ∙ ap (λ v. settled v s.names (with_stream s.names (parse_as G.stream bs))) (d.said ∙ sym k.said) ∙ sym k.left)
+one_left (clocked {s} d) (clocked k) = ap (λ r. with_ledger s (held_after r s.ledger)) (d ∙ sym k)
+one_left (rowed {s} {t} {n} {vs} d) (rowed k) = d.left ∙ ap (λ v. settled v s (with_row s n vs)) (d.said ∙ sym k.said) ∙ sym k.left
+one_left (cleared {s} d) (cleared k) = ap (λ r. with_ledger s (held_after r s.ledger)) (d ∙ sym k)
+one_left (clock_lined {s} d) (clock_lined k) = ap (λ r. with_ledger s (held_after r s.ledger)) (d ∙ sym k)
+one_left (row_lined {s} {t} {bs} d) (row_lined k) = d.left ∙ ap (λ v. settled v s (with_row_line s (parse_as G.row bs))) (d.said ∙ sym k.said) ∙ sym k.left
+one_left (clear_lined {s} d) (clear_lined k) = ap (λ r. with_ledger s (held_after r s.ledger)) (d ∙ sym k)
 
 -- ---- grants
 
@@ -124,7 +125,7 @@ one_outcome (called {s} p) (called q) = ap (with_memory s) (one_left p q)
 one_outcome (granted {s} {bs} g) (granted h) =
     let (e, k) = one_grant s.memory.names (length s.grants) bs s.words g h in
     ap₂ (λ r ws. with_grants s (grants_after r.verdict s.grants r.grant) ws) e k
-one_outcome (named {s} d) (named k) = ap (λ r. with_caller s r.caller) (d ∙ sym k)
+one_outcome (named {s} d) (named k) = ap (λ r. with_caller s (held_after r s.caller)) (d ∙ sym k)
 one_outcome asked asked = refl
 
 pub one_trace : {es : List Event} {s t u : Store} → Trace s es t → Trace s es u → t ≡ u

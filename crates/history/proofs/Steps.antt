@@ -7,13 +7,13 @@ use Prim.Native.Nat.{ℕ, suc}
 use lib.IntN.{ℤ}
 use lib.Dec.{T, ltb, leb→le, nltb→le}
 use lib.ListN.{length-set}
-use Rattle.refusal.specs.Numbers.{verdict_of}
+use Rattle.std.specs.Prelude.{Result, Ok}
+use Rattle.refusal.specs.Results.{Said, result_of, giving, said_by, held_after, settled}
 use Rattle.refusal.specs.Checks.{refuse, first, passes}
-use Rattle.refusal.specs.declared.Verdict.{Verdict}
-use Rattle.refusal.specs.declared.Verdict.TheVariants.{Accepted, Refused}
+use Rattle.refusal.specs.declared.Refusal.{Refusal}
 use Rattle.refusal.specs.declared.Refusal.TheVariants.{Lent}
 use Rattle.refusal.proofs.Passing.{pass_first, pass_rest, pass_test, pass_put, first_skip}
-use Rattle.refusal.proofs.Verdicts.{Told, accepted, refused, told}
+use Rattle.refusal.proofs.Results.{Told, accepted, refused, told, said_giving, held_giving, settled_old, settled_new}
 use Rattle.lists.proofs.Laws.{T_true}
 use Rattle.syntax.specs.Grammar as G
 use Rattle.syntax.specs.Grammar.{Bytes}
@@ -29,36 +29,35 @@ use Rattle.calls.proofs.Written.{written_passes}
 use Rattle.calls.proofs.Valid.{time_top, valid_effect}
 use Rattle.schema.specs.Schemas.{schema_of, schema_sound}
 use Rattle.stream_line.specs.Declaring as D
-use Rattle.stream_line.specs.Declaring.{declare_table, names_after, Declares}
+use Rattle.stream_line.specs.Declaring.{declare_table, Declares}
 use Rattle.ledger.specs.declared.Ledger.{Ledger}
-use Rattle.ledger.specs.declared.Entered.{Entered}
 use Rattle.ledger.specs.Records.{with_ledger, with_names, count_in, record_of, ledger_sound, memory_sound}
-use Rattle.ledger.specs.Calls.{entered, clock_table, clock_call, clear_table, clear_call, row_table, with_rows, with_row, memory_after, RowCall}
+use Rattle.ledger.specs.Calls.{clock_table, clock_call, clear_table, clear_call, row_table, with_rows, with_row, RowCall}
 use Rattle.ledger.proofs.Soundness.{sound_parts}
 use Rattle.ledger.proofs.Told.{row_accepted}
 use Rattle.ledger.proofs.Rows.{row_effect}
 use Rattle.ledger.proofs.Kept.{clock_at, clock_effect, clock_sound, emptied, clear_effect, clear_sound, row_sound}
 use Rattle.record_lines.specs.Calls.{clock_line_table, with_clock, clock_line_call, clear_line_table, clear_line_call, row_line_table, with_row_line, RowLineCall}
-use Rattle.history.specs.States.{State, Promise, declared, clocked, rowed, cleared, clock_lined, row_lined, clear_lined, verdict_in, Sound}
+use Rattle.history.specs.States.{State, Promise, declared, clocked, rowed, cleared, clock_lined, row_lined, clear_lined, said_in, Sound}
 use Rattle.history.proofs.Declared.{Held, stream_effect, stream_held}
 
-pub record Step (c : Call) (s t : State) (v : Verdict) : Type 0 where
+pub record Step (c : Call) (s t : State) (v : Said) : Type 0 where
   -- what is said is what the definitions' table says
-  pub said : v ≡ verdict_of (first (call_checks (record_of s) c))
+  pub said : v ≡ result_of (first (call_checks (record_of s) c))
   pub steps : record_of t ≡ next (record_of s) c
   pub sound : Sound t
 
 -- ---- one law for all calls
 
 -- A call whose first check is that what it is lent is sound, and whose other checks are the definitions': refused, it leaves the state; accepted, it leaves the definitions' effect.
-made : (c : Call) (s t : State) (v : Verdict) (a : Bool) → Sound s → T a → v ≡ verdict_of (first (refuse Lent (not a) ∷ call_checks (record_of s) c))
-    → ((v ≡ Accepted → ⊥) → t ≡ s) → (v ≡ Accepted → T (passes (call_checks (record_of s) c)) → (record_of t ≡ effect (record_of s) c) × Held t)
+made : (c : Call) (s t : State) (v : Said) (a : Bool) → Sound s → T a → v ≡ result_of (first (refuse Lent (not a) ∷ call_checks (record_of s) c))
+    → ((v ≡ Ok tt → ⊥) → t ≡ s) → (v ≡ Ok tt → T (passes (call_checks (record_of s) c)) → (record_of t ≡ effect (record_of s) c) × Held t)
     → Step c s t v
 unfolding next call_table
 made c s t v a ok h e kept done = go (told v (call_checks (record_of s) c) said)
   where
-    said : v ≡ verdict_of (first (call_checks (record_of s) c))
-    said = e ∙ ap verdict_of (first_skip Lent a (call_checks (record_of s) c) h)
+    said : v ≡ result_of (first (call_checks (record_of s) c))
+    said = e ∙ ap result_of (first_skip Lent a (call_checks (record_of s) c) h)
 
     valid : T (valid_record (record_of s))
     valid = ok.valid
@@ -78,31 +77,17 @@ made c s t v a ok h e kept done = go (told v (call_checks (record_of s) c) said)
 
 -- ---- calls on the ledger alone
 
-pub entered_verdict : (v : Verdict) (new old : Ledger) → (entered v new old).verdict ≡ v
-unfolding entered
-entered_verdict Accepted new old = refl
-entered_verdict (Refused f) new old = refl
-
-entered_old : (v : Verdict) (new old : Ledger) → (v ≡ Accepted → ⊥) → (entered v new old).ledger ≡ old
-unfolding entered
-entered_old Accepted new old n = absurd (n refl)
-entered_old (Refused f) new old n = refl
-
-entered_new : (v : Verdict) (new old : Ledger) → v ≡ Accepted → (entered v new old).ledger ≡ new
-unfolding entered
-entered_new v new old e = rw e
-
-ledger_made : (c : Call) (s : State) (new : Ledger) (r : Entered) → Sound s
-    → r ≡ entered (verdict_of (first (refuse Lent (not (ledger_sound s.ledger)) ∷ call_checks (record_of s) c))) new s.ledger
+ledger_made : (c : Call) (s : State) (new : Ledger) (r : Result Ledger Refusal) → Sound s
+    → r ≡ giving (result_of (first (refuse Lent (not (ledger_sound s.ledger)) ∷ call_checks (record_of s) c))) new
     → (T (passes (call_checks (record_of s) c)) → (record_of (with_ledger s new) ≡ effect (record_of s) c) × Held (with_ledger s new))
-    → Step c s (with_ledger s r.ledger) r.verdict
+    → Step c s (with_ledger s (held_after r s.ledger)) (said_by r)
 ledger_made c s new r ok e done =
-    let v : Verdict = verdict_of (first (refuse Lent (not (ledger_sound s.ledger)) ∷ call_checks (record_of s) c)) in
-    let said : r.verdict ≡ v = ap (λ x. x.verdict) e ∙ entered_verdict v new s.ledger in
-    let left : r.ledger ≡ (entered v new s.ledger).ledger = ap (λ x. x.ledger) e in
-    made c s (with_ledger s r.ledger) r.verdict (ledger_sound s.ledger) ok (sound_parts s ok.lent).bounds said
-    (λ n. ap (with_ledger s) (left ∙ entered_old v new s.ledger (λ a. n (said ∙ a))))
-    (λ a p. let q : with_ledger s new ≡ with_ledger s r.ledger = ap (with_ledger s) (sym (left ∙ entered_new v new s.ledger (sym said ∙ a))) in
+    let v : Said = result_of (first (refuse Lent (not (ledger_sound s.ledger)) ∷ call_checks (record_of s) c)) in
+    let said : said_by r ≡ v = ap said_by e ∙ said_giving v new in
+    let left : held_after r s.ledger ≡ settled v s.ledger new = ap (λ x. held_after x s.ledger) e ∙ held_giving v new s.ledger in
+    made c s (with_ledger s (held_after r s.ledger)) (said_by r) (ledger_sound s.ledger) ok (sound_parts s ok.lent).bounds said
+    (λ n. ap (with_ledger s) (left ∙ settled_old v s.ledger new (λ a. n (said ∙ a))))
+    (λ a p. let q : with_ledger s new ≡ with_ledger s (held_after r s.ledger) = ap (with_ledger s) (sym (left ∙ settled_new v s.ledger new (sym said ∙ a))) in
     subst (λ t. (record_of t ≡ effect (record_of s) c) × Held t) q (done p))
 
 -- a later clock
@@ -116,38 +101,29 @@ clock_made s n ok p =
 clear_made : (s : State) → Sound s → Held (emptied s)
 clear_made s ok = record { counts = refl; lent = clear_sound s ok.lent }
 
-after_clock : (s : State) (n : ℤ) (r : Entered) → Sound s → r ≡ clock_call s.ledger n → Step (clock n) s (with_ledger s r.ledger) r.verdict
+after_clock : (s : State) (n : ℤ) (r : Result Ledger Refusal) → Sound s → r ≡ clock_call s.ledger n → Step (clock n) s (with_ledger s (held_after r s.ledger)) (said_by r)
 unfolding clock_call clock_table call_checks record_of
 after_clock s n r ok e = ledger_made (clock n) s _ r ok e (λ p. (unfold effect in clock_effect s n, clock_made s n ok p))
 
-after_clear : (s : State) (r : Entered) → Sound s → r ≡ clear_call s.ledger → Step clear s (with_ledger s r.ledger) r.verdict
+after_clear : (s : State) (r : Result Ledger Refusal) → Sound s → r ≡ clear_call s.ledger → Step clear s (with_ledger s (held_after r s.ledger)) (said_by r)
 unfolding clear_call clear_table call_checks record_of
 after_clear s r ok e = ledger_made clear s _ r ok e (λ p. (unfold effect in clear_effect s, clear_made s ok))
 
-after_clock_line : (s : State) (bs : Bytes) (r : Entered) → Sound s → r ≡ clock_line_call s.ledger bs → Step (clock_line bs) s (with_ledger s r.ledger) r.verdict
+after_clock_line : (s : State) (bs : Bytes) (r : Result Ledger Refusal) → Sound s → r ≡ clock_line_call s.ledger bs → Step (clock_line bs) s (with_ledger s (held_after r s.ledger)) (said_by r)
 unfolding clock_line_call clock_line_table call_checks record_of
 after_clock_line s bs r ok e =
     ledger_made (clock_line bs) s _ r ok e (λ p. written_passes 0 bs (parse_as G.clock bs) _ p (λ n f q. (unfold effect with_clock in rw f (clock_effect s n), unfold with_clock in rw f (clock_made s n ok q))))
 
-after_clear_line : (s : State) (bs : Bytes) (r : Entered) → Sound s → r ≡ clear_line_call s.ledger bs → Step (clear_line bs) s (with_ledger s r.ledger) r.verdict
+after_clear_line : (s : State) (bs : Bytes) (r : Result Ledger Refusal) → Sound s → r ≡ clear_line_call s.ledger bs → Step (clear_line bs) s (with_ledger s (held_after r s.ledger)) (said_by r)
 unfolding clear_line_call clear_line_table call_checks record_of
 after_clear_line s bs r ok e = ledger_made (clear_line bs) s _ r ok e (λ p. (unfold effect in clear_effect s, clear_made s ok))
 
 -- ---- rows
 
-memory_kept : (v : Verdict) (s new : State) → (v ≡ Accepted → ⊥) → memory_after v s new ≡ s
-unfolding memory_after
-memory_kept Accepted s new n = absurd (n refl)
-memory_kept (Refused f) s new n = refl
-
-memory_gone : (v : Verdict) (s new : State) → v ≡ Accepted → memory_after v s new ≡ new
-unfolding memory_after
-memory_gone v s new e = rw e
-
-memory_made : (c : Call) (s t new : State) (v : Verdict) → Sound s → v ≡ verdict_of (first (refuse Lent (not (memory_sound s)) ∷ call_checks (record_of s) c))
-    → t ≡ memory_after v s new → (T (passes (call_checks (record_of s) c)) → (record_of new ≡ effect (record_of s) c) × Held new) → Step c s t v
+memory_made : (c : Call) (s t new : State) (v : Said) → Sound s → v ≡ result_of (first (refuse Lent (not (memory_sound s)) ∷ call_checks (record_of s) c))
+    → t ≡ settled v s new → (T (passes (call_checks (record_of s) c)) → (record_of new ≡ effect (record_of s) c) × Held new) → Step c s t v
 memory_made c s t new v ok said left done =
-    made c s t v (memory_sound s) ok ok.lent said (λ n. left ∙ memory_kept v s new n) (λ a p. subst (λ t. (record_of t ≡ effect (record_of s) c) × Held t) (sym (left ∙ memory_gone v s new a)) (done p))
+    made c s t v (memory_sound s) ok ok.lent said (λ n. left ∙ settled_old v s new n) (λ a p. subst (λ t. (record_of t ≡ effect (record_of s) c) × Held t) (sym (left ∙ settled_new v s new a)) (done p))
 
 row_made : (s : State) (n : ℕ) (vs : List ℤ) → Sound s → T (passes (row_checks (record_of s) n vs)) → (record_of (with_row s n vs) ≡ C.with_row (record_of s) n vs) × Held (with_row s n vs)
 unfolding with_row with_rows
@@ -155,11 +131,11 @@ row_made s n vs ok p =
     let (f, _) = row_accepted s n vs (unfold row_table in pass_put Lent (memory_sound s) (row_checks (record_of s) n vs) ok.lent p) in
     (row_effect s n vs ok.counts f, record { counts = length-set s.ledger.rows n (suc (count_in s.ledger n)) ∙ ok.counts; lent = row_sound s n vs ok.counts f })
 
-after_row : (s t : State) (n : ℕ) (vs : List ℤ) (v : Verdict) → Sound s → RowCall s n vs t v → Step (row n vs) s t v
+after_row : (s t : State) (n : ℕ) (vs : List ℤ) (v : Said) → Sound s → RowCall s n vs t v → Step (row n vs) s t v
 unfolding row_table call_checks
 after_row s t n vs v ok d = memory_made (row n vs) s t (with_row s n vs) v ok d.said d.left (λ p. unfold effect in row_made s n vs ok p)
 
-after_row_line : (s t : State) (bs : Bytes) (v : Verdict) → Sound s → RowLineCall s bs t v → Step (row_line bs) s t v
+after_row_line : (s t : State) (bs : Bytes) (v : Said) → Sound s → RowLineCall s bs t v → Step (row_line bs) s t v
 unfolding row_line_table call_checks
 after_row_line s t bs v ok d =
     memory_made (row_line bs) s t (with_row_line s (parse_as G.row bs)) v ok d.said d.left
@@ -167,29 +143,20 @@ after_row_line s t bs v ok d =
 
 -- ---- streams
 
-names_kept : (v : Verdict) (ns : List ℕ) (b : Option G.Stream) → (v ≡ Accepted → ⊥) → names_after v ns b ≡ ns
-unfolding names_after
-names_kept Accepted ns b n = absurd (n refl)
-names_kept (Refused f) ns b n = refl
-
-names_gone : (v : Verdict) (ns : List ℕ) (b : Option G.Stream) → v ≡ Accepted → names_after v ns b ≡ D.with_stream ns b
-unfolding names_after
-names_gone v ns b e = rw e
-
-after_stream : (s : State) (bs : Bytes) (ns : List ℕ) (v : Verdict) → Sound s → Declares s.names bs ns v → Step (stream bs) s (with_names s ns) v
+after_stream : (s : State) (bs : Bytes) (ns : List ℕ) (v : Said) → Sound s → Declares s.names bs ns v → Step (stream bs) s (with_names s ns) v
 unfolding declare_table call_checks record_of
 after_stream s bs ns v ok d =
     made (stream bs) s (with_names s ns) v (schema_sound s.names) ok (sound_parts s ok.lent).names d.said
-    (λ n. ap (with_names s) (d.left ∙ names_kept v s.names (parse_as G.stream bs) n))
+    (λ n. ap (with_names s) (d.left ∙ settled_old v s.names _ n))
     (λ a p. written_passes 0 bs (parse_as G.stream bs) _ p (λ t e q.
-    let g : with_names s (D.with_stream s.names (some t)) ≡ with_names s ns = ap (with_names s) (sym (d.left ∙ names_gone v s.names (parse_as G.stream bs) a ∙ ap (D.with_stream s.names) e)) in
+    let g : with_names s (D.with_stream s.names (some t)) ≡ with_names s ns = ap (with_names s) (sym (d.left ∙ settled_new v s.names _ a ∙ ap (D.with_stream s.names) e)) in
     let b = (parsed_printed G.stream bs t e).0 in
     subst (λ u. (record_of u ≡ effect (record_of s) (stream bs)) × Held u) g (unfold effect in rw e (stream_effect s ok t b q), stream_held s ok t b q)))
 
 -- ---- any call
 
-pub step_call : {c : Call} {s t : State} (p : Promise c s t) → Sound s → Step c s t (verdict_in p)
-unfolding verdict_in
+pub step_call : {c : Call} {s t : State} (p : Promise c s t) → Sound s → Step c s t (said_in p)
+unfolding said_in
 step_call (declared {s} {bs} {ns} {v} d) ok = after_stream s bs ns v ok d
 step_call (clocked {s} {t} {r} e) ok = after_clock s t r ok e
 step_call (rowed {s} {t} {n} {vs} {v} d) ok = after_row s t n vs v ok d

@@ -1,11 +1,12 @@
 -- All that goes from call to call, and what calls and lines of every kind leave of it.
-use Rattle.std.specs.Prelude.{◌≡◌, List, [], ◌∷◌, true, ℕ, ◌≤◌, T, length}
+use Rattle.std.specs.Prelude.{◌≡◌, List, [], ◌∷◌, true, ℕ, ◌≤◌, T, length, Result}
+use Rattle.refusal.specs.Results.{held_after}
+use Rattle.refusal.specs.declared.Refusal.{Refusal}
 use Rattle.syntax.specs.Grammar.{Bytes}
 use Rattle.calls.specs.Calls.{Call}
 use Rattle.calls.specs.Events.{Fixture, Event, call, grant, caller, query}
 use Rattle.ledger.specs.Records.{record_of}
 use Rattle.caller.specs.declared.Caller.{Caller}
-use Rattle.caller.specs.declared.Identified.{Identified}
 use Rattle.caller.specs.Callers.{caller_of, caller_sound, no_caller}
 use Rattle.caller.specs.Lines.{identified}
 use Rattle.grant.specs.declared.Grant.{Grant}
@@ -43,7 +44,7 @@ pub data Happens : Event → Store → Store → Type 0 where
   called : {s : Store} {c : Call} {m : State} → Promise c s.memory m → Happens (call c) s (with_memory s m)
   granted : {s : Store} {bs : Bytes} {ws : List ℕ} {r : Granted} → Grants s.memory.names (length s.grants) bs s.words ws r
       → Happens (grant bs) s (with_grants s (grants_after r.verdict s.grants r.grant) ws)
-  named : {s : Store} {bs : Bytes} {r : Identified} → r ≡ identified s.caller bs → Happens (caller bs) s (with_caller s r.caller)
+  named : {s : Store} {bs : Bytes} {r : Result Caller Refusal} → r ≡ identified s.caller bs → Happens (caller bs) s (with_caller s (held_after r s.caller))
   asked : {s : Store} → Happens query s s
 
 -- each call gets what the last one returned or left

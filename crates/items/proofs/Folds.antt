@@ -3,7 +3,7 @@ use mathlib.Core.Path.{◌≡◌, refl, sym, ap, ◌∙◌}
 use mathlib.Core.List.{List, [], ◌∷◌, ◌++◌, map}
 use mathlib.Core.Bool.{Bool, true, false, ◌&&◌, ◌||◌, not}
 use mathlib.Core.Option.{Option, none, some}
-use Prim.Native.Nat.{ℕ, zero, suc, ◌+◌, ◌-◌, ◌≤◌, ◌<◌, min}
+use Prim.Native.Nat.{ℕ, zero, suc, ◌-◌, ◌<◌, min}
 use native.Mathlib.Omega.{arith}
 use lib.Dec.{ltb}
 use lib.ListN.{length, drop, get_or, set, length-drop}
@@ -12,11 +12,14 @@ use borrow.Author.Tests.{ltb-true, ltb-false}
 use Rattle.lists.specs.Lists.{every, count_from}
 use Rattle.lists.proofs.Laws.{append_nil}
 use Rattle.syntax.specs.Grammar.{Bytes}
-use Rattle.syntax.specs.Readers.{Read, bind, closes}
+use Rattle.syntax.specs.Readers.{Read, bind, byte, closes}
+use Rattle.syntax.proofs.Leaving.{byte_less}
 use Rattle.text.specs.Readings.{any_items}
-use Rattle.text.proofs.Views.{View, view_none, view_some, view_beyond}
+use Rattle.text.specs.Words.{Found, Some, None, seen, left_at, read_end}
+use Rattle.text.proofs.Runs.{inside}
+use Rattle.text.proofs.Views.{Reading, read_none, read_here, read_beyond, skip_none, skip_is, skip_within}
 use Rattle.items.specs.Items.{first_of}
-use Rattle.items.proofs.Lists.{more, items_over, items_end, items_other, items_stuck, items_more}
+use Rattle.items.proofs.Lists.{more, items_end, items_unspaced, items_stuck, items_more}
 
 -- ---- the first of a list
 
@@ -114,59 +117,71 @@ module _ {A R : Type 0} (step : R → A → R) (summary : List A → R) (one_mor
 
 -- how the code reads a list in a text: A is an item, N what the code has of an item, R what it has of the items so far
 pub record Way (A N R : Type 0) (s : Bytes) : Type 0 where
-  pub view : View A N s
-  -- the items so far with one more, the end of the list at a place, and no list
+  pub reading : Reading A N s
+  -- the items so far with one more, and the end of the list at a place
   pub add : R → N → R
   pub step : R → A → R
-  pub added : (r : R) (a : Read A) → add r (view.seen (some a)) ≡ step r a.what
+  pub added : (r : R) (a : Read A) → add r (reading.made a) ≡ step r a.what
   pub close : R → ℕ → R
-  pub fail : R
 
 module _ {A N R : Type 0} {s : Bytes} (way : Way A N R s) where
   -- what is read so far, joined to what is read on
-  unfoldable pub joined : R → Option (Read (List A)) → R
-  joined r none = way.fail
-  joined r (some x) = way.close (fold way.step r x.what) (length s - length x.left)
+  unfoldable pub joined : R → Option (Read (List A)) → Found R
+  joined r none = None
+  joined r (some x) = Some (way.close (fold way.step r x.what) (left_at s x))
 
   -- what is read so far, joined to what is read from a place on
-  unfoldable pub on : R → ℕ → R
-  on r i = joined r (any_items closes way.view.item (drop i s))
+  unfoldable pub on : R → ℕ → Found R
+  on r i = joined r (any_items closes way.reading.item (drop i s))
 
   joined_more : (r : R) (x : A) (o : Option (Read (List A))) → joined r (more x o) ≡ joined (way.step r x) o
-  unfolding joined more bind fold
+  unfolding joined more bind fold left_at
   joined_more r x none = refl
   joined_more r x (some xs) = refl
 
   -- less of the text is left after an item
-  pub list_falls : (i : ℕ) {n : N} → i < length s → n ≡ way.view.seen (way.view.item (drop (i + 1) s)) → not (way.view.ok n) ≡ false → length s - way.view.next n < length s - i
-  list_falls i h p q = let l = view_beyond way.view (i + 1) p q (omega arith) in omega arith
+  pub list_falls : (i : ℕ) {q : ℕ} {n : N} → Some q ≡ read_end s (byte 32 (drop i s)) → Some n ≡ seen way.reading.made (way.reading.item (drop q s)) → length s - way.reading.next n < length s - i
+  list_falls i {q} {n} e p =
+      let f = byte_less 32 (drop i s) _ (skip_is s i 32 e) in
+      let w = skip_within s i 32 e in
+      let l = read_beyond way.reading q p w in
+      let x = length-drop i s in
+      let y = length-drop q s in
+      omega arith
 
   -- each end, and the way on, by what the code finds at a place
-  module _ {whole : R} (r : R) (i : ℕ) (inv : whole ≡ on r i) {x : R} where
-    pub list_over : length s ≤ i → x ≡ way.fail → x ≡ whole
-    unfolding on joined
-    list_over h e = e ∙ sym (inv ∙ ap (joined r) (items_over way.view.item way.view.leaves s i h))
+  module _ {whole : Found R} (r : R) (i : ℕ) (inv : whole ≡ on r i) {b : ℕ} (p : b ≡ get_or s i 0) where
+    pub list_end : b ≡ 41 → Some (way.close r i) ≡ whole
+    unfolding on joined fold left_at
+    list_end e =
+        let h = inside s i (omega arith) in
+        let q : length s - length (drop i s) ≡ i = omega (arith, length-drop i s) in
+        sym (inv ∙ ap (joined r) (items_end way.reading.item way.reading.leaves s i p e) ∙ ap (λ j. Some (way.close r j)) q)
 
-    module _ (h : i < length s) where
-      pub list_end : get_or s i 0 ≡ 41 → x ≡ way.close r i → x ≡ whole
-      unfolding on joined fold
-      list_end b e =
-          let p : length s - length (drop i s) ≡ i = omega (arith, length-drop i s) in
-          e ∙ sym (inv ∙ ap (joined r) (items_end way.view.item way.view.leaves s i h b) ∙ ap (way.close r) p)
-
-      pub list_other : (get_or s i 0 ≡ 41 → ⊥) → (get_or s i 0 ≡ 32 → ⊥) → x ≡ way.fail → x ≡ whole
+    module _ (n : b ≡ 41 → ⊥) where
+      pub list_unspaced : None ≡ read_end s (byte 32 (drop i s)) → None ≡ whole
       unfolding on joined
-      list_other f g e = e ∙ sym (inv ∙ ap (joined r) (items_other way.view.item way.view.leaves s i h f g))
+      list_unspaced e = sym (inv ∙ ap (joined r) (items_unspaced way.reading.item way.reading.leaves s i p n (skip_none s i 32 e)))
 
-      module _ {n : N} (b : get_or s i 0 ≡ 32) (p : n ≡ way.view.seen (way.view.item (drop (i + 1) s))) where
-        pub list_stuck : not (way.view.ok n) ≡ true → x ≡ way.fail → x ≡ whole
+      module _ {q : ℕ} (e : Some q ≡ read_end s (byte 32 (drop i s))) where
+        pub list_stuck : None ≡ seen way.reading.made (way.reading.item (drop q s)) → None ≡ whole
         unfolding on joined
-        list_stuck q e = e ∙ sym (inv ∙ ap (joined r) (items_stuck way.view.item way.view.leaves s i h b (view_none way.view (i + 1) p q)))
+        list_stuck d = sym (inv ∙ ap (joined r) (items_stuck way.reading.item way.reading.leaves s i p n q (skip_is s i 32 e) (read_none way.reading q d)))
 
-        pub list_more : not (way.view.ok n) ≡ false → x ≡ way.add r n → whole ≡ on x (way.view.next n)
+        pub list_more : {m : N} {x : R} → Some m ≡ seen way.reading.made (way.reading.item (drop q s)) → x ≡ way.add r m → whole ≡ on x (way.reading.next m)
         unfolding on
-        list_more q e =
-            view_some way.view (i + 1) p q (λ a z m y.
-            let t = e ∙ ap (way.add r) m ∙ way.added r a in
-            inv ∙ ap (joined r) (items_more way.view.item way.view.leaves s i h a b z) ∙ joined_more r a.what (any_items closes way.view.item (drop (length s - length a.left) s))
-            ∙ sym (rw (y, t)))
+        list_more {m} {x} d f =
+            read_here way.reading q d (λ y z w.
+            inv ∙ ap (joined r) (items_more way.reading.item way.reading.leaves s i p n q (skip_is s i 32 e) z)
+            ∙ joined_more r y (any_items closes way.reading.item (drop (way.reading.next m) s))
+            ∙ ap (λ t. joined t (any_items closes way.reading.item (drop (way.reading.next m) s))) (sym (f ∙ ap (way.add r) w ∙ way.added r _)))
+
+  -- at first nothing is read
+  module _ (summary : List A → R) (one_more : (xs : List A) (x : A) → way.step (summary xs) x ≡ summary (xs ++ (x ∷ []))) (made : Read (List A) → R) (closed : (x : Read (List A)) → way.close (summary x.what) (left_at s x) ≡ made x) where
+    pub list_start : (i : ℕ) → seen made (any_items closes way.reading.item (drop i s)) ≡ on (summary []) i
+    unfolding seen on joined
+    list_start i = go (any_items closes way.reading.item (drop i s))
+      where
+        go : (o : Option (Read (List A))) → seen made o ≡ joined (summary []) o
+        go none = refl
+        go (some x) = ap Some (sym (ap (λ r. way.close r (left_at s x)) (fold_from way.step summary one_more [] x.what) ∙ closed x))

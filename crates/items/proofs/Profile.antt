@@ -1,76 +1,69 @@
 -- The profile entry at a place as the code reads it.
-use mathlib.Core.Path.{◌≡◌, sym, ◌∙◌}
-use mathlib.Core.Bool.{true, false, not, cond}
-use mathlib.Core.Option.{none, some}
-use Prim.Native.Nat.{ℕ, ◌+◌, ◌-◌, ◌≤◌}
+use mathlib.Core.Path.{◌≡◌, ap, ◌∙◌}
+use mathlib.Core.Bool.{Bool, ◌||◌}
+use mathlib.Core.Option.{none}
+use Prim.Native.Nat.{ℕ, ◌-◌}
 use native.Mathlib.Omega.{arith}
-use lib.IntN.{ℤ}
-use lib.ListN.{length, drop, get_or, length-drop}
+use lib.IntN.{ℤ, pos}
+use lib.ListN.{length, drop, length-drop}
+use Rattle.std.specs.Prelude.{is_none, unwrap_or}
 use Rattle.lists.proofs.Laws.{not_both}
 use Rattle.syntax.specs.Grammar.{Bytes}
-use Rattle.syntax.specs.Readers.{◌>>=◌, ◌>>◌, bind, give, read_entry}
+use Rattle.syntax.specs.Readers.{◌>>=◌, ◌>>◌, bind, give, byte, read_entry}
 use Rattle.syntax.specs.Limits.{short, is_value}
-use Rattle.text.specs.declared.Name.{Name}
-use Rattle.text.specs.declared.Number.{Number}
-use Rattle.text.specs.declared.Kept.{Kept}
-use Rattle.text.specs.Words.{code_of, name_at, number_at, kept_of}
-use Rattle.text.specs.Keywords.{opened_at}
-use Rattle.text.proofs.Places.{byte_inside, space_is, space_not, close_is, close_not, name_is, name_not, number_is, number_not, kept_is, open_is, open_not, self_word}
-use Rattle.items.specs.declared.EntryRead.{EntryRead}
-use Rattle.items.specs.Items.{code_short, entry_read, entry_at, no_entry, entry_of}
+use Rattle.text.specs.declared.NameAt.{NameAt}
+use Rattle.text.specs.declared.NumberAt.{NumberAt}
+use Rattle.text.specs.Words.{Found, Some, None, seen, left_at, read_end, name_found, number_found, value_given}
+use Rattle.text.specs.Keywords.{opening_end}
+use Rattle.text.proofs.Views.{skip_none, skip_is, skip_within}
+use Rattle.text.proofs.Places.{self_word}
+use Rattle.text.proofs.Found.{name_none, name_some, number_none, number_some, value_is, value_flag, value_or, open_none, open_some}
+use Rattle.items.specs.Items.{code_short, entry_seen, entry_found}
 
--- an entry's name and value, as the code has them
-entry_is : (s : Bytes) (w : Bytes) (z : ℤ) (n : Name) {k : Kept} (i : ℕ) → i ≤ length s → n.long ≡ not (short w) → n.code ≡ cond (short w) (code_of w) 0 → k ≡ kept_of z
-    → entry_of n k i ≡ entry_read s (some (record { what = record { name = w; value = z }; left = drop i s }))
-unfolding entry_of kept_of entry_read code_short
-entry_is s w z n i l a b c =
-    let o : length s - length (drop i s) ≡ i = omega (arith, length-drop i s) in
-    rw (a, b, c, o, not_both (short w) (is_value z))
+module _ (s : Bytes) (at : ℕ) where
+  missing : read_entry (drop at s) ≡ none → None ≡ entry_found s at
+  unfolding entry_found seen
+  missing e = rw e
 
-module _ (s : Bytes) (at : ℕ) {p : ℕ} (o : p ≡ opened_at s at 0x73656c66) where
-  -- where nothing is read
-  missing : {x : EntryRead} → read_entry (drop at s) ≡ none → x ≡ no_entry → x ≡ entry_at s at
-  unfolding entry_at entry_read
-  missing e d = d ∙ sym (rw e)
-
-  pub entry_unopened : {x : EntryRead} → p ≡ 0 → x ≡ no_entry → x ≡ entry_at s at
+  pub entry_unopened : None ≡ opening_end s at 0x73656c66 → None ≡ entry_found s at
   unfolding read_entry ◌>>=◌ bind
-  entry_unopened z d = missing (rw (open_not s at self_word o z)) d
+  entry_unopened o = missing (rw (open_none s at self_word o))
 
-  module _ (n : p ≡ 0 → ⊥) {b : ℕ} (c : b ≡ get_or s p 0) where
-    pub entry_unspaced : {x : EntryRead} → (b ≡ 32 → ⊥) → x ≡ no_entry → x ≡ entry_at s at
+  module _ {p : ℕ} (o : Some p ≡ opening_end s at 0x73656c66) where
+    pub entry_unspaced : None ≡ read_end s (byte 32 (drop p s)) → None ≡ entry_found s at
     unfolding read_entry ◌>>=◌ ◌>>◌ bind
-    entry_unspaced f d = missing (rw (open_is s at self_word o n, space_not s p c f)) d
+    entry_unspaced f = missing (rw (open_some s at self_word o, skip_none s p 32 f))
 
-    module _ (e : b ≡ 32) {w : Name} (q : w ≡ name_at s (p + 1)) where
-      pub entry_nameless : {x : EntryRead} → not w.ok ≡ true → x ≡ no_entry → x ≡ entry_at s at
+    module _ {q : ℕ} (c : Some q ≡ read_end s (byte 32 (drop p s))) where
+      pub entry_nameless : None ≡ name_found s q → None ≡ entry_found s at
       unfolding read_entry ◌>>=◌ ◌>>◌ bind
-      entry_nameless f d = missing (rw (open_is s at self_word o n, space_is s p c e, name_not s (p + 1) q f)) d
+      entry_nameless f = missing (rw (open_some s at self_word o, skip_is s p 32 c, name_none s q f))
 
-      module _ (f : not w.ok ≡ false) {k : ℕ} (g : k ≡ get_or s w.next 0) where
-        pub entry_unparted : {x : EntryRead} → (k ≡ 32 → ⊥) → x ≡ no_entry → x ≡ entry_at s at
+      module _ {n : NameAt} (f : Some n ≡ name_found s q) where
+        pub entry_unparted : None ≡ read_end s (byte 32 (drop n.next s)) → None ≡ entry_found s at
         unfolding read_entry ◌>>=◌ ◌>>◌ bind
-        entry_unparted h d = name_is s (p + 1) q f (λ v r i j. missing (rw (open_is s at self_word o n, space_is s p c e, r, space_not s w.next g h)) d)
+        entry_unparted g = name_some s q f (λ w r i j. missing (rw (open_some s at self_word o, skip_is s p 32 c, r, skip_none s n.next 32 g)))
 
-        module _ (h : k ≡ 32) {z : Number} (u : z ≡ number_at s (w.next + 1)) where
-          pub entry_valueless : {x : EntryRead} → not z.ok ≡ true → x ≡ no_entry → x ≡ entry_at s at
+        module _ {t : ℕ} (g : Some t ≡ read_end s (byte 32 (drop n.next s))) where
+          pub entry_valueless : None ≡ number_found s t → None ≡ entry_found s at
           unfolding read_entry ◌>>=◌ ◌>>◌ bind
-          entry_valueless l d =
-              name_is s (p + 1) q f (λ v r i j. missing (rw (open_is s at self_word o n, space_is s p c e, r, space_is s w.next g h, number_not s (w.next + 1) u l)) d)
+          entry_valueless h = name_some s q f (λ w r i j. missing (rw (open_some s at self_word o, skip_is s p 32 c, r, skip_is s n.next 32 g, number_none s t h)))
 
-          module _ (l : not z.ok ≡ false) {m : ℕ} (t : m ≡ get_or s z.next 0) where
-            pub entry_unclosed : {x : EntryRead} → (m ≡ 41 → ⊥) → x ≡ no_entry → x ≡ entry_at s at
+          module _ {z : NumberAt} (h : Some z ≡ number_found s t) where
+            pub entry_unclosed : None ≡ read_end s (byte 41 (drop z.next s)) → None ≡ entry_found s at
             unfolding read_entry ◌>>=◌ ◌>>◌ bind
-            entry_unclosed y d =
-                name_is s (p + 1) q f (λ v r i j. number_is s (w.next + 1) u l (λ a r' i'.
-                missing (rw (open_is s at self_word o n, space_is s p c e, r, space_is s w.next g h, r', close_not s z.next t y)) d))
+            entry_unclosed k =
+                name_some s q f (λ w r i j. number_some s t h (λ a u b.
+                missing (rw (open_some s at self_word o, skip_is s p 32 c, r, skip_is s n.next 32 g, u, skip_none s z.next 41 k))))
 
-            pub entry_whole : {a : Kept} {x : EntryRead} → m ≡ 41 → a ≡ kept_of z.value → x ≡ entry_of w a (z.next + 1) → x ≡ entry_at s at
-            unfolding read_entry ◌>>=◌ ◌>>◌ bind give entry_at
-            entry_whole y b d =
-                name_is s (p + 1) q f (λ v r i j. number_is s (w.next + 1) u l (λ a r' i'.
-                let inside = byte_inside s z.next t y (omega arith) in
-                d ∙ entry_is s v a w (z.next + 1) (omega arith) i j (kept_is a b i')
-                ∙ sym (rw (open_is s at self_word o n, space_is s p c e, r, space_is s w.next g h, r', close_is s z.next t y))))
-
-pub ruleset entry_ends = (entry_unopened, entry_unspaced, entry_nameless, entry_unparted, entry_valueless, entry_unclosed, entry_whole)
+            pub entry_whole : {e : ℕ} {v : Found ℤ} {b : Bool} {x : ℤ} → Some e ≡ read_end s (byte 41 (drop z.next s)) → v ≡ value_given z.value → b ≡ is_none v → x ≡ unwrap_or v (pos 0)
+                → Some (record { over = n.long || b; name = n.code; value = x; next = e }) ≡ entry_found s at
+            unfolding read_entry ◌>>=◌ ◌>>◌ bind give entry_found seen entry_seen left_at code_short
+            entry_whole {e} {v} {b} {x} k l m y =
+                name_some s q f (λ w r i j. number_some s t h (λ a u d.
+                let x' = skip_within s z.next 41 k in
+                let o' : length s - length (drop e s) ≡ e = omega (arith, length-drop e s) in
+                let l' = value_is a l d in
+                let m' = m ∙ ap is_none l' ∙ value_flag a in
+                let y' = y ∙ ap (λ o. unwrap_or o (pos 0)) l' ∙ value_or a in
+                rw (open_some s at self_word o, skip_is s p 32 c, r, skip_is s n.next 32 g, u, skip_is s z.next 41 k, o', i, j, m', y', not_both (short w) (is_value a))))

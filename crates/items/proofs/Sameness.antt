@@ -1,70 +1,57 @@
 -- Whether a number stands again, as the code looks for it.
-use mathlib.Core.Path.{◌≡◌, refl, sym, ap, ◌∙◌}
+use mathlib.Core.Path.{◌≡◌, refl, sym, ap, ap₂, ◌∙◌}
 use mathlib.Core.List.{List, [], ◌∷◌}
-use mathlib.Core.Bool.{Bool, true, false}
-use Prim.Native.Nat.{ℕ, ◌+◌, ◌≤◌, ◌<◌, min}
+use mathlib.Core.Bool.{Bool, true, false, ◌||◌, ◌&&◌, not}
+use Prim.Native.Nat.{ℕ, ◌+◌, ◌-◌, ◌≤◌, ◌<◌, min}
 use native.Mathlib.Omega.{arith}
 use native.Mathlib.Numerals.{add-one}
 use lib.Dec.{eqb, ltb}
-use lib.ListN.{length, take, drop, get_or, length-take, drop_of_length-le}
-use lib.Seq.{drop-cons, get_or-take, take_all}
-use borrow.Author.Tests.{eq-eqb, ne_eqb, ltb-true, ltb-false}
+use lib.ListN.{length, take, drop, get_or, length-drop, drop_of_length-le}
+use lib.Seq.{drop-cons, take_all}
+use borrow.Author.Tests.{eq-eqb, ne_eqb, eqb-true, eqb-false, ltb-true, ltb-false}
+use Rattle.std.specs.List.{list_any}
 use Rattle.lists.specs.Lists.{some?, distinct}
 use Rattle.items.specs.Items.{once}
 
-module _ (xs : List ℕ) (n : ℕ) where
-  -- the first n from a place on
-  here : (j : ℕ) → j < n → n ≤ length xs → drop j (take n xs) ≡ get_or xs j 0 ∷ drop (j + 1) (take n xs)
-  here j h l =
-      drop-cons (take n xs) j 0 (let k = length-take n xs in omega arith) ∙ rw (get_or-take n xs j 0 h, add-one j)
-
-  past_all : (j : ℕ) → n ≤ j → drop j (take n xs) ≡ []
-  past_all j h = let k : length (take n xs) ≤ j = omega (arith, length-take n xs) in drop_of_length-le (take n xs) k
-
-  module _ (i j x : ℕ) (inv : some? (eqb x) (drop (i + 1) (take n xs)) ≡ some? (eqb x) (drop j (take n xs))) where
-    pub again_over : n ≤ j → false ≡ some? (eqb x) (drop (i + 1) (take n xs))
-    unfolding some?
-    again_over h = sym (inv ∙ rw (past_all j h))
-
-    module _ (h : j < n) (l : n ≤ length xs) where
-      pub again_found : get_or xs j 0 ≡ x → true ≡ some? (eqb x) (drop (i + 1) (take n xs))
-      unfolding some?
-      again_found e = sym (inv ∙ rw (here j h l, eq-eqb x (get_or xs j 0) (sym e)))
-
-      pub again_more : (get_or xs j 0 ≡ x → ⊥) → some? (eqb x) (drop (i + 1) (take n xs)) ≡ some? (eqb x) (drop (j + 1) (take n xs))
-      unfolding some?
-      again_more f = inv ∙ rw (here j h l, ne_eqb x (get_or xs j 0) (λ e. f (sym e)))
-
-take_few : (xs : List ℕ) (n : ℕ) → take n xs ≡ take (min n (length xs)) xs
-take_few xs n = go (ltb n (length xs)) refl
+eqb_swap : (x y : ℕ) → eqb y x ≡ eqb x y
+eqb_swap x y = go (eqb x y) refl
   where
-    go : (b : Bool) → ltb n (length xs) ≡ b → take n xs ≡ take (min n (length xs)) xs
-    go true t = let h = ltb-true n (length xs) t in let e : min n (length xs) ≡ n = omega arith in rw e
-    go false t =
-        let h = ltb-false n (length xs) t in
-        let e : min n (length xs) ≡ length xs = omega arith in
-        rw e (take_all n xs h ∙ sym (take_all (length xs) xs (omega arith)))
+    go : (b : Bool) → eqb x y ≡ b → eqb y x ≡ b
+    go true e = eq-eqb y x (sym (eqb-true x y e))
+    go false e = ne_eqb y x (λ d. eqb-false x y e (sym d))
 
-pub once_start : (xs : List ℕ) (n : ℕ) {m : ℕ} → length xs ≡ 6 → m ≡ min n 6 → once xs n ≡ distinct eqb (drop 0 (take m xs))
-unfolding once
-once_start xs n {m} l e =
-    let k : min n (length xs) ≡ m = ap (min n) l ∙ sym e in
-    ap (distinct eqb) (take_few xs n ∙ ap (λ i. take i xs) k)
+stands_is : (x : ℕ) (ys : List ℕ) → list_any (λ y. eqb y x) ys ≡ some? (eqb x) ys
+unfolding some?
+stands_is x [] = refl
+stands_is x (y ∷ ys) = ap₂ ◌||◌ (eqb_swap x y) (stands_is x ys)
 
-module _ (xs : List ℕ) (n m i : ℕ) (inv : once xs n ≡ distinct eqb (drop i (take m xs))) where
-  pub once_over : m ≤ i → true ≡ once xs n
+module _ (xs : List ℕ) (i : ℕ) (inv : distinct eqb xs ≡ distinct eqb (drop i xs)) where
+  pub distinct_over : length xs ≤ i → true ≡ distinct eqb xs
   unfolding distinct
-  once_over h = sym (inv ∙ rw (past_all xs m i h))
+  distinct_over h = sym (inv ∙ rw (drop_of_length-le xs h))
 
-  module _ {a : Bool} (h : i < m) (l : m ≤ length xs) (e : a ≡ some? (eqb (get_or xs i 0)) (drop (i + 1) (take m xs))) where
-    pub once_twice : a ≡ true → false ≡ once xs n
+  module _ (h : i < length xs) {a : Bool} (e : a ≡ list_any (λ y. eqb y (get_or xs i 0)) (take (length xs - (i + 1)) (drop (i + 1) xs))) where
+    here : distinct eqb xs ≡ (not a && distinct eqb (drop (i + 1) xs))
     unfolding distinct
-    once_twice t = sym (inv ∙ rw (here xs m i h l, sym e ∙ t))
+    here =
+        let l : length (drop (i + 1) xs) ≤ length xs - (i + 1) = omega (arith, length-drop (i + 1) xs) in
+        let k = e ∙ ap (list_any (λ y. eqb y (get_or xs i 0))) (take_all (length xs - (i + 1)) (drop (i + 1) xs) l) ∙ stands_is (get_or xs i 0) (drop (i + 1) xs) in
+        let m = rw (add-one i) at k in
+        inv ∙ rw (drop-cons xs i 0 h, add-one i, sym m)
 
-    pub once_more : a ≡ false → once xs n ≡ distinct eqb (drop (i + 1) (take m xs))
-    unfolding distinct
-    once_more t = inv ∙ rw (here xs m i h l, sym e ∙ t)
+    pub distinct_twice : a ≡ true → false ≡ distinct eqb xs
+    distinct_twice t = sym (here ∙ rw t)
 
-pub ruleset agains = (again_over, again_found, again_more)
+    pub distinct_more : a ≡ false → distinct eqb xs ≡ distinct eqb (drop (i + 1) xs)
+    distinct_more t = here ∙ rw t
 
-pub ruleset onces = (once_over, once_twice, once_more)
+pub once_is : (xs : List ℕ) (n : ℕ) {m : ℕ} {r : Bool} → length xs ≡ 6 → m ≡ min n 6 → r ≡ distinct eqb (take m xs) → r ≡ once xs n
+unfolding once
+once_is xs n {m} l e d = d ∙ ap (distinct eqb) (go (ltb n 6) refl)
+  where
+    go : (b : Bool) → ltb n 6 ≡ b → take m xs ≡ take n xs
+    go true t = let h = ltb-true n 6 t in let k : m ≡ n = omega arith in rw k
+    go false t =
+        let h = ltb-false n 6 t in
+        let k : m ≡ 6 = omega arith in
+        rw k (take_all 6 xs (omega arith) ∙ sym (take_all n xs (omega arith)))

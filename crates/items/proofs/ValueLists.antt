@@ -2,131 +2,125 @@
 use mathlib.Core.Path.{◌≡◌, refl, sym, ap, ◌∙◌}
 use mathlib.Core.List.{List, [], ◌∷◌, ◌++◌, map}
 use mathlib.Core.Bool.{Bool, true, false, ◌||◌, not}
-use mathlib.Core.Option.{Option, none, some}
-use Prim.Native.Nat.{ℕ, suc, ◌+◌, ◌-◌, ◌≤◌, ◌<◌, min}
+use mathlib.Core.Option.{none, some}
+use Prim.Native.Nat.{ℕ, suc, ◌+◌, ◌≤◌, ◌<◌, min}
 use native.Mathlib.Omega.{arith}
 use lib.IntN.{ℤ, pos}
-use lib.ListN.{length, drop, get_or, set, length-map}
+use lib.ListN.{length, drop, set, replicate, length-map}
 use lib.Seq.{set_out}
+use Rattle.std.specs.Prelude.{is_none, unwrap_or}
 use Rattle.lists.specs.Lists.{every, count_from}
 use Rattle.syntax.specs.Grammar.{Bytes}
-use Rattle.syntax.specs.Readers.{Read, read_int, read_items, read_some, closes}
+use Rattle.syntax.specs.Readers.{read_int, read_items, read_some, closes}
 use Rattle.syntax.proofs.Leaving.{int_leaves}
 use Rattle.syntax.specs.Limits.{is_value}
-use Rattle.text.specs.declared.Number.{Number}
-use Rattle.text.specs.declared.Kept.{Kept}
-use Rattle.text.specs.Words.{clamp, number_read, number_at, value_kept, kept_of}
-use Rattle.text.specs.Readings.{any_items}
-use Rattle.text.proofs.Ranges.{kept_clamp}
-use Rattle.text.proofs.Views.{int_view}
+use Rattle.text.specs.declared.NumberAt.{NumberAt}
+use Rattle.text.specs.Words.{Found, Some, None, number_seen, value_kept, value_given}
+use Rattle.text.proofs.Ranges.{value_clamp}
+use Rattle.text.proofs.Views.{number_reading}
+use Rattle.text.proofs.Found.{value_flag, value_or}
 use Rattle.items.specs.declared.Values.{Values}
-use Rattle.items.specs.Items.{first_of, values_read, values_at, no_values, value_added, values_ended}
-use Rattle.items.proofs.Lists.{Listing, list_not, list_is, some_not, some_empty, some_is}
-use Rattle.items.proofs.Folds.{first_more, every_more, map_more, length_more, fold, fold_from, Way, joined, on, list_over, list_end, list_other, list_stuck, list_falls, list_more}
-
--- ---- the list
-
-unfoldable pub value_step : Values → ℤ → Values
-value_step r w = value_added r (not (is_value w)) (value_kept w)
-
-so_far : List ℤ → Values
-so_far ws = record { ok = false; next = 0; count = min (length ws) 7; wide = not (every is_value ws); values = first_of 6 (pos 0) (map value_kept ws) }
-
-alike : {c d : ℕ} {l m : Bool} {x y : List ℤ} → c ≡ d → l ≡ m → x ≡ y
-    → ◌≡◌ {A = Values} (record { ok = false; next = 0; count = c; wide = l; values = x }) (record { ok = false; next = 0; count = d; wide = m; values = y })
-alike e f g = rw (e, f, g)
-
-one_more : (ws : List ℤ) (w : ℤ) → value_step (so_far ws) w ≡ so_far (ws ++ (w ∷ []))
-unfolding value_step value_added so_far
-one_more ws w =
-    let l = length_more ws w in
-    let m : min (length ws) 7 ≡ min (length (map value_kept ws)) 7 = ap (λ n. min n 7) (sym (length-map ws value_kept)) in
-    alike (omega arith) (every_more is_value ws w)
-    (ap (λ n. set (first_of 6 (pos 0) (map value_kept ws)) n (value_kept w)) m ∙ first_more (pos 0) 6 (map value_kept ws) (value_kept w) ∙ ap (first_of 6 (pos 0)) (map_more value_kept ws w))
-
-unfoldable pub kept_added : Values → Kept → Values
-kept_added r k = value_added r k.wide k.value
-
-pub kept_step : (r : Values) (z : ℤ) → kept_added r (kept_of (clamp z)) ≡ value_step r z
-unfolding kept_added kept_of value_step
-kept_step r z = ap (kept_added r) (kept_clamp z)
-
-unfoldable pub values_way : (s : Bytes) → Way ℤ Number Values s
-unfolding int_view number_read
-values_way s =
-    record {
-      view = int_view s;
-      add = λ r n. kept_added r (kept_of n.value);
-      step = value_step;
-      added = λ r a. kept_step r a.what;
-      close = values_ended;
-      fail = no_values;
-    }
-
--- what is read so far, joined to what is read on from a place
-unfoldable pub values_on : Bytes → Values → ℕ → Values
-values_on s r i = on (values_way s) r i
-
-nothing_yet : no_values ≡ so_far []
-unfolding no_values so_far every first_of count_from
-nothing_yet = refl
-
--- at first nothing is read
-pub values_start : (s : Bytes) (at : ℕ) {r : Values} → r ≡ no_values → values_at s at ≡ values_on s r at
-unfolding values_way int_view values_on on values_at values_read joined no_values values_ended so_far
-values_start s at e = rw e (go (any_items closes read_int (drop at s)))
-  where
-    go : (o : Option (Read (List ℤ))) → values_read s o ≡ joined (values_way s) no_values o
-    go none = refl
-    go (some x) = sym (ap (λ r. values_ended r (length s - length x.left)) (ap (λ r. fold value_step r x.what) nothing_yet ∙ fold_from value_step so_far one_more [] x.what))
-
--- ---- each end, and the way on
-
-pub values_less : (s : Bytes) (i : ℕ) {n : Number} → i < length s → n ≡ number_at s (i + 1) → not n.ok ≡ false → length s - n.next < length s - i
-unfolding values_way int_view number_at
-values_less s i h p q = list_falls (values_way s) i h p q
-
-module _ (s : Bytes) (at i : ℕ) (r : Values) (inv : values_at s at ≡ values_on s r i) {x : Values} where
-  pub values_over : length s ≤ i → x ≡ no_values → x ≡ values_at s at
-  unfolding values_on values_way
-  values_over h e = list_over (values_way s) r i inv h e
-
-  module _ (h : i < length s) where
-    pub values_close : get_or s i 0 ≡ 41 → x ≡ values_ended r i → x ≡ values_at s at
-    unfolding values_on values_way
-    values_close b e = list_end (values_way s) r i inv h b e
-
-    pub values_other : (get_or s i 0 ≡ 41 → ⊥) → (get_or s i 0 ≡ 32 → ⊥) → x ≡ no_values → x ≡ values_at s at
-    unfolding values_on values_way
-    values_other f g e = list_other (values_way s) r i inv h f g e
-
-    module _ {n : Number} (b : get_or s i 0 ≡ 32) (p : n ≡ number_at s (i + 1)) where
-      pub values_stuck : not n.ok ≡ true → x ≡ no_values → x ≡ values_at s at
-      unfolding values_on values_way int_view number_at
-      values_stuck q e = list_stuck (values_way s) r i inv h b p q e
-
-      pub values_more : {k : Kept} → not n.ok ≡ false → k ≡ kept_of n.value → x ≡ value_added r k.wide k.value → values_at s at ≡ values_on s x n.next
-      unfolding values_on values_way int_view number_at kept_added
-      values_more q d e = list_more (values_way s) r i inv h b p q (e ∙ ap (kept_added r) d)
-
-pub ruleset values_ends = (values_start, values_over, values_close, values_other, values_stuck, values_less, values_more)
+use Rattle.items.specs.declared.ValuesAt.{ValuesAt}
+use Rattle.items.specs.Items.{first_of, values_seen, values_found, value_more, values_read, values_at, no_values}
+use Rattle.items.proofs.Lists.{Whole, items_none, items_some, items_within, some_none, some_empty_none, some_some, Listing, list_not, list_is, some_not, some_empty, some_is}
+use Rattle.items.proofs.Folds.{first_more, every_more, map_more, length_more, Way, on, list_start}
 
 -- ---- one number more
 
-module _ (r : Values) (wide : Bool) (value : ℤ) {l : Bool} (e : l ≡ (r.wide || wide)) where
-  pub value_full : length r.values ≡ 6 → 6 ≤ r.count → record { ok = r.ok; next = r.next; count = 7; wide = l; values = r.values } ≡ value_added r wide value
-  unfolding value_added
+module _ (r : ValuesAt) (v : Found ℤ) {b : Bool} (e : b ≡ is_none v) where
+  pub value_full : length r.values ≡ 6 → 6 ≤ r.count → record { next = r.next; count = 7; wide = r.wide || b; values = r.values } ≡ value_more r v
+  unfolding value_more
   value_full k h =
       let c : 7 ≡ min (suc r.count) 7 = omega arith in
-      rw (e, set_out r.values r.count value (omega arith), sym c)
+      rw (e, set_out r.values r.count (unwrap_or v (pos 0)) (omega arith), sym c)
 
-  pub value_room : {v : ℤ} → v ≡ value → r.count < 6 → record { ok = r.ok; next = r.next; count = r.count + 1; wide = l; values = set r.values r.count v } ≡ value_added r wide value
-  unfolding value_added
-  value_room d h =
-      let c : min (suc r.count) 7 ≡ r.count + 1 = omega arith in
-      rw (e, d, c)
+  pub value_room : {z : ℤ} → z ≡ unwrap_or v (pos 0) → r.count < 6 → record { next = r.next; count = r.count + 1; wide = r.wide || b; values = set r.values r.count z } ≡ value_more r v
+  unfolding value_more
+  value_room d h = let c : min (suc r.count) 7 ≡ r.count + 1 = omega arith in rw (e, d, c)
+
+-- ---- the list, number by number
+
+unfoldable pub value_step : ValuesAt → ℤ → ValuesAt
+value_step r z = value_more r (value_given z)
+
+values_so_far : List ℤ → ValuesAt
+values_so_far zs = record { next = 0; count = min (length zs) 7; wide = not (every is_value zs); values = first_of 6 (pos 0) (map value_kept zs) }
+
+alike : {c d : ℕ} {l m : Bool} {x y : List ℤ} → c ≡ d → l ≡ m → x ≡ y → ◌≡◌ {A = ValuesAt} (record { next = 0; count = c; wide = l; values = x }) (record { next = 0; count = d; wide = m; values = y })
+alike e f g = rw (e, f, g)
+
+one_more : (zs : List ℤ) (z : ℤ) → value_step (values_so_far zs) z ≡ values_so_far (zs ++ (z ∷ []))
+unfolding value_step value_more values_so_far
+one_more zs z =
+    let l = length_more zs z in
+    let m : min (length zs) 7 ≡ min (length (map value_kept zs)) 7 = ap (λ n. min n 7) (sym (length-map zs value_kept)) in
+    rw (value_flag z, value_or z)
+    (alike (omega arith) (every_more is_value zs z)
+    (ap (λ n. set (first_of 6 (pos 0) (map value_kept zs)) n (value_kept z)) m ∙ first_more (pos 0) 6 (map value_kept zs) (value_kept z) ∙ ap (first_of 6 (pos 0)) (map_more value_kept zs z)))
+
+unfoldable pub values_way : (s : Bytes) → Way ℤ NumberAt ValuesAt s
+unfolding number_reading number_seen value_step
+values_way s =
+    record {
+      reading = number_reading s;
+      add = λ r n. value_more r (value_given n.value);
+      step = value_step;
+      added = λ r a. ap (value_more r) (value_clamp a.what);
+      close = λ r i. record { next = i; count = r.count; wide = r.wide; values = r.values };
+    }
+
+-- what is read so far, joined to what is read on from a place
+abbrev pub values_on : Bytes → ValuesAt → ℕ → Found ValuesAt
+values_on s r i = on (values_way s) r i
+
+pub values_start : (s : Bytes) (at : ℕ) → values_found s at ≡ values_on s (record { next = 0; count = 0; wide = false; values = replicate 6 (pos 0) }) at
+unfolding values_found values_way number_reading values_so_far values_seen every first_of count_from
+values_start s at = list_start (values_way s) values_so_far one_more (values_seen s) (λ x. refl) at
 
 -- ---- the whole list, for a reader of lines
+
+unfoldable values_whole : (s : Bytes) → Whole ℤ ValuesAt s
+unfolding values_seen
+values_whole s =
+    record {
+      item = read_int;
+      leaves = int_leaves;
+      made = values_seen s;
+      next = λ n. n.next;
+      count = λ n. n.count;
+      most = 6;
+      next_made = λ a. refl;
+      count_made = λ a. refl;
+    }
+
+module _ (s : Bytes) (p : ℕ) where
+  pub values_none : None ≡ values_found s p → read_items closes read_int (length s) (drop p s) ≡ none
+  unfolding values_found values_whole
+  values_none e = items_none (values_whole s) p e
+
+  pub some_values_none : None ≡ values_found s p → read_some closes read_int (length s) (drop p s) ≡ none
+  unfolding values_found values_whole
+  some_values_none e = some_none (values_whole s) p e
+
+  module _ {n : ValuesAt} (e : Some n ≡ values_found s p) where
+    pub values_some : {X : Type 0} → ((xs : List ℤ) → read_items closes read_int (length s) (drop p s) ≡ some (record { what = xs; left = drop n.next s }) → n ≡ values_seen s (record { what = xs; left = drop n.next s }) → X) → X
+    unfolding values_found values_whole
+    values_some k = items_some (values_whole s) p e k
+
+    pub values_within : n.next ≤ length s
+    unfolding values_found values_whole
+    values_within = items_within (values_whole s) p e
+
+    pub some_values_empty_none : n.count ≡ 0 → read_some closes read_int (length s) (drop p s) ≡ none
+    unfolding values_found values_whole
+    some_values_empty_none z = some_empty_none (values_whole s) p e z
+
+    pub some_values_some : {X : Type 0} → (n.count ≡ 0 → ⊥)
+        → ((xs : List ℤ) → read_some closes read_int (length s) (drop p s) ≡ some (record { what = xs; left = drop n.next s }) → n ≡ values_seen s (record { what = xs; left = drop n.next s }) → X) → X
+    unfolding values_found values_whole
+    some_values_some f k = some_some (values_whole s) p e f k
+
+-- ---- the same with a flag
 
 unfoldable values_listing : (s : Bytes) → Listing ℤ Values s
 unfolding values_read no_values

@@ -1,12 +1,12 @@
 -- Bounds of the ledger, and times that do not fall, as the code tests them.
 use mathlib.Core.Path.{◌≡◌, refl, sym, ap, ◌∙◌}
-use mathlib.Core.Bool.{Bool, true, false, ◌&&◌, not}
+use mathlib.Core.Bool.{Bool, true, false, ◌&&◌}
 use Prim.Native.Nat.{ℕ, suc, ◌+◌, ◌*◌, ◌-◌, ◌<◌, ◌≤◌}
 use native.Mathlib.Numerals.{add-one}
 use native.Mathlib.Omega.{arith}
 use lib.Dec.{leb}
 use lib.ListN.{get_or}
-use borrow.Author.Tests.{le-leb, lt-leb, not-true, not-false}
+use borrow.Author.Tests.{le-leb, lt-leb}
 use mathlib.Core.List.{List}
 use Rattle.lists.specs.Lists.{every}
 use Rattle.lists.proofs.Laws.{and_true}
@@ -95,11 +95,11 @@ module _ (times : List ℕ) (low i : ℕ) where
       apart true false r s x = refl
       apart false q r s x = refl
 
-  pub steady_four_past : (k end : ℕ) {r : Bool} → i + 4 ≤ end → r ≡ times_steady times low (here 3) i 4 → not r ≡ false → times_steady times low k i (end - i) ≡ times_steady times (here 3) k (i + 4) (end - (i + 4))
-  steady_four_past k end {r} h e f = steady_four k end h ∙ ap (λ x. x && times_steady times (here 3) k (i + 4) (end - (i + 4))) (sym e ∙ not-false r f)
+  pub steady_four_past : (k end : ℕ) {r : Bool} → i + 4 ≤ end → r ≡ times_steady times low (here 3) i 4 → r ≡ true → times_steady times low k i (end - i) ≡ times_steady times (here 3) k (i + 4) (end - (i + 4))
+  steady_four_past k end {r} h e f = steady_four k end h ∙ ap (λ x. x && times_steady times (here 3) k (i + 4) (end - (i + 4))) (sym e ∙ f)
 
-  pub steady_four_fails : (k end : ℕ) {r : Bool} → i + 4 ≤ end → r ≡ times_steady times low (here 3) i 4 → not r ≡ true → times_steady times low k i (end - i) ≡ false
-  steady_four_fails k end {r} h e f = steady_four k end h ∙ ap (λ x. x && times_steady times (here 3) k (i + 4) (end - (i + 4))) (sym e ∙ not-true r f)
+  pub steady_four_fails : (k end : ℕ) {r : Bool} → i + 4 ≤ end → r ≡ times_steady times low (here 3) i 4 → r ≡ false → times_steady times low k i (end - i) ≡ false
+  steady_four_fails k end {r} h e f = steady_four k end h ∙ ap (λ x. x && times_steady times (here 3) k (i + 4) (end - (i + 4))) (sym e ∙ f)
 
 pub stream_tested : (l : Ledger) (times : List ℕ) (s count : ℕ) (b v : Bool) → count ≡ count_in l s → b ≡ times_steady times 0 l.clock (s * max_rows) count → b ≡ v → stream_steady l times s ≡ v
 unfolding stream_steady

@@ -1,59 +1,52 @@
--- What the clock, row and clear calls say, and what they leave: every place that is lent, for each verdict.
-use Rattle.std.specs.Prelude.{◌≡◌, List, [], ◌∷◌, ◌||◌, not, ℕ, suc, ◌+◌, ◌*◌, ℤ, leb, ltb, eqb, length, set, replicate}
+-- What the clock, row and clear calls say, and what they leave: every place that is lent, accepted and refused.
+use Rattle.std.specs.Prelude.{◌≡◌, List, [], ◌∷◌, ◌||◌, not, ℕ, suc, ◌+◌, ◌*◌, ℤ, leb, ltb, eqb, length, set, replicate, Result, is_none, unwrap_or}
 use Rattle.std.proofs.Math.Seq.{paste}
-use Rattle.refusal.specs.Numbers.{verdict_of}
+use Rattle.refusal.specs.Results.{Said, result_of, giving, settled}
 use Rattle.refusal.specs.Checks.{Check, refuse, first, table}
 use Rattle.refusal.specs.declared.Checks.{Checks}
 use Rattle.refusal.specs.declared.Refusal.TheVariants.{Lent}
-use Rattle.refusal.specs.declared.Verdict.{Verdict}
-use Rattle.refusal.specs.declared.Verdict.TheVariants.{Accepted, Refused}
+use Rattle.refusal.specs.declared.Refusal.{Refusal}
 use Rattle.syntax.specs.Limits.{max_streams, max_columns, max_rows, natural}
 use Rattle.calls.specs.Tables.{clock_checks, row_checks}
-use Rattle.text.specs.declared.Time.{Time}
+use Rattle.text.specs.Words.{Found}
 use Rattle.schema.specs.Schemas.{streams_in, width_in}
 use Rattle.ledger.specs.declared.Ledger.{Ledger}
-use Rattle.ledger.specs.declared.Entered.{Entered}
 use Rattle.ledger.specs.Records.{Memory, record_of, count_in, ledger_sound, memory_sound}
 
 -- a fresh record: clock 0 and no rows
 unfoldable pub begun : Ledger
 begun = record { clock = 0; rows = replicate max_streams 0 }
 
--- a verdict, with a new ledger where it is accepted and the old one where it is refused
-unfoldable pub entered : Verdict → Ledger → Ledger → Entered
-entered Accepted new old = record { verdict = Accepted; ledger = new }
-entered (Refused f) new old = record { verdict = Refused f; ledger = old }
-
 -- ---- clock
 
--- what is wrong with it, beside what a line showed before
-unfoldable pub clock_shown : Ledger → Time → Checks → Checks
+-- what is wrong with a time, None where a number is none, beside what a line showed before
+unfoldable pub clock_shown : Ledger → Found ℕ → Checks → Checks
 clock_shown l t c =
     record {
       lent = not (ledger_sound l);
       long = c.long;
       malformed = c.malformed;
-      bound = c.bound || t.beyond;
+      bound = c.bound || is_none t;
       undeclared = c.undeclared;
       repeated = c.repeated;
       misplaced = c.misplaced;
       window = c.window;
-      back = ltb t.value l.clock;
+      back = ltb (unwrap_or t 0) l.clock;
       full = c.full;
       unrouted = c.unrouted;
       many = c.many;
       room = c.room;
     }
 
-unfoldable pub clocked : Ledger → Time → Checks → Entered
-clocked l t c = entered (verdict_of (first (table (clock_shown l t c)))) (record { clock = t.value; rows = l.rows }) l
+unfoldable pub clocked : Ledger → Found ℕ → Checks → Result Ledger Refusal
+clocked l t c = giving (result_of (first (table (clock_shown l t c)))) (record { clock = unwrap_or t 0; rows = l.rows })
 
 -- the call
 unfoldable pub clock_table : Ledger → ℤ → List Check
 clock_table l t = refuse Lent (not (ledger_sound l)) ∷ clock_checks l.clock t
 
-unfoldable pub clock_call : Ledger → ℤ → Entered
-clock_call l t = entered (verdict_of (first (clock_table l t))) (record { clock = natural t; rows = l.rows }) l
+unfoldable pub clock_call : Ledger → ℤ → Result Ledger Refusal
+clock_call l t = giving (result_of (first (clock_table l t))) (record { clock = natural t; rows = l.rows })
 
 -- ---- clear
 
@@ -75,15 +68,15 @@ clear_shown l c =
       room = c.room;
     }
 
-unfoldable pub cleared : Ledger → Checks → Entered
-cleared l c = entered (verdict_of (first (table (clear_shown l c)))) (record { clock = l.clock; rows = replicate max_streams 0 }) l
+unfoldable pub cleared : Ledger → Checks → Result Ledger Refusal
+cleared l c = giving (result_of (first (table (clear_shown l c)))) (record { clock = l.clock; rows = replicate max_streams 0 })
 
 -- the call
 unfoldable pub clear_table : Ledger → List Check
 clear_table l = refuse Lent (not (ledger_sound l)) ∷ []
 
-unfoldable pub clear_call : Ledger → Entered
-clear_call l = entered (verdict_of (first (clear_table l))) (record { clock = l.clock; rows = replicate max_streams 0 }) l
+unfoldable pub clear_call : Ledger → Result Ledger Refusal
+clear_call l = giving (result_of (first (clear_table l))) (record { clock = l.clock; rows = replicate max_streams 0 })
 
 -- ---- row
 
@@ -123,22 +116,18 @@ with_row m s vs =
       values = paste m.values (row_place m.ledger s * max_columns) vs (length vs);
     }
 
-unfoldable pub memory_after : Verdict → Memory → Memory → Memory
-memory_after Accepted old new = new
-memory_after (Refused f) old new = old
-
 -- what is said, and what all memory holds afterwards
-pub record Enters (m : Memory) (s : ℕ) (vs : List ℤ) (c : Checks) (m' : Memory) (v : Verdict) : Type 0 where
-  pub said : v ≡ verdict_of (first (table (row_shown m s (length vs) c)))
-  pub left : m' ≡ memory_after v m (with_row m s vs)
+pub record Enters (m : Memory) (s : ℕ) (vs : List ℤ) (c : Checks) (m' : Memory) (v : Said) : Type 0 where
+  pub said : v ≡ result_of (first (table (row_shown m s (length vs) c)))
+  pub left : m' ≡ settled v m (with_row m s vs)
 
 -- the call
 unfoldable pub row_table : Memory → ℕ → List ℤ → List Check
 row_table m s vs = refuse Lent (not (memory_sound m)) ∷ row_checks (record_of m) s vs
 
-pub record RowCall (m : Memory) (s : ℕ) (vs : List ℤ) (m' : Memory) (v : Verdict) : Type 0 where
-  pub said : v ≡ verdict_of (first (row_table m s vs))
-  pub left : m' ≡ memory_after v m (with_row m s vs)
+pub record RowCall (m : Memory) (s : ℕ) (vs : List ℤ) (m' : Memory) (v : Said) : Type 0 where
+  pub said : v ≡ result_of (first (row_table m s vs))
+  pub left : m' ≡ settled v m (with_row m s vs)
 
 -- the two lists in which a row is stored
 pub record Stored (l : Ledger) (s : ℕ) (vs : List ℤ) (times times' : List ℕ) (values values' : List ℤ) : Type 0 where

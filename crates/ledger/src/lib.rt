@@ -3,27 +3,21 @@
 
 ghost use Rattle.std.specs.Prelude.{◌≡◌, ◌+◌, ◌*◌, ◌-◌, ◌≤◌, ◌<◌, T, length, get_or};
 ghost use Rattle.std.proofs.Math.Seq.{paste};
+ghost use Rattle.refusal.specs.Results.{said_by, held_after};
 ghost use Rattle.lists.specs.Lists.{every};
 ghost use Rattle.syntax.specs.Limits.{max_streams, max_columns, max_rows, is_value};
 ghost use Rattle.ledger.specs.Records.{places_size, values_size, count_in, ledger_sound, undeclared_empty, times_steady, streams_steady, rows_sound, memory_sound};
-ghost use Rattle.ledger.specs.Calls.{begun, entered, clocked, clock_call, cleared, clear_call, row_place, with_rows, row_shown, Enters, Stored, RowCall};
+ghost use Rattle.ledger.specs.Calls.{begun, clocked, clock_call, cleared, clear_call, row_place, with_rows, row_shown, Enters, Stored, RowCall};
 
-use refusal::{Checks, Verdict};
+use refusal::{Checks, Refusal};
 use schema::Stream;
-use text::{Number, Time};
+use text::{NumberAt, Time};
 
 #[repr(C)]
 #[derive(Clone, Copy)]
 pub struct Ledger {
     pub clock: u32,
     pub rows: [u32; Stream::MOST],
-}
-
-// What a call says, and the ledger that it leaves.
-#[derive(Clone, Copy)]
-pub struct Entered {
-    pub verdict: Verdict,
-    pub ledger: Ledger,
 }
 
 impl Ledger {
@@ -72,71 +66,51 @@ impl Ledger {
         if Time::TOP < self.clock {
             return false;
         }
-        let rows = self.rows;
-        let mut s: usize = 0;
-        while s < Stream::MOST {
-            if Ledger::ROWS < rows[s] as usize {
+        for n in &self.rows {
+            if Ledger::ROWS < *n as usize {
                 return false;
             }
-            s += 1;
         }
         true
     }
 
-    // The verdict, with another ledger where it is accepted, and this one where it is refused.
-    fn entered(self, v: Verdict, next: Ledger) -> Entered
-        ensures { result ≡ entered v next self }
-    {
-        match v {
-            Verdict::Refused(f) => Entered {
-                verdict: Verdict::Refused(f),
-                ledger: self,
-            },
-            Verdict::Accepted => Entered {
-                verdict: Verdict::Accepted,
-                ledger: next,
-            },
-        }
-    }
-
-    // Returns what `clock` does for a time, after what a line showed (`checks`).
-    pub fn clock_with(self, t: Time, checks: Checks) -> Entered
+    // Returns what `clock` does for a time, None where a number is none, after what a line showed (`checks`).
+    pub fn clock_with(self, t: Option<u32>, checks: Checks) -> Result<Ledger, Refusal>
         ensures { result ≡ clocked self t checks }
     {
+        let time = t.unwrap_or(0);
         let mut c = checks;
         c.lent = !self.sound();
-        c.bound = text::either(c.bound, t.beyond);
-        c.back = t.value < self.clock;
+        c.bound |= t.is_none();
+        c.back = time < self.clock;
+        c.result()?;
         let mut next = self;
-        next.clock = t.value;
-        self.entered(c.verdict(), next)
+        next.clock = time;
+        Ok(next)
     }
 
-    // The clock call. Returns the verdict, and the ledger with the time, which may be any number; refused, the ledger as it was.
-    pub fn clock(self, t: i64) -> Entered
+    // The clock call. Returns the ledger with the time, which may be any number, or the refusal.
+    pub fn clock(self, t: i64) -> Result<Ledger, Refusal>
         ensures { result ≡ clock_call self t }
     {
-        let n = Number {
-            ok: true,
-            value: t,
-            next: 0,
-        };
+        let n = NumberAt { value: t, next: 0 };
         self.clock_with(n.time(), Checks::new())
     }
 
     // Returns what `clear` does, after what a line showed (`checks`).
-    pub fn clear_with(self, checks: Checks) -> Entered
+    pub fn clear_with(self, checks: Checks) -> Result<Ledger, Refusal>
         ensures { result ≡ cleared self checks }
     {
         let mut c = checks;
         c.lent = !self.sound();
+        c.result()?;
         let mut next = self;
         next.rows = [0; Stream::MOST];
-        self.entered(c.verdict(), next)
+        Ok(next)
     }
 
-    // The clear call. Returns the verdict, and the ledger with no rows and its clock; refused, the ledger as it was.
-    pub fn clear(self) -> Entered
+    // The clear call. Returns the ledger with no rows and its clock, or the refusal.
+    pub fn clear(self) -> Result<Ledger, Refusal>
         ensures { result ≡ clear_call self }
     {
         self.clear_with(Checks::new())
@@ -160,13 +134,10 @@ impl Ledger {
     fn rest_empty(self, n: usize) -> bool
         ensures { result ≡ undeclared_empty self n }
     {
-        let rows = self.rows;
-        let mut s = n;
-        while s < Stream::MOST {
-            if rows[s] != 0 {
+        for s in n..Stream::MOST {
+            if self.rows[s] != 0 {
                 return false;
             }
-            s += 1;
         }
         true
     }
@@ -176,13 +147,10 @@ impl Ledger {
         requires { (n ≤ max_streams) × (places_size ≤ length times.now) }
         ensures { result ≡ streams_steady self n times.now }
     {
-        let mut s: usize = 0;
-        while s < n {
-            let count = self.count(s);
-            if !steady(times, self.clock, s * Ledger::ROWS, count) {
+        for s in 0..n {
+            if !steady(times, self.clock, s * Ledger::ROWS, self.count(s)) {
                 return false;
             }
-            s += 1;
         }
         true
     }
@@ -214,14 +182,12 @@ fn rest_steady(times: &[u32], lowest: u32, clock: u32, at: usize, end: usize) ->
     ensures { result ≡ times_steady times.now lowest clock at (end - at) }
 {
     let mut low = lowest;
-    let mut i = at;
-    while i < end {
+    for i in at..end {
         let t = times[i];
         if t < low {
             return false;
         }
         low = t;
-        i += 1;
     }
     low <= clock
 }
@@ -233,6 +199,7 @@ fn steady(times: &[u32], clock: u32, at: usize, count: usize) -> bool
 {
     let end = at + count;
     let mut low: u32 = 0;
+    // The index goes on by four, for speed, and where it ends the rest begins.
     let mut i = at;
     while i + 4 <= end {
         if !rising(times, low, i) {
@@ -278,10 +245,8 @@ pub fn sound(l: Ledger, names: &[u64], times: &[u32], values: &[i32]) -> bool
 pub fn known(vs: &[i32])
     ensures { T (every is_value vs.now) }
 {
-    let mut i: usize = 0;
-    while i < vs.len() {
-        let _v = vs[i];
-        i += 1;
+    for v in vs {
+        let _v = *v;
     }
 }
 
@@ -290,11 +255,7 @@ fn put(values: &mut [i32], at: usize, vs: &[i32])
     requires { at + length vs.now ≤ length values.old }
     ensures { values.new ≡ paste values.old at vs.now (length vs.now) }
 {
-    let mut c: usize = 0;
-    while c < vs.len() {
-        values[at + c] = vs[c];
-        c += 1;
-    }
+    values[at..at + vs.len()].copy_from_slice(vs);
 }
 
 impl Ledger {
@@ -350,28 +311,17 @@ impl Ledger {
         times: &mut [u32],
         values: &mut [i32],
         checks: Checks,
-    ) -> Entered
-        ensures { Enters (record { ledger = self; names = names.now; times = times.old; values = values.old }) s vs.now checks (record { ledger = result.ledger; names = names.now; times = times.new; values = values.new }) result.verdict }
+    ) -> Result<Ledger, Refusal>
+        ensures { Enters (record { ledger = self; names = names.now; times = times.old; values = values.old }) s vs.now checks (record { ledger = held_after result self; names = names.now; times = times.new; values = values.new }) (said_by result) }
     {
         let c = self.row_checks(names, s, vs.len(), times, values, checks);
-        let v = c.verdict();
-        match v {
-            Verdict::Refused(f) => Entered {
-                verdict: Verdict::Refused(f),
-                ledger: self,
-            },
-            Verdict::Accepted => {
-                self.store(s, vs, times, values);
-                Entered {
-                    verdict: Verdict::Accepted, // the row is stored
-                    ledger: self.with_row(s),
-                }
-            }
-        }
+        c.result()?;
+        self.store(s, vs, times, values);
+        Ok(self.with_row(s))
     }
 
-    // The row call: one row more of the stream of a number. Returns the verdict, and the ledger with one row more. Leaves the clock in its time and the values in its places,
-    // and all else as it was; refused, the ledger and all places as they were.
+    // The row call: one row more of the stream of a number. Returns the ledger with one row more, or the refusal. Leaves the clock in its time and the values in its places,
+    // and all else as it was; refused, all places as they were.
     pub fn row(
         self,
         names: &[u64],
@@ -379,8 +329,8 @@ impl Ledger {
         vs: &[i32],
         times: &mut [u32],
         values: &mut [i32],
-    ) -> Entered
-        ensures { RowCall (record { ledger = self; names = names.now; times = times.old; values = values.old }) s vs.now (record { ledger = result.ledger; names = names.now; times = times.new; values = values.new }) result.verdict }
+    ) -> Result<Ledger, Refusal>
+        ensures { RowCall (record { ledger = self; names = names.now; times = times.old; values = values.old }) s vs.now (record { ledger = held_after result self; names = names.now; times = times.new; values = values.new }) (said_by result) }
     {
         known(vs);
         self.row_with(names, s, vs, times, values, Checks::new())

@@ -76,8 +76,8 @@ module _ (order : ℕ) where
       pub count_stop : m ≡ 0 → n ≡ length (codes_in order)
       count_stop z = let e = ap length (codes_none (12 - n) m z) in omega arith
 
-      pub count_full : 12 ≤ n → n ≡ length (codes_in order)
-      count_full h = let e = ap length (left_over m n h) in omega arith
+      pub count_full : 12 ≤ n → n ≤ 12 → 12 ≡ length (codes_in order)
+      count_full h k = let e = ap length (left_over m n h) in omega arith
 
       pub count_on : n < 12 → (m ≡ 0 → ⊥) → length (codes_in order) ≡ length (left (m / 32) (n + 1)) + (n + 1)
       count_on h z =
@@ -131,8 +131,8 @@ reached i m (suc k) n h e =
     let d : suc k - 1 ≡ k = omega arith in
     rw d (codes_last k m (λ z. let l = ap length (codes_none (suc k) m z) in omega arith))
 
-pub at_on : (order i m n : ℕ) → Reaching order i m n → i + 1 < n → Reaching order i (m / 32) (n - 1)
-at_on order i m n r h =
+pub at_on : (order i m n : ℕ) → Reaching order i m n → i + 1 < n → {l : ℕ} → l ≡ n - 1 → Reaching order i (m / 32) l
+at_on order i m n r h d =
     let k = r.places in
     let e = reached i m k n r.below r.many in
     let l = ap length e in

@@ -77,29 +77,26 @@ pub fn count(order: u64) -> u32
     ensures { result ≡ length (codes_in order) }
 {
     let mut m = order;
-    let mut n: u32 = 0;
-    while n < Order::MOST {
+    for n in 0..Order::MOST {
         if m == 0 {
             return n;
         }
-        m = m / Order::PLACE;
-        n += 1;
+        m /= Order::PLACE;
     }
-    n
+    Order::MOST
 }
 
 // Returns the code of column i, 0 where there is no such column.
 pub fn code_at(order: u64, i: u32) -> u32
     ensures { result ≡ get_or (codes_in order) i 0 }
 {
-    let mut left = count(order);
-    if left <= i {
+    let n = count(order);
+    if n <= i {
         return 0;
     }
     let mut m = order;
-    while i + 1 < left {
-        m = m / Order::PLACE;
-        left -= 1;
+    for _k in i + 1..n {
+        m /= Order::PLACE;
     }
     last(m)
 }
@@ -110,14 +107,12 @@ pub fn mask_of(order: u64) -> u32
 {
     let mut m = order;
     let mut mask: u32 = 0;
-    let mut n: u32 = 0;
-    while n < Order::MOST {
+    for _n in 0..Order::MOST {
         if m == 0 {
             return mask;
         }
         mask = masks::with(mask, last(m));
-        m = m / Order::PLACE;
-        n += 1;
+        m /= Order::PLACE;
     }
     mask
 }
@@ -138,14 +133,12 @@ fn turned(a: u64, b: u64) -> u64
 {
     let mut m = a;
     let mut rest = b;
-    let mut n: u32 = 0;
-    while n < Order::MOST {
+    for _n in 0..Order::MOST {
         if rest == 0 {
             return m;
         }
         m = with_code(m, last(rest));
-        rest = rest / Order::PLACE;
-        n += 1;
+        rest /= Order::PLACE;
     }
     m
 }
@@ -156,14 +149,12 @@ fn turned_within(order: u64, mask: u32) -> u64
 {
     let mut m: u64 = 0;
     let mut rest = order;
-    let mut n: u32 = 0;
-    while n < Order::MOST {
+    for _n in 0..Order::MOST {
         if rest == 0 {
             return m;
         }
         m = with_shown(m, mask, last(rest));
-        rest = rest / Order::PLACE;
-        n += 1;
+        rest /= Order::PLACE;
     }
     m
 }

@@ -206,12 +206,12 @@ pub begun_made : {t u : Side} → t ≡ no_side → u ≡ no_side → record { t
 unfolding begun
 begun_made e f = rw (e, f)
 
-pub asked_nothing : (long : Bool) {c : Checks} {q : Query} → c ≡ unread long → q ≡ new_query → record { ok = false; next = 0; checks = c; query = q } ≡ unread_asked long
+pub asked_nothing : (long : Bool) {c : Checks} {q : Query} → c ≡ unread long → q ≡ new_query → record { next = 0; checks = c; query = q } ≡ unread_asked long
 unfolding unread_asked
 asked_nothing long e f = rw (e, f)
 
 pub asked_made : (r : Reading) (p : Placing) {c : Checks} → c ≡ shown r.over r.unknown r.repeated p.misplaced p.window
-    → record { ok = true; next = r.next; checks = c; query = record { forms = r.forms; len = r.count } } ≡ asked_of r p
+    → record { next = r.next; checks = c; query = record { forms = r.forms; len = r.count } } ≡ asked_of r p
 unfolding asked_of
 asked_made r p e = rw e
 

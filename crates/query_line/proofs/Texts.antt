@@ -3,39 +3,44 @@ use mathlib.Core.Path.{◌≡◌, refl, sym, ap, ap₂, ◌∙◌, subst}
 use mathlib.Core.List.{List, [], ◌∷◌, map}
 use mathlib.Core.Bool.{Bool, true, false, not, cond}
 use mathlib.Core.Option.{Option, none, some, none-ne-some, some-injective}
-use Prim.Native.Nat.{ℕ, ◌+◌, ◌-◌, ◌≤◌, ◌<◌}
+use Prim.Native.Nat.{ℕ, ◌-◌, ◌≤◌, ◌<◌}
 use native.Mathlib.Omega.{arith}
 use lib.IntN.{ℤ, pos}
 use lib.Dec.{T, leb, ltb}
-use lib.ListN.{length, drop, get_or, length-drop}
-use borrow.Author.Tests.{le-leb, lt-leb, le-ltb, lt-ltb, not-true, not-false, ltb-false}
+use lib.ListN.{length, drop, length-drop}
+use borrow.Author.Tests.{le-leb, lt-leb, le-ltb, lt-ltb, not-false, ltb-true, ltb-false}
 use Rattle.refusal.specs.Checks.{Check, refuse, first, table}
 use Rattle.refusal.specs.declared.Refusal.TheVariants.{Bound, Malformed}
+use Rattle.std.proofs.lemmas.Option.{same_Some}
 use Rattle.lists.proofs.Laws.{true_T, T_true, never, by_test, same_list→eq}
 use Rattle.syntax.specs.Grammar as G
-use Rattle.syntax.specs.Grammar.{Bytes, Form, RouteLine}
+use Rattle.syntax.specs.Grammar.{Bytes, Form, RouteLine, verb_word}
 use Rattle.syntax.specs.Limits.{form_depth, shallow}
-use Rattle.syntax.specs.Readers.{Read, bind, ◌>>=◌, ◌>>◌, give, read_number, read_body, parse_as, parse_query}
+use Rattle.syntax.specs.Readers.{Read, bind, byte, ◌>>=◌, ◌>>◌, give, read_number, read_body, parse_as, parse_query}
 use Rattle.syntax.proofs.Depths.{query_shallow, ask_shallow, line_shallow}
 use Rattle.calls.specs.Names.{form_conds, map_option}
 use Rattle.calls.specs.Tables.{query_checks}
 use Rattle.calls.specs.Replies.{written}
-use Rattle.text.specs.declared.Line.{Line}
-use Rattle.text.specs.declared.Number.{Number}
-use Rattle.text.specs.Words.{clamp, number_at}
-use Rattle.text.specs.Keywords.{line_open, closes_at}
+use Rattle.text.specs.declared.Unread.TheVariants as L
+use Rattle.text.specs.declared.NumberAt.{NumberAt}
+use Rattle.text.specs.declared.Unread.{Unread}
+use Rattle.text.specs.declared.Unread.TheVariants.{TooLong}
+use Rattle.text.specs.Words.{Found, Some, None, seen, left_at, read_end, clamp, number_found}
+use Rattle.text.specs.Keywords.{Ok, Err, ok_or, opening_end, line_after, too_long, closes_at}
 use Rattle.text.specs.Readings.{any_form, whole, closed}
 use Rattle.text.proofs.Fuel.{form_any, any_form_leaves}
-use Rattle.text.proofs.Views.{left_drop}
-use Rattle.text.proofs.Places.{whole_some, space_is, space_not, number_not, number_is, closed_none, closed_is, closed_not, ask_word, line_word}
-use Rattle.text.proofs.Lines.{as_long, as_unopened, opened_short, as_opened, query_whole}
+use Rattle.text.proofs.Views.{no_some, left_drop, skip_none, skip_is}
+use Rattle.text.proofs.Places.{Spells, whole_some, closed_none, closed_is, closed_not, ask_word, line_word}
+use Rattle.text.proofs.Found as F
+use Rattle.text.proofs.Found.{number_none, number_some, line_unread}
+use Rattle.text.proofs.Lines.{query_whole}
 use Rattle.schema.specs.Schemas.{schema_of, schema_sound}
 use Rattle.nodes.specs.Storing.{store_list}
 use Rattle.conditions.specs.Seeing.{nodes_of}
 use Rattle.query_read.specs.Seeing.{reading_ended, form_stored, readable}
 use Rattle.query_line.specs.declared.Asked.{Asked}
 use Rattle.query_line.specs.declared.Routed.{Routed}
-use Rattle.query_line.specs.Asking.{asked_of, unread_asked, asked_form, asked_read, form_checks, Tells, Asks, Means}
+use Rattle.query_line.specs.Asking.{asked_of, unread_asked, asked_form, asked_seen, form_checks, Tells, Asks, Means}
 use Rattle.query_line.specs.Texts.{unread_routed, routed_of, route_said, said_asked, said_stored, text_asked, Told, QueryTold, AskTold, RouteTold}
 
 some_not : {A X : Type 0} {a : A} → ◌≡◌ {A = Option A} (some a) none → X
@@ -49,13 +54,13 @@ unreadable : (s : Bytes) (ws : List ℕ) → length s ≤ 512 → leb 102 (lengt
 unfolding readable
 unreadable s ws h e = rw (le-ltb 512 (length s) h, e)
 
-unread_ok : (long : Bool) → (unread_asked long).ok ≡ false
+unread_malformed : (long : Bool) → (unread_asked long).checks.malformed ≡ true
 unfolding unread_asked
-unread_ok long = refl
+unread_malformed long = refl
 
-form_ok : (ns : List ℕ) (q : Form) (n : ℕ) → (asked_form ns q n).ok ≡ true
+form_well : (ns : List ℕ) (q : Form) (n : ℕ) → (asked_form ns q n).checks.malformed ≡ false
 unfolding asked_form asked_of
-form_ok ns q n = refl
+form_well ns q n = refl
 
 form_ends : (ns : List ℕ) (q : Form) (n : ℕ) → (asked_form ns q n).next ≡ n
 unfolding asked_form asked_of reading_ended
@@ -73,7 +78,6 @@ close_last s n {c} e f =
 
 -- the query at a place, and the words with its conditions
 record Here (ns : List ℕ) (s : Bytes) (ws vs : List ℕ) (x : Asked) (q : Form) : Type 0 where
-  ok : x.ok ≡ true
   asked : x ≡ asked_form ns q x.next
   lent : T (leb 102 (length ws))
   stored : x.checks.bound ≡ false → vs ≡ store_list (map (nodes_of ns) (form_conds q)) 0 ws
@@ -116,7 +120,7 @@ module _ {A : Type 0} (form : A → Form) (spare : ℕ) (ns : List ℕ) (s : Byt
     text_long h d =
         record {
           is = d ∙ rw (lt-ltb 512 (length s) h);
-          stored = λ z b. never (sym z ∙ ap (λ y. y.ok) d ∙ unread_ok true);
+          stored = λ z b. never (sym (unread_malformed true) ∙ sym (ap (λ y. y.checks.malformed) d) ∙ z);
           checks = λ sound lent. ap (λ y. first (table y.checks)) d ∙ unread_first true ∙ sym (first_long o h);
           query = λ sound lent a e f. some_not (sym (first_long o h) ∙ f);
           kept = k;
@@ -128,7 +132,7 @@ module _ {A : Type 0} (form : A → Form) (spare : ℕ) (ns : List ℕ) (s : Byt
     text_none h n d =
         record {
           is = by_test (leb 102 (length ws)) (λ a. d ∙ rw (le-ltb 512 (length s) h, a, n (true_T _ a))) (λ a. d ∙ rw (le-ltb 512 (length s) h, a));
-          stored = λ z b. never (sym z ∙ ap (λ y. y.ok) d ∙ unread_ok false);
+          stored = λ z b. never (sym (unread_malformed false) ∙ sym (ap (λ y. y.checks.malformed) d) ∙ z);
           checks = λ sound lent. ap (λ y. first (table y.checks)) d ∙ unread_first false ∙ sym (ap (λ p. first (checked p)) (n lent) ∙ first_none h);
           query = λ sound lent a e f. some_not (sym (ap (λ p. first (checked p)) (n lent) ∙ first_none h) ∙ f);
           kept = k;
@@ -157,36 +161,48 @@ module _ {A : Type 0} (form : A → Form) (spare : ℕ) (ns : List ℕ) (s : Byt
 
 -- ---- what was read at a place
 
-module _ (ns : List ℕ) (s : Bytes) (at : ℕ) (ws vs : List ℕ) {a : Asked} (h : Asks ns s at ws vs a) (line : length s ≤ 512) where
-  read_lent : a.ok ≡ true → T (leb 102 (length ws))
-  read_lent k = by_test (leb 102 (length ws)) (true_T _) (λ e. let i : a ≡ unread_asked false = h.is ∙ rw (unreadable s ws line e) in never (sym k ∙ ap (λ y. y.ok) i ∙ unread_ok false))
+module _ (ns : List ℕ) (s : Bytes) (at : ℕ) (ws vs : List ℕ) (line : length s ≤ 512) where
+  readable_lent : T (leb 102 (length ws)) → T (readable s ws)
+  readable_lent lent = readable_is s ws line lent
 
-  -- nothing, or a form with what is left as a place
-  asked_cases : {X : Type 0} → T (leb 102 (length ws)) → (any_form (drop at s) ≡ none → a.ok ≡ false → X)
-      → ((f : Form) → any_form (drop at s) ≡ some (record { what = f; left = drop a.next s }) → Here ns s ws vs a f → X) → X
-  unfolding asked_read form_stored
-  asked_cases {X} lent f g = go (any_form (drop at s)) refl
+  asked_none : Asks ns s at ws vs None → T (leb 102 (length ws)) → any_form (drop at s) ≡ none
+  unfolding seen
+  asked_none h lent = go (any_form (drop at s)) refl
     where
-      rd : T (readable s ws)
-      rd = readable_is s ws line lent
+      go : (o : Option (Read Form)) → any_form (drop at s) ≡ o → any_form (drop at s) ≡ none
+      go none e = e
+      go (some q) e = let d : None ≡ Some (asked_seen ns s q) = h.is ∙ rw (T_true (readable s ws) (readable_lent lent), e) in absurd (no_some d)
 
-      go : (o : Option (Read Form)) → any_form (drop at s) ≡ o → X
-      go none e = f e (h.none_read e)
-      go (some q) e =
-          let i : a ≡ asked_form ns q.what (length s - length q.left) = h.is ∙ rw (T_true (readable s ws) rd, e) in
-          let n : a.next ≡ length s - length q.left = ap (λ y. y.next) i ∙ form_ends ns q.what (length s - length q.left) in
-          let d : drop a.next s ≡ q.left = ap (λ i. drop i s) n ∙ left_drop any_form_leaves s at q e in
-          let p : record { what = q.what; left = drop a.next s } ≡ q = ap (λ l. record { what = q.what; left = l }) d in
-          let k : a.ok ≡ true = ap (λ y. y.ok) i ∙ form_ok ns q.what (length s - length q.left) in
-          g q.what (e ∙ ap some (sym p))
-          (record {
-            ok = k;
-            asked = i ∙ ap (asked_form ns q.what) (sym n);
-            lent = lent;
-            stored = λ b. h.stored k b ∙ rw e;
-            tells = λ sound. h.some_read sound rd _ (e ∙ ap some (sym p));
-            inside = omega arith;
-          })
+  module _ {a : Asked} (h : Asks ns s at ws vs (Some a)) where
+    read_lent : T (leb 102 (length ws))
+    read_lent = by_test (leb 102 (length ws)) (true_T _) (λ e. let d : Some a ≡ None = h.is ∙ rw (unreadable s ws line e) in absurd (no_some (sym d)))
+
+    rd : T (readable s ws)
+    rd = readable_lent read_lent
+
+    -- a form, with what is left as a place
+    asked_some : {X : Type 0} → ((f : Form) → any_form (drop at s) ≡ some (record { what = f; left = drop a.next s }) → Here ns s ws vs a f → X) → X
+    unfolding seen asked_seen left_at form_stored
+    asked_some {X} g = go (any_form (drop at s)) refl
+      where
+        told : (q : Read Form) → any_form (drop at s) ≡ some q → T (schema_sound ns) → Tells ns s vs q a
+        told q e sound = h.some_read sound rd q e
+
+        go : (o : Option (Read Form)) → any_form (drop at s) ≡ o → X
+        go none e = let d : Some a ≡ None = h.is ∙ rw (T_true (readable s ws) rd, e) in absurd (no_some (sym d))
+        go (some q) e =
+            let i : a ≡ asked_form ns q.what (length s - length q.left) = same_Some a (asked_form ns q.what (length s - length q.left)) (h.is ∙ rw (T_true (readable s ws) rd, e)) in
+            let n : a.next ≡ length s - length q.left = ap (λ y. y.next) i ∙ form_ends ns q.what (length s - length q.left) in
+            let d : drop a.next s ≡ q.left = ap (λ i. drop i s) n ∙ left_drop any_form_leaves s at q e in
+            let p : record { what = q.what; left = drop a.next s } ≡ q = ap (λ l. record { what = q.what; left = l }) d in
+            g q.what (e ∙ ap some (sym p))
+            (record {
+              asked = i ∙ ap (asked_form ns q.what) (sym n);
+              lent = read_lent;
+              stored = λ b. h.stored a refl b ∙ rw e;
+              tells = λ sound. told _ (e ∙ ap some (sym p)) sound;
+              inside = omega arith;
+            })
 
 -- ---- a query alone
 
@@ -194,73 +210,95 @@ module _ (ns : List ℕ) (s : Bytes) (ws : List ℕ) where
   pub query_long : {x : Asked} → 512 < length s → x ≡ unread_asked true → QueryTold ns s ws ws x
   query_long h d = text_long (λ q. q) 0 ns s (parse_query s) ws ws refl h d
 
-  module _ (line : length s ≤ 512) {vs : List ℕ} {a : Asked} (h : Asks ns s 0 ws vs a) where
-    pub query_unread : {x : Asked} → not a.ok ≡ true → x ≡ unread_asked false → QueryTold ns s ws vs x
+  module _ (line : length s ≤ 512) {vs : List ℕ} where
+    pub query_unread : {x : Asked} → Asks ns s 0 ws vs None → x ≡ unread_asked false → QueryTold ns s ws vs x
     unfolding whole bind
-    query_unread z d =
-        text_none (λ q. q) 0 ns s (parse_query s) ws vs h.kept line
-        (λ lent. asked_cases ns s 0 ws vs h line lent (λ e f. query_whole s ∙ rw e) (λ f e t. never (sym t.ok ∙ not-true a.ok z))) d
+    query_unread h d = text_none (λ q. q) 0 ns s (parse_query s) ws vs h.kept line (λ lent. query_whole s ∙ rw (asked_none ns s 0 ws vs line h lent)) d
 
-    module _ (ok : not a.ok ≡ false) where
-      read_here : {X : Type 0} → ((f : Form) → parse_query s ≡ cond (leb (length s) a.next) (some f) none → Here ns s ws vs a f → X) → X
-      read_here k =
-          let z = not-false a.ok ok in
-          asked_cases ns s 0 ws vs h line (read_lent ns s 0 ws vs h line z) (λ e f. never (sym z ∙ f)) (λ f e t. k f (query_whole s ∙ ap whole e ∙ whole_some s a.next f) t)
+    module _ {a : Asked} (h : Asks ns s 0 ws vs (Some a)) where
+      query_here : {X : Type 0} → ((f : Form) → parse_query s ≡ cond (leb (length s) a.next) (some f) none → Here ns s ws vs a f → X) → X
+      query_here k = asked_some ns s 0 ws vs line h (λ f e t. k f (query_whole s ∙ ap whole e ∙ whole_some s a.next f) t)
 
       pub query_longer : {x : Asked} → (a.next ≡ length s → ⊥) → x ≡ unread_asked false → QueryTold ns s ws vs x
       query_longer z d =
-          text_none (λ q. q) 0 ns s (parse_query s) ws vs h.kept line (λ lent. read_here (λ f e t. let n = t.inside in e ∙ rw (lt-leb (length s) a.next (omega arith)))) d
+          text_none (λ q. q) 0 ns s (parse_query s) ws vs h.kept line (λ lent. query_here (λ f e t. let n = t.inside in e ∙ rw (lt-leb (length s) a.next (omega arith)))) d
 
       pub query_read : a.next ≡ length s → QueryTold ns s ws vs a
       query_read z =
           text_some (λ q. q) 0 ns s (parse_query s) ws vs h.kept line (λ q e. query_shallow s q e)
-          (read_here (λ f e t. record { what = f; is = e ∙ rw (le-leb (length s) a.next (omega arith)); ended = omega arith; here = t }))
+          (query_here (λ f e t. record { what = f; is = e ∙ rw (le-leb (length s) a.next (omega arith)); ended = omega arith; here = t }))
 
--- a line that is not too long
-short_line : (s : Bytes) (c : ℕ) {o : Line} → o ≡ line_open s c → o.long ≡ false → length s ≤ 512
-unfolding line_open
-short_line s c p e = ltb-false 512 (length s) (sym (ap (λ l. l.long) p) ∙ e)
+-- ---- a line after its first word
+
+ok_err : {A E : Type 0} {a : A} {e : E} → Ok a ≡ Err e → ⊥
+ok_err h = cc
+
+module _ (v : G.Verb) (s : Bytes) {c : ℕ} (k : Spells c (verb_word v)) where
+  -- too long, or of another form
+  line_fails : {X : Type 0} {e : Unread} → Err e ≡ line_after s c → (512 < length s → e ≡ TooLong → X) → (length s ≤ 512 → parse_as v s ≡ none → e ≡ L.Malformed → X) → X
+  unfolding line_after
+  line_fails {X} {e} q f g = go (ltb 512 (length s)) (opening_end s 0 c) refl q
+    where
+      nothing : none ≡ cond (ltb 512 (length s)) none (parse_as v s)
+      nothing = line_unread v s k (λ b. none) (λ o. o) refl q
+
+      go : (b : Bool) (u : Found ℕ) → ltb 512 (length s) ≡ b → Err e ≡ cond b (Err TooLong) (ok_or u L.Malformed) → X
+      go true u t d = f (ltb-true 512 (length s) t) cc
+      go false None t d = g (ltb-false 512 (length s) t) (sym (nothing ∙ rw t)) cc
+      go false (Some p) t d = absurd (ok_err (sym d))
+
+  -- what follows
+  module _ {at : ℕ} (q : Ok at ≡ line_after s c) where
+    line_low : length s ≤ 512
+    unfolding line_after
+    line_low = go (ltb 512 (length s)) refl q
+      where
+        go : (b : Bool) → ltb 512 (length s) ≡ b → Ok at ≡ cond b (Err TooLong) (ok_or (opening_end s 0 c) L.Malformed) → length s ≤ 512
+        go true e d = absurd (ok_err d)
+        go false e d = ltb-false 512 (length s) e
+
+    line_body : parse_as v s ≡ closed (read_body v (length s) (drop at s))
+    line_body = let h = line_low in let d : cond (ltb 512 (length s)) none (parse_as v s) ≡ closed (read_body v (length s) (drop at s)) = F.line_read v s k (λ b. none) (λ o. o) q in sym (rw (le-ltb 512 (length s) h)) ∙ d
+
+too_long_is : (e : Unread) → {b : Bool} → b ≡ too_long e → e ≡ TooLong → b ≡ true
+unfolding too_long
+too_long_is e d z = d ∙ rw z
+
+malformed_is : (e : Unread) → {b : Bool} → b ≡ too_long e → e ≡ L.Malformed → b ≡ false
+unfolding too_long
+malformed_is e d z = d ∙ rw z
 
 -- ---- an `ask` line
 
-module _ (ns : List ℕ) (s : Bytes) (ws : List ℕ) {o : Line} (p : o ≡ line_open s 0x61736b) where
-  pub ask_unopened : {x : Asked} → o.at ≡ 0 → x ≡ unread_asked o.long → AskTold ns s ws ws x
-  ask_unopened {x} z d = go o.long refl d
-    where
-      go : (b : Bool) → o.long ≡ b → x ≡ unread_asked b → AskTold ns s ws ws x
-      go true e d = text_long (λ q. q) 1 ns s (parse_as G.ask s) ws ws refl (as_long G.ask s ask_word p e) d
-      go false e d = text_none (λ q. q) 1 ns s (parse_as G.ask s) ws ws refl (short_line s 0x61736b p e) (λ lent. as_unopened G.ask s ask_word p z e) d
+module _ (ns : List ℕ) (s : Bytes) (ws : List ℕ) where
+  pub ask_unopened : {e : Unread} {b : Bool} {x : Asked} → Err e ≡ line_after s 0x61736b → b ≡ too_long e → x ≡ unread_asked b → AskTold ns s ws ws x
+  ask_unopened {e} p l d =
+      line_fails G.ask s ask_word p (λ h z. text_long (λ q. q) 1 ns s (parse_as G.ask s) ws ws refl h (d ∙ ap unread_asked (too_long_is e l z)))
+      (λ h n z. text_none (λ q. q) 1 ns s (parse_as G.ask s) ws ws refl h (λ lent. n) (d ∙ ap unread_asked (malformed_is e l z)))
 
-  module _ (here : o.at ≡ 0 → ⊥) {b : ℕ} (u : b ≡ get_or s o.at 0) where
+  module _ {at : ℕ} (p : Ok at ≡ line_after s 0x61736b) where
     line : length s ≤ 512
-    line = ltb-false 512 (length s) (opened_short G.ask s ask_word p here)
+    line = line_low G.ask s ask_word p
 
-    body : parse_as G.ask s ≡ closed (read_body G.ask (length s) (drop o.at s))
-    body = as_opened G.ask s ask_word p here
-
-    pub ask_unspaced : {x : Asked} → (b ≡ 32 → ⊥) → x ≡ unread_asked false → AskTold ns s ws ws x
+    pub ask_unspaced : {x : Asked} → None ≡ read_end s (byte 32 (drop at s)) → x ≡ unread_asked false → AskTold ns s ws ws x
     unfolding read_body ◌>>◌ bind closed
-    ask_unspaced f d = text_none (λ q. q) 1 ns s (parse_as G.ask s) ws ws refl line (λ lent. body ∙ rw (space_not s o.at u f)) d
+    ask_unspaced u d = text_none (λ q. q) 1 ns s (parse_as G.ask s) ws ws refl line (λ lent. line_body G.ask s ask_word p ∙ rw (skip_none s at 32 u)) d
 
-    module _ (sp : b ≡ 32) {vs : List ℕ} {a : Asked} (h : Asks ns s (o.at + 1) ws vs a) where
-      form_here : parse_as G.ask s ≡ closed (any_form (drop (o.at + 1) s))
+    module _ {i : ℕ} (sp : Some i ≡ read_end s (byte 32 (drop at s))) where
+      form_here : parse_as G.ask s ≡ closed (any_form (drop i s))
       unfolding read_body ◌>>◌ ◌>>=◌ give bind
-      form_here = body ∙ ap closed (rw (space_is s o.at u sp, form_any (length s) (drop (o.at + 1) s) (omega (arith, length-drop (o.at + 1) s))) (same (any_form (drop (o.at + 1) s))))
+      form_here = line_body G.ask s ask_word p ∙ ap closed (rw (skip_is s at 32 sp, form_any (length s) (drop i s) (omega (arith, length-drop i s))) (same (any_form (drop i s))))
         where
           same : (m : Option (Read Form)) → bind m (λ q. some (record { what = q.what; left = q.left })) ≡ m
           same none = refl
           same (some q) = refl
 
-      pub ask_unread : {x : Asked} → not a.ok ≡ true → x ≡ unread_asked false → AskTold ns s ws vs x
-      ask_unread z d =
-          text_none (λ q. q) 1 ns s (parse_as G.ask s) ws vs h.kept line
-          (λ lent. asked_cases ns s (o.at + 1) ws vs h line lent (λ e f. form_here ∙ ap closed e ∙ closed_none) (λ f e t. never (sym t.ok ∙ not-true a.ok z))) d
+      pub ask_unread : {vs : List ℕ} {x : Asked} → Asks ns s i ws vs None → x ≡ unread_asked false → AskTold ns s ws vs x
+      ask_unread {vs} h d = text_none (λ q. q) 1 ns s (parse_as G.ask s) ws vs h.kept line (λ lent. form_here ∙ ap closed (asked_none ns s i ws vs line h lent) ∙ closed_none) d
 
-      module _ (ok : not a.ok ≡ false) {c : Bool} (v : c ≡ closes_at s a.next) where
+      module _ {vs : List ℕ} {a : Asked} (h : Asks ns s i ws vs (Some a)) {c : Bool} (v : c ≡ closes_at s a.next) where
         here_is : {X : Type 0} → ((f : Form) → parse_as G.ask s ≡ closed (some (record { what = f; left = drop a.next s })) → Here ns s ws vs a f → X) → X
-        here_is k =
-            let z = not-false a.ok ok in
-            asked_cases ns s (o.at + 1) ws vs h line (read_lent ns s (o.at + 1) ws vs h line z) (λ e f. never (sym z ∙ f)) (λ f e t. k f (form_here ∙ ap closed e) t)
+        here_is k = asked_some ns s i ws vs line h (λ f e t. k f (form_here ∙ ap closed e) t)
 
         pub ask_unclosed : {x : Asked} → not c ≡ true → x ≡ unread_asked false → AskTold ns s ws vs x
         ask_unclosed z d = text_none (λ q. q) 1 ns s (parse_as G.ask s) ws vs h.kept line (λ lent. here_is (λ f e t. e ∙ closed_not s a.next f v z)) d
@@ -277,7 +315,7 @@ unfolding unread_asked first table refuse
 unread_some true = refl
 unread_some false = refl
 
-module _ (ns : List ℕ) (s : Bytes) (ws : List ℕ) {o : Line} (p : o ≡ line_open s 0x6c696e65) where
+module _ (ns : List ℕ) (s : Bytes) (ws : List ℕ) where
   abbrev said : Option RouteLine
   said = parse_as G.line s
 
@@ -286,62 +324,56 @@ module _ (ns : List ℕ) (s : Bytes) (ws : List ℕ) {o : Line} (p : o ≡ line_
   nothing {x} long d f =
       record {
         told = f x.asked (ap (λ y. y.asked) d);
-        route = ap (λ y. y.route) d ∙ sym (ap (λ b. cond b (route_said said) (pos 0)) (ap (λ y. y.asked.ok) d ∙ unread_ok long));
+        route = ap (λ y. y.route) d ∙ sym (ap (λ b. cond b (pos 0) (route_said said)) (ap (λ y. y.asked.checks.malformed) d ∙ unread_malformed long));
       }
 
-  pub line_unopened : {x : Routed} → o.at ≡ 0 → x ≡ unread_routed o.long → RouteTold ns s ws ws x
-  line_unopened {x} z d = go o.long refl d
-    where
-      go : (b : Bool) → o.long ≡ b → x ≡ unread_routed b → RouteTold ns s ws ws x
-      go true e d = nothing true d (λ y f. text_long (λ l. l.query) 1 ns s said ws ws refl (as_long G.line s line_word p e) f)
-      go false e d = nothing false d (λ y f. text_none (λ l. l.query) 1 ns s said ws ws refl (short_line s 0x6c696e65 p e) (λ lent. as_unopened G.line s line_word p z e) f)
+  pub line_unopened : {e : Unread} {b : Bool} {x : Routed} → Err e ≡ line_after s 0x6c696e65 → b ≡ too_long e → x ≡ unread_routed b → RouteTold ns s ws ws x
+  line_unopened {e} p l d =
+      line_fails G.line s line_word p (λ h z. nothing true (d ∙ ap unread_routed (too_long_is e l z)) (λ y f. text_long (λ l. l.query) 1 ns s said ws ws refl h f))
+      (λ h n z. nothing false (d ∙ ap unread_routed (malformed_is e l z)) (λ y f. text_none (λ l. l.query) 1 ns s said ws ws refl h (λ lent. n) f))
 
-  module _ (here : o.at ≡ 0 → ⊥) {b : ℕ} (u : b ≡ get_or s o.at 0) where
+  module _ {at : ℕ} (p : Ok at ≡ line_after s 0x6c696e65) where
     short : length s ≤ 512
-    short = ltb-false 512 (length s) (opened_short G.line s line_word p here)
+    short = line_low G.line s line_word p
 
-    whole_body : said ≡ closed (read_body G.line (length s) (drop o.at s))
-    whole_body = as_opened G.line s line_word p here
+    whole_body : said ≡ closed (read_body G.line (length s) (drop at s))
+    whole_body = line_body G.line s line_word p
 
     unsaid : {vs : List ℕ} {x : Routed} → length vs ≡ length ws → (T (leb 102 (length ws)) → said ≡ none) → x ≡ unread_routed false → RouteTold ns s ws vs x
     unsaid {vs} k n d = nothing false d (λ y f. text_none (λ l. l.query) 1 ns s said ws vs k short n f)
 
-    pub line_unspaced : {x : Routed} → (b ≡ 32 → ⊥) → x ≡ unread_routed false → RouteTold ns s ws ws x
+    pub line_unspaced : {x : Routed} → None ≡ read_end s (byte 32 (drop at s)) → x ≡ unread_routed false → RouteTold ns s ws ws x
     unfolding read_body read_number ◌>>◌ ◌>>=◌ bind closed
-    line_unspaced f d = unsaid refl (λ lent. whole_body ∙ rw (space_not s o.at u f)) d
+    line_unspaced u d = unsaid refl (λ lent. whole_body ∙ rw (skip_none s at 32 u)) d
 
-    module _ (sp : b ≡ 32) {n : Number} (q : n ≡ number_at s (o.at + 1)) where
-      pub line_routeless : {x : Routed} → not n.ok ≡ true → x ≡ unread_routed false → RouteTold ns s ws ws x
+    module _ {i : ℕ} (sp : Some i ≡ read_end s (byte 32 (drop at s))) where
+      pub line_routeless : {x : Routed} → None ≡ number_found s i → x ≡ unread_routed false → RouteTold ns s ws ws x
       unfolding read_body read_number ◌>>◌ ◌>>=◌ bind closed
-      line_routeless f d = unsaid refl (λ lent. whole_body ∙ rw (space_is s o.at u sp, number_not s (o.at + 1) q f)) d
+      line_routeless q d = unsaid refl (λ lent. whole_body ∙ rw (skip_is s at 32 sp, number_none s i q)) d
 
-      module _ (numbered : not n.ok ≡ false) {c : ℕ} (v : c ≡ get_or s n.next 0) where
-        pub line_alone : {x : Routed} → (c ≡ 32 → ⊥) → x ≡ unread_routed false → RouteTold ns s ws ws x
+      module _ {n : NumberAt} (q : Some n ≡ number_found s i) where
+        pub line_alone : {x : Routed} → None ≡ read_end s (byte 32 (drop n.next s)) → x ≡ unread_routed false → RouteTold ns s ws ws x
         unfolding read_body read_number ◌>>◌ ◌>>=◌ bind closed
-        line_alone f d = unsaid refl (λ lent. number_is s (o.at + 1) q numbered (λ z e g. whole_body ∙ rw (space_is s o.at u sp, e, space_not s n.next v f))) d
+        line_alone u d = unsaid refl (λ lent. number_some s i q (λ z e g. whole_body ∙ rw (skip_is s at 32 sp, e, skip_none s n.next 32 u))) d
 
-        module _ (sq : c ≡ 32) {vs : List ℕ} {a : Asked} (h : Asks ns s (n.next + 1) ws vs a) where
+        module _ {j : ℕ} (sq : Some j ≡ read_end s (byte 32 (drop n.next s))) where
           with_route : ℤ → Option (Read Form) → Option (Read RouteLine)
           with_route z m = bind m (λ f. some (record { what = record { route = z; query = f.what }; left = f.left }))
 
-          route_here : {X : Type 0} → ((z : ℤ) → n.value ≡ clamp z → said ≡ closed (with_route z (any_form (drop (n.next + 1) s))) → X) → X
+          route_here : {X : Type 0} → ((z : ℤ) → n.value ≡ clamp z → said ≡ closed (with_route z (any_form (drop j s))) → X) → X
           unfolding read_body read_number ◌>>◌ ◌>>=◌ give bind with_route
           route_here k =
-              number_is s (o.at + 1) q numbered (λ z e g.
-              k z g (whole_body ∙ ap closed (rw (space_is s o.at u sp, e, space_is s n.next v sq, form_any (length s) (drop (n.next + 1) s) (omega (arith, length-drop (n.next + 1) s))))))
+              number_some s i q (λ z e g.
+              k z g (whole_body ∙ ap closed (rw (skip_is s at 32 sp, e, skip_is s n.next 32 sq, form_any (length s) (drop j s) (omega (arith, length-drop j s))))))
 
-          pub line_unread : {x : Routed} → not a.ok ≡ true → x ≡ unread_routed false → RouteTold ns s ws vs x
+          pub line_unquery : {vs : List ℕ} {x : Routed} → Asks ns s j ws vs None → x ≡ unread_routed false → RouteTold ns s ws vs x
           unfolding with_route bind
-          line_unread z d =
-              unsaid h.kept
-              (λ lent. asked_cases ns s (n.next + 1) ws vs h short lent (λ e f. route_here (λ y g i. i ∙ ap closed (rw e) ∙ closed_none)) (λ f e t. never (sym t.ok ∙ not-true a.ok z))) d
+          line_unquery {vs} h d = unsaid h.kept (λ lent. route_here (λ y g i. i ∙ ap closed (rw (asked_none ns s j ws vs short h lent)) ∙ closed_none)) d
 
-          module _ (ok : not a.ok ≡ false) {w : Bool} (y : w ≡ closes_at s a.next) where
+          module _ {vs : List ℕ} {a : Asked} (h : Asks ns s j ws vs (Some a)) {w : Bool} (y : w ≡ closes_at s a.next) where
             said_is : {X : Type 0} → ((f : Form) (z : ℤ) → n.value ≡ clamp z → said ≡ closed (some (record { what = record { route = z; query = f }; left = drop a.next s })) → Here ns s ws vs a f → X) → X
             unfolding with_route bind
-            said_is k =
-                let z = not-false a.ok ok in
-                asked_cases ns s (n.next + 1) ws vs h short (read_lent ns s (n.next + 1) ws vs h short z) (λ e f. never (sym z ∙ f)) (λ f e t. route_here (λ z g i. k f z g (i ∙ ap closed (rw e)) t))
+            said_is k = asked_some ns s j ws vs short h (λ f e t. route_here (λ z g i. k f z g (i ∙ ap closed (rw e)) t))
 
             pub line_unclosed : {x : Routed} → not w ≡ true → x ≡ unread_routed false → RouteTold ns s ws vs x
             line_unclosed z d = unsaid h.kept (λ lent. said_is (λ f i g e t. e ∙ closed_not s a.next _ y z)) d
@@ -352,17 +384,17 @@ module _ (ns : List ℕ) (s : Bytes) (ws : List ℕ) {o : Line} (p : o ≡ line_
                 rw d (record {
                   told = text_some (λ l. l.query) 1 ns s said ws vs h.kept short (λ l e. line_shallow s l e)
                       (said_is (λ f i g e t. record { what = record { route = i; query = f }; is = e ∙ closed_is s a.next _ y z; ended = close_last s a.next y z; here = t }));
-                  route = said_is (λ f i g e t. g ∙ sym (ap₂ (λ b o. cond b (route_said o) (pos 0)) t.ok (e ∙ closed_is s a.next _ y z)));
+                  route = said_is (λ f i g e t. g ∙ sym (ap₂ (λ b o. cond b (pos 0) (route_said o)) (ap (λ y. y.checks.malformed) t.asked ∙ form_well ns f a.next) (e ∙ closed_is s a.next _ y z)));
                 })
 
 -- the number of a route where no check fails
 pub route_clamped : (ns : List ℕ) (s : Bytes) (ws ws' : List ℕ) {r : Routed} → RouteTold ns s ws ws' r → T (leb 102 (length ws)) → (l : RouteLine) → parse_as G.line s ≡ some l → first (table r.asked.checks) ≡ none
     → r.route ≡ clamp l.route
 unfolding route_said text_asked said_asked map_option
-route_clamped ns s ws ws' {r} t lent l e f = t.route ∙ ap₂ (λ b o. cond b (route_said o) (pos 0)) ok e
+route_clamped ns s ws ws' {r} t lent l e f = t.route ∙ ap₂ (λ b o. cond b (pos 0) (route_said o)) well e
   where
-    ok : r.asked.ok ≡ true
-    ok =
+    well : r.asked.checks.malformed ≡ false
+    well =
         by_test (ltb 512 (length s))
         (λ a. let i : r.asked ≡ unread_asked true = t.told.is ∙ rw a in some_not (sym (unread_some true) ∙ sym (ap (λ y. first (table y.checks)) i) ∙ f))
-        (λ a. let i : r.asked ≡ asked_form ns l.query (length s - 1) = t.told.is ∙ rw (a, T_true (leb 102 (length ws)) lent, e) in ap (λ y. y.ok) i ∙ form_ok ns l.query (length s - 1))
+        (λ a. let i : r.asked ≡ asked_form ns l.query (length s - 1) = t.told.is ∙ rw (a, T_true (leb 102 (length ws)) lent, e) in ap (λ y. y.checks.malformed) i ∙ form_well ns l.query (length s - 1))

@@ -46,7 +46,7 @@ text_asked spare o ns s ws = cond (ltb max_line (length s)) (unread_asked true) 
 -- `spare` brackets of the text are not counted.
 pub record Told {A : Type 0} (form : A → Form) (spare : ℕ) (o : Option A) (ns : List ℕ) (s : Bytes) (ws ws' : List ℕ) (r : Asked) : Type 0 where
   pub is : r ≡ text_asked spare (map_option form o) ns s ws
-  pub stored : r.ok ≡ true → r.checks.bound ≡ false → ws' ≡ said_stored ns (map_option form o) ws
+  pub stored : r.checks.malformed ≡ false → r.checks.bound ≡ false → ws' ≡ said_stored ns (map_option form o) ws
   pub checks : T (schema_sound ns) → T (leb max_words (length ws)) → first (table r.checks) ≡ first (written spare s o (λ a. query_checks (schema_of ns) (form a)))
   pub query : T (schema_sound ns) → T (leb max_words (length ws)) → (a : A) → o ≡ some a → first (written spare s o (λ a. query_checks (schema_of ns) (form a))) ≡ none
       → Means (schema_of ns) (form a) ws' r.query
@@ -63,4 +63,4 @@ AskTold ns s ws ws' r = Told (λ q. q) 1 (parse_as G.ask s) ns s ws ws' r
 -- `(line R Q)`
 pub record RouteTold (ns : List ℕ) (s : Bytes) (ws ws' : List ℕ) (r : Routed) : Type 0 where
   pub told : Told (λ l. l.query) 1 (parse_as G.line s) ns s ws ws' r.asked
-  pub route : r.route ≡ cond r.asked.ok (route_said (parse_as G.line s)) (pos 0)
+  pub route : r.route ≡ cond r.asked.checks.malformed (pos 0) (route_said (parse_as G.line s))

@@ -12,7 +12,7 @@ use query::{Form, Query};
 use query_read::Reading;
 use refusal::Checks;
 use schema::Stream;
-use text::{Line, Number, Word};
+use text::{Line, NumberAt, Word};
 
 // A query that is passed: its columns as bits, whether it has a join and whether an aggregate.
 #[derive(Clone, Copy)]
@@ -43,10 +43,9 @@ impl Placing {
     pub const OVERLAP: u64 = 64;
 }
 
-// What is read of a query at a place: its checks, and the table of its forms.
+// What is read of a query: its checks, and the table of its forms.
 #[derive(Clone, Copy)]
 pub struct Asked {
-    pub ok: bool,
     pub next: usize,
     pub checks: Checks,
     pub query: Query,
@@ -296,9 +295,7 @@ fn placed(r: Reading, names: &[u64]) -> Placing
     ensures { result ≡ placing_of names.now r }
 {
     let mut p = begun();
-    let mut n = r.count as usize;
-    while 0 < n {
-        n -= 1;
+    for n in (0..r.count as usize).rev() {
         let f = r.forms[n];
         p = with_form(p, names, f, r.lefts[n], r.rights[n]);
     }
@@ -312,7 +309,6 @@ fn unread(long: bool) -> Asked
     let checks = Checks::unread(long);
     let query = Query::new();
     Asked {
-        ok: false,
         next: 0,
         checks: checks,
         query: query,
@@ -330,24 +326,20 @@ fn asked_of(r: Reading, p: Placing) -> Asked
         len: r.count,
     };
     Asked {
-        ok: true,
         next: r.next,
         checks: checks,
         query: query,
     }
 }
 
-// Returns the query at a place of a line, its checks by themselves and the place after it; `ok` is false where there is none, the line is too long or fewer than Reading::WORDS words are lent.
+// Returns the query at a place of a line, its checks by themselves and the place after it; None where there is none, the line is too long or fewer than Reading::WORDS words are lent.
 // Leaves the words of its conditions from the first word on, and all others as they were; where it is not read or out of bounds, as many words, of any value.
-pub fn read(s: &[u8], at: usize, names: &[u64], words: &mut [u32]) -> Asked
+pub fn read(s: &[u8], at: usize, names: &[u64], words: &mut [u32]) -> Option<Asked>
     ensures { Asks names.now s.now at words.old words.new result }
 {
-    let r = query_read::read(s, at, names, words);
-    if !r.ok {
-        return unread(false);
-    }
+    let r = query_read::read(s, at, names, words)?;
     let p = placed(r, names);
-    asked_of(r, p)
+    Some(asked_of(r, p))
 }
 
 // ---- whole texts
@@ -360,10 +352,9 @@ pub fn query_text(s: &[u8], names: &[u64], words: &mut [u32]) -> Asked
     if Line::BYTES < s.len() {
         return unread(true);
     }
-    let a = read(s, 0, names, words);
-    if !a.ok {
+    let Some(a) = read(s, 0, names, words) else {
         return unread(false);
-    }
+    };
     if a.next != s.len() {
         return unread(false);
     }
@@ -375,18 +366,16 @@ pub fn query_text(s: &[u8], names: &[u64], words: &mut [u32]) -> Asked
 pub fn ask_line(s: &[u8], names: &[u64], words: &mut [u32]) -> Asked
     ensures { AskTold names.now s.now words.old words.new result }
 {
-    let l = Line::open(s, Word::ASK);
-    let at = l.at;
-    if at == 0 {
-        return unread(l.long);
-    }
-    if text::byte(s, at) != b' ' {
+    let at = match Line::after(s, Word::ASK) {
+        Ok(at) => at,
+        Err(e) => return unread(e.long()),
+    };
+    let Some(p) = text::skip(s, at, b' ') else {
         return unread(false);
-    }
-    let a = read(s, at + 1, names, words);
-    if !a.ok {
+    };
+    let Some(a) = read(s, p, names, words) else {
         return unread(false);
-    }
+    };
     if !text::closes_at(s, a.next) {
         return unread(false);
     }
@@ -403,7 +392,7 @@ fn unread_route(long: bool) -> Routed
     }
 }
 
-fn routed_of(n: Number, a: Asked) -> Routed
+fn routed_of(n: NumberAt, a: Asked) -> Routed
     ensures { result ≡ routed_of n.value a }
 {
     Routed {
@@ -417,26 +406,22 @@ fn routed_of(n: Number, a: Asked) -> Routed
 pub fn route_line(s: &[u8], names: &[u64], words: &mut [u32]) -> Routed
     ensures { RouteTold names.now s.now words.old words.new result }
 {
-    let l = Line::open(s, Word::LINE);
-    let at = l.at;
-    if at == 0 {
-        return unread_route(l.long);
-    }
-    if text::byte(s, at) != b' ' {
+    let at = match Line::after(s, Word::LINE) {
+        Ok(at) => at,
+        Err(e) => return unread_route(e.long()),
+    };
+    let Some(p) = text::skip(s, at, b' ') else {
         return unread_route(false);
-    }
-    let n = text::number_at(s, at + 1);
-    if !n.ok {
+    };
+    let Some(n) = text::read_number(s, p) else {
         return unread_route(false);
-    }
-    let p = n.next;
-    if text::byte(s, p) != b' ' {
+    };
+    let Some(q) = text::skip(s, n.next, b' ') else {
         return unread_route(false);
-    }
-    let a = read(s, p + 1, names, words);
-    if !a.ok {
+    };
+    let Some(a) = read(s, q, names, words) else {
         return unread_route(false);
-    }
+    };
     if !text::closes_at(s, a.next) {
         return unread_route(false);
     }

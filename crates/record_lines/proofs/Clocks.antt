@@ -1,79 +1,83 @@
 -- The `clock` and `clear` lines: each return of the code that reads them.
-use mathlib.Core.Path.{◌≡◌, refl, sym, ◌∙◌}
+use mathlib.Core.Path.{◌≡◌, refl, sym, ap, ◌∙◌}
 use mathlib.Core.Bool.{Bool, true, false, not}
-use mathlib.Core.Option.{some}
-use Prim.Native.Nat.{ℕ, ◌+◌}
-use lib.ListN.{drop, get_or}
+use mathlib.Core.Option.{Option, none, some}
+use Prim.Native.Nat.{ℕ}
+use lib.IntN.{ℤ}
+use lib.ListN.{length, drop}
+use Rattle.std.specs.Prelude.{unwrap_or}
 use Rattle.refusal.specs.Checks.{no_fault, unread}
 use Rattle.refusal.specs.declared.Checks.{Checks}
 use Rattle.syntax.specs.Grammar as G
 use Rattle.syntax.specs.Grammar.{Bytes}
-use Rattle.syntax.specs.Readers.{◌>>◌, bind, give, read_number, read_body}
-use Rattle.text.specs.declared.Line.{Line}
-use Rattle.text.specs.declared.Number.{Number}
-use Rattle.text.specs.declared.Time.{Time}
-use Rattle.text.specs.Words.{number_at, time_of}
-use Rattle.text.specs.Keywords.{line_open, closes_at}
+use Rattle.syntax.specs.Readers.{◌>>◌, bind, give, byte, read_number, read_body}
+use Rattle.text.specs.declared.NumberAt.{NumberAt}
+use Rattle.text.specs.declared.Unread.{Unread}
+use Rattle.text.specs.Words.{Found, Some, None, seen, read_end, number_found, time_given}
+use Rattle.text.specs.Keywords.{Ok, Err, line_after, too_long, closes_at}
 use Rattle.text.specs.Readings.{closed}
-use Rattle.text.proofs.Places.{space_is, space_not, number_is, number_not, closed_is, closed_not, time_is, clock_word, clear_word}
-use Rattle.text.proofs.Lines.{line_unopened, line_opened}
-use Rattle.record_lines.specs.Lines.{unread_clock, clock_of, clock_line, clear_of, clear_line}
+use Rattle.text.proofs.Places.{closed_is, closed_not, clock_word, clear_word}
+use Rattle.text.proofs.Views.{skip_none, skip_is}
+use Rattle.text.proofs.Found.{number_none, number_some, time_is, line_unread, line_read}
+use Rattle.record_lines.specs.Lines.{unread_clock, clock_given, clock_of, clock_after, clock_line, clear_of, clear_line}
 use Rattle.record_lines.specs.declared.ClockLine.{ClockLine}
 
 -- ---- clock
 
-pub clock_blank : {long : Bool} {c : Checks} → c ≡ unread long → record { checks = c; time = record { beyond = false; value = 0 } } ≡ unread_clock long
+pub clock_blank : {long : Bool} {c : Checks} → c ≡ unread long → record { checks = c; time = None } ≡ unread_clock long
 unfolding unread_clock
 clock_blank e = rw e
 
-module _ (s : Bytes) {o : Line} (e : o ≡ line_open s 0x636c6f636b) where
-  pub clock_unopened : {r : ClockLine} → o.at ≡ 0 → r ≡ unread_clock o.long → r ≡ clock_line s
+-- the line after its first word, by each of its returns
+module _ (s : Bytes) (at : ℕ) where
+  pub clock_unspaced : None ≡ read_end s (byte 32 (drop at s)) → None ≡ clock_after s at
+  unfolding clock_after read_body read_number ◌>>◌ bind closed seen
+  clock_unspaced e = rw (skip_none s at 32 e)
+
+  module _ {p : ℕ} (q : Some p ≡ read_end s (byte 32 (drop at s))) where
+    pub clock_numberless : None ≡ number_found s p → None ≡ clock_after s at
+    unfolding clock_after read_body read_number ◌>>◌ bind closed seen
+    clock_numberless e = rw (skip_is s at 32 q, number_none s p e)
+
+    module _ {n : NumberAt} (m : Some n ≡ number_found s p) {c : Bool} (g : c ≡ closes_at s n.next) where
+      pub clock_unclosed : c ≡ false → None ≡ clock_after s at
+      unfolding clock_after read_body read_number ◌>>◌ bind seen
+      clock_unclosed k = number_some s p m (λ z y w. rw (skip_is s at 32 q, y, closed_not s n.next z g (ap not k)))
+
+      pub clock_whole : {ch : Checks} {t : Found ℕ} → c ≡ true → ch ≡ no_fault → t ≡ time_given n.value → Some (record { checks = ch; time = t }) ≡ clock_after s at
+      unfolding clock_after clock_given read_body read_number ◌>>◌ bind seen
+      clock_whole k i j = number_some s p m (λ z y w. rw (skip_is s at 32 q, y, closed_is s n.next z g (ap not k), i, time_is z j w))
+
+clock_or : (o : Option ℤ) → unwrap_or (seen clock_given o) (unread_clock false) ≡ clock_of o
+unfolding clock_of seen
+clock_or none = refl
+clock_or (some n) = refl
+
+module _ (s : Bytes) where
+  pub clock_unread : {e : Unread} {r : ClockLine} → Err e ≡ line_after s 0x636c6f636b → r ≡ unread_clock (too_long e) → r ≡ clock_line s
   unfolding clock_line clock_of
-  clock_unopened z d = d ∙ line_unopened G.clock s clock_word e unread_clock clock_of refl z
+  clock_unread e d = d ∙ line_unread G.clock s clock_word unread_clock clock_of refl e
 
-  module _ (n : o.at ≡ 0 → ⊥) {b : ℕ} (p : b ≡ get_or s o.at 0) where
-    clock_opened : clock_line s ≡ clock_of (closed (read_number (drop o.at s)))
-    unfolding clock_line clock_of read_body
-    clock_opened = line_opened G.clock s clock_word e unread_clock clock_of refl n
-
-    pub clock_unspaced : {r : ClockLine} → (b ≡ 32 → ⊥) → r ≡ unread_clock false → r ≡ clock_line s
-    unfolding clock_of read_number ◌>>◌ bind closed
-    clock_unspaced f d = d ∙ sym (clock_opened ∙ rw (space_not s o.at p f))
-
-    module _ (h : b ≡ 32) {m : Number} (q : m ≡ number_at s (o.at + 1)) where
-      pub clock_numberless : {r : ClockLine} → not m.ok ≡ true → r ≡ unread_clock false → r ≡ clock_line s
-      unfolding clock_of read_number ◌>>◌ bind closed
-      clock_numberless f d = d ∙ sym (clock_opened ∙ rw (space_is s o.at p h, number_not s (o.at + 1) q f))
-
-      module _ (f : not m.ok ≡ false) {c : Bool} (g : c ≡ closes_at s m.next) where
-        pub clock_unclosed : {r : ClockLine} → not c ≡ true → r ≡ unread_clock false → r ≡ clock_line s
-        unfolding clock_of read_number ◌>>◌ bind
-        clock_unclosed k d = number_is s (o.at + 1) q f (λ z y w. d ∙ sym (clock_opened ∙ rw (space_is s o.at p h, y, closed_not s m.next z g k)))
-
-        pub clock_read : {ch : Checks} {t : Time} → not c ≡ false → ch ≡ no_fault → t ≡ time_of m.value → record { checks = ch; time = t } ≡ clock_line s
-        unfolding clock_of read_number ◌>>◌ bind
-        clock_read k i j = number_is s (o.at + 1) q f (λ z y w. sym (clock_opened ∙ rw (space_is s o.at p h, y, closed_is s m.next z g k, i, time_is z j w)))
-
-pub ruleset clock_ends = (clock_unopened, clock_unspaced, clock_numberless, clock_unclosed, clock_read)
+  pub clock_begun : {p : ℕ} → Ok p ≡ line_after s 0x636c6f636b → unwrap_or (clock_after s p) (unread_clock false) ≡ clock_line s
+  unfolding clock_line clock_after
+  clock_begun {p} e = clock_or (closed (read_body G.clock (length s) (drop p s))) ∙ sym (line_read G.clock s clock_word unread_clock clock_of e)
 
 -- ---- clear
 
-module _ (s : Bytes) {o : Line} (e : o ≡ line_open s 0x636c656172) where
-  pub clear_unopened : {r : Checks} → o.at ≡ 0 → r ≡ unread o.long → r ≡ clear_line s
+module _ (s : Bytes) where
+  pub clear_unread : {e : Unread} {r : Checks} → Err e ≡ line_after s 0x636c656172 → r ≡ unread (too_long e) → r ≡ clear_line s
   unfolding clear_line clear_of
-  clear_unopened z d = d ∙ line_unopened G.clear s clear_word e unread clear_of refl z
+  clear_unread e d = d ∙ line_unread G.clear s clear_word unread clear_of refl e
 
-  module _ (n : o.at ≡ 0 → ⊥) {c : Bool} (g : c ≡ closes_at s o.at) where
-    clear_opened : clear_line s ≡ clear_of (closed (some (record { what = tt; left = drop o.at s })))
+  module _ {p : ℕ} (e : Ok p ≡ line_after s 0x636c656172) {c : Bool} (g : c ≡ closes_at s p) where
+    clear_begun : clear_line s ≡ clear_of (closed (some (record { what = tt; left = drop p s })))
     unfolding clear_line clear_of read_body give
-    clear_opened = line_opened G.clear s clear_word e unread clear_of refl n
+    clear_begun = line_read G.clear s clear_word unread clear_of e
 
-    pub clear_unclosed : {r : Checks} → not c ≡ true → r ≡ unread false → r ≡ clear_line s
+    pub clear_unclosed : {r : Checks} → c ≡ false → r ≡ unread false → r ≡ clear_line s
     unfolding clear_of
-    clear_unclosed k d = d ∙ sym (clear_opened ∙ rw (closed_not s o.at (tt {0}) g k))
+    clear_unclosed k d = d ∙ sym (clear_begun ∙ rw (closed_not s p (tt {0}) g (ap not k)))
 
-    pub clear_read : {r : Checks} → not c ≡ false → r ≡ no_fault → r ≡ clear_line s
+    pub clear_read : {r : Checks} → c ≡ true → r ≡ no_fault → r ≡ clear_line s
     unfolding clear_of
-    clear_read k d = d ∙ sym (clear_opened ∙ rw (closed_is s o.at (tt {0}) g k))
-
-pub ruleset clear_ends = (clear_unopened, clear_unclosed, clear_read)
+    clear_read k d = d ∙ sym (clear_begun ∙ rw (closed_is s p (tt {0}) g (ap not k)))

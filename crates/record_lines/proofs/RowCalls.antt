@@ -3,19 +3,18 @@ use mathlib.Core.Path.{◌≡◌, refl, sym, ap, ap₂, ◌∙◌}
 use mathlib.Core.List.{List, [], ◌∷◌, map}
 use mathlib.Core.Bool.{Bool, true, false, not, cond}
 use mathlib.Core.Option.{Option, none, some}
-use Prim.Native.Nat.{ℕ, ◌-◌, min}
+use Prim.Native.Nat.{ℕ, min}
 use native.Mathlib.Omega.{arith}
 use lib.IntN.{ℤ, pos}
 use lib.Dec.{T, leb, ltb, eqb}
-use lib.ListN.{length, take, drop}
+use lib.ListN.{length, take}
 use borrow.Author.Tests.{ltb-true, ltb-false, ne_eqb}
-use Rattle.refusal.specs.Numbers.{verdict_of}
+use Rattle.std.specs.Prelude.{Ok}
+use Rattle.refusal.specs.Results.{Said, result_of}
 use Rattle.refusal.specs.Checks.{refuse, first, table, no_fault}
 use Rattle.refusal.specs.declared.Refusal.{Refusal}
 use Rattle.refusal.specs.declared.Refusal.TheVariants.{Lent, Malformed, Bound, Undeclared, Misplaced}
-use Rattle.refusal.specs.declared.Verdict.{Verdict}
-use Rattle.refusal.specs.declared.Verdict.TheVariants.{Accepted, Refused}
-use Rattle.refusal.proofs.Verdicts.{not_accepted}
+use Rattle.refusal.proofs.Results.{not_ok, settled_same}
 use Rattle.lists.specs.Lists.{every}
 use Rattle.lists.proofs.Laws.{parts, true_T, T_true}
 use Rattle.syntax.specs.Grammar as G
@@ -35,9 +34,9 @@ use Rattle.items.proofs.NameCodes.{code_named, first_taken}
 use Rattle.schema.specs.Schemas.{streams_in, width_in, schema_of}
 use Rattle.schema.proofs.Soundness.{width_most}
 use Rattle.ledger.specs.Records.{Memory, record_of, memory_sound}
-use Rattle.ledger.specs.Calls.{row_shown, row_table, with_row, memory_after, Enters}
+use Rattle.ledger.specs.Calls.{row_shown, row_table, with_row, Enters}
 use Rattle.ledger.proofs.Told.{row_told}
-use Rattle.record_lines.specs.Lines.{unread_row, row_of, row_line}
+use Rattle.record_lines.specs.Lines.{unread_row, row_given, row_of, row_line}
 use Rattle.record_lines.specs.declared.RowLine.{RowLine}
 use Rattle.record_lines.specs.Calls.{row_line_table, with_row_line, RowLineCall}
 use Rattle.record_lines.proofs.Calls.{front_long, front_none, front_some}
@@ -50,24 +49,24 @@ stream_of m w = stream_number (schema_of m.names) (name_of w.name)
 abbrev listed : RowLine → List ℤ
 listed w = take (min w.count max_columns) w.values
 
-abbrev shows : Memory → RowLine → Verdict
-shows m w = verdict_of (first (table (row_shown m (stream_of m w) (length (listed w)) w.checks)))
+abbrev shows : Memory → RowLine → Said
+shows m w = result_of (first (table (row_shown m (stream_of m w) (length (listed w)) w.checks)))
 
-abbrev says : Memory → Bytes → Option G.RowLine → Verdict
-says m bs o = verdict_of (first (refuse Lent (not (memory_sound m)) ∷ written 0 bs o (row_line_checks (record_of m))))
+abbrev says : Memory → Bytes → Option G.RowLine → Said
+says m bs o = result_of (first (refuse Lent (not (memory_sound m)) ∷ written 0 bs o (row_line_checks (record_of m))))
 
 record RowSame (m : Memory) (bs : Bytes) (o : Option G.RowLine) (w : RowLine) : Type 0 where
   said : shows m w ≡ says m bs o
-  left : shows m w ≡ Accepted → with_row m (stream_of m w) (listed w) ≡ with_row_line m o
+  left : shows m w ≡ Ok tt → with_row m (stream_of m w) (listed w) ≡ with_row_line m o
 
 -- ---- lines that are refused whatever they list
 
-abbrev refusing : Memory → Refusal → Verdict
-refusing m r = verdict_of (cond (not (memory_sound m)) (some Lent) (some r))
+abbrev refusing : Memory → Refusal → Said
+refusing m r = result_of (cond (not (memory_sound m)) (some Lent) (some r))
 
-never : {X : Type 0} (a : Bool) (r : Refusal) → verdict_of (cond (not a) (some Lent) (some r)) ≡ Accepted → X
-never true r e = absurd (not_accepted r e)
-never false r e = absurd (not_accepted Lent e)
+never : {X : Type 0} (a : Bool) (r : Refusal) → result_of (cond (not a) (some Lent) (some r)) ≡ Ok tt → X
+never true r e = absurd (not_ok r e)
+never false r e = absurd (not_ok Lent e)
 
 refused_both : (m : Memory) (bs : Bytes) (o : Option G.RowLine) (w : RowLine) (r : Refusal) → shows m w ≡ refusing m r → says m bs o ≡ refusing m r → RowSame m bs o w
 refused_both m bs o w r e d = record { said = e ∙ sym d; left = λ a. never (memory_sound m) r (sym e ∙ a) }
@@ -77,7 +76,7 @@ unfolding row_shown table first refuse unread_row
 unread_shown m true = refl
 unread_shown m false = refl
 
-two : (a b : Bool) → verdict_of (cond (not a) (some Lent) (cond b (some Undeclared) (some Misplaced))) ≡ verdict_of (cond (not a) (some Lent) (some (cond b Undeclared Misplaced)))
+two : (a b : Bool) → result_of (cond (not a) (some Lent) (cond b (some Undeclared) (some Misplaced))) ≡ result_of (cond (not a) (some Lent) (some (cond b Undeclared Misplaced)))
 two a true = refl
 two a false = refl
 
@@ -92,13 +91,13 @@ module _ (m : Memory) (bs : Bytes) (short_line : ltb max_line (length bs) ≡ fa
   abbrev x : RowLine
   x = row_of (some w)
 
-  said_read : says m bs (some w) ≡ verdict_of (first (refuse Lent (not (memory_sound m)) ∷ row_line_checks (record_of m) w))
+  said_read : says m bs (some w) ≡ result_of (first (refuse Lent (not (memory_sound m)) ∷ row_line_checks (record_of m) w))
   unfolding flat
-  said_read = ap verdict_of (front_some (memory_sound m) bs (row_line_checks (record_of m)) short_line (plain_shallow G.row bs w tt p) w)
+  said_read = ap result_of (front_some (memory_sound m) bs (row_line_checks (record_of m)) short_line (plain_shallow G.row bs w tt p) w)
 
   -- a name too long, or a value beyond its range
   over_bound : row_bounded w ≡ false → RowSame m bs (some w) x
-  unfolding row_of row_shown row_line_checks table first refuse
+  unfolding row_of row_given row_shown row_line_checks table first refuse
   over_bound e = refused_both m bs (some w) x Bound (rw e) (said_read ∙ rw e)
 
   module _ (e : row_bounded w ≡ true) where
@@ -114,20 +113,20 @@ module _ (m : Memory) (bs : Bytes) (short_line : ltb max_line (length bs) ≡ fa
         ap name_of (code_named w.name (n, within.0)) ∙ name_back w.name n within.0
 
     same_stream : stream_of m x ≡ stream_number (schema_of m.names) w.name
-    unfolding row_of
+    unfolding row_of row_given
     same_stream = ap (stream_number (schema_of m.names)) named
 
-    said_bounded : says m bs (some w) ≡ verdict_of (first (row_table m (stream_number (schema_of m.names) w.name) w.values))
+    said_bounded : says m bs (some w) ≡ result_of (first (row_table m (stream_number (schema_of m.names) w.name) w.values))
     unfolding row_line_checks row_table record_of first refuse
     said_bounded = said_read ∙ rw e
 
     -- the same by what the code shows of a row call
-    said_plain : says m bs (some w) ≡ verdict_of (first (table (row_shown m (stream_number (schema_of m.names) w.name) (length w.values) no_fault)))
+    said_plain : says m bs (some w) ≡ result_of (first (table (row_shown m (stream_number (schema_of m.names) w.name) (length w.values) no_fault)))
     said_plain = said_bounded ∙ sym (row_told m (stream_number (schema_of m.names) w.name) w.values within.1)
 
     -- more values than any stream has columns
     over_columns : ltb max_columns (length w.values) ≡ true → RowSame m bs (some w) x
-    unfolding row_of row_shown table first refuse
+    unfolding row_of row_given row_shown table first refuse
     over_columns h =
         let f : eqb (length w.values) (width_in m.names (stream_number (schema_of m.names) w.name)) ≡ false =
         ne_eqb (length w.values) _ (λ z. let k = ltb-true max_columns (length w.values) h in let l = width_most m.names (stream_number (schema_of m.names) w.name) in omega arith) in
@@ -138,27 +137,27 @@ module _ (m : Memory) (bs : Bytes) (short_line : ltb max_line (length bs) ≡ fa
     -- as many as may be
     module _ (h : ltb max_columns (length w.values) ≡ false) where
       all_listed : listed x ≡ w.values
-      unfolding row_of
+      unfolding row_of row_given
       all_listed =
           let k = ltb-false max_columns (length w.values) h in
           let n : min (min (length w.values) 7) max_columns ≡ length w.values = omega arith in
           rw (n, values_kept w.values within.1) (first_taken max_columns (pos 0) w.values k)
 
       plain_checks : x.checks ≡ no_fault
-      unfolding row_of
+      unfolding row_of row_given
       plain_checks = rw (e, h)
 
       read_whole : RowSame m bs (some w) x
       read_whole = record {
-        said = ap₂ (λ s vs. verdict_of (first (table (row_shown m s (length vs) x.checks)))) same_stream all_listed ∙ ap (λ c. verdict_of (first (table (row_shown m (stream_number (schema_of m.names) w.name) (length w.values) c)))) plain_checks ∙ sym said_plain;
+        said = ap₂ (λ s vs. result_of (first (table (row_shown m s (length vs) x.checks)))) same_stream all_listed ∙ ap (λ c. result_of (first (table (row_shown m (stream_number (schema_of m.names) w.name) (length w.values) c)))) plain_checks ∙ sym said_plain;
         left = λ a. unfold with_row_line in ap₂ (with_row m) same_stream all_listed;
       }
 
 -- ---- any line
 
 row_same : (m : Memory) (bs : Bytes) (b : Bool) → ltb max_line (length bs) ≡ b → (o : Option G.RowLine) → parse_as G.row bs ≡ o → RowSame m bs o (cond b (unread_row true) (row_of o))
-row_same m bs true h o p = refused_both m bs o (unread_row true) Bound (unread_shown m true) (ap verdict_of (front_long (memory_sound m) bs (row_line_checks (record_of m)) h o))
-row_same m bs false h none p = unfold row_of in refused_both m bs none (unread_row false) Malformed (unread_shown m false) (ap verdict_of (front_none (memory_sound m) bs (row_line_checks (record_of m)) h))
+row_same m bs true h o p = refused_both m bs o (unread_row true) Bound (unread_shown m true) (ap result_of (front_long (memory_sound m) bs (row_line_checks (record_of m)) h o))
+row_same m bs false h none p = unfold row_of in refused_both m bs none (unread_row false) Malformed (unread_shown m false) (ap result_of (front_none (memory_sound m) bs (row_line_checks (record_of m)) h))
 row_same m bs false h (some w) p = go (row_bounded w) refl (ltb max_columns (length w.values)) refl
   where
     go : (a : Bool) → row_bounded w ≡ a → (c : Bool) → ltb max_columns (length w.values) ≡ c → RowSame m bs (some w) (row_of (some w))
@@ -166,18 +165,11 @@ row_same m bs false h (some w) p = go (row_bounded w) refl (ltb max_columns (len
     go true e true f = over_columns m bs h w p e f
     go true e false f = read_whole m bs h w p e f
 
--- where a call is refused, it is no matter what it would have left
-after_same : (v : Verdict) (m a b : Memory) → (v ≡ Accepted → a ≡ b) → memory_after v m a ≡ memory_after v m b
-unfolding memory_after
-after_same Accepted m a b e = e refl
-after_same (Refused f) m a b e = refl
-
-pub row_lined : {m m' : Memory} (bs : Bytes) {w : RowLine} {n s : ℕ} {v : Verdict} → w ≡ row_line bs → s ≡ stream_number (schema_of m.names) (name_of w.name) → n ≡ min w.count max_columns
-    → Enters m s (take (n - 0) (drop 0 w.values)) w.checks m' v → RowLineCall m bs m' v
+pub row_lined : {m m' : Memory} (bs : Bytes) {w : RowLine} {n s : ℕ} {v : Said} → w ≡ row_line bs → s ≡ stream_number (schema_of m.names) (name_of w.name) → n ≡ min w.count max_columns
+    → Enters m s (take n w.values) w.checks m' v → RowLineCall m bs m' v
 unfolding row_line row_line_table
 row_lined {m} {m'} bs {w} {n} {s} {v} e f g d =
-    let k : n - 0 ≡ min w.count max_columns = omega arith in
-    let h : Enters m (stream_of m w) (listed w) w.checks m' v = rw (← f, ← k) d in
+    let h : Enters m (stream_of m w) (listed w) w.checks m' v = rw (← f, ← g) d in
     let r = row_same m bs (ltb max_line (length bs)) refl (parse_as G.row bs) refl in
     let q : RowSame m bs (parse_as G.row bs) w = rw e r in
-    record { said = h.said ∙ q.said; left = h.left ∙ after_same v m _ _ (λ a. q.left (sym h.said ∙ a)) }
+    record { said = h.said ∙ q.said; left = h.left ∙ settled_same v m _ _ (λ a. q.left (sym h.said ∙ a)) }

@@ -1,10 +1,10 @@
 -- What the `clock`, `row` and `clear` lines say and leave: the whole table of each, and every place that is lent.
-use Rattle.std.specs.Prelude.{◌≡◌, List, [], ◌∷◌, not, ℤ, replicate}
+use Rattle.std.specs.Prelude.{◌≡◌, List, [], ◌∷◌, not, ℤ, replicate, Result}
 use Rattle.std.proofs.Math.Option.{Option, none, some}
-use Rattle.refusal.specs.Numbers.{verdict_of}
+use Rattle.refusal.specs.Results.{Said, result_of, giving, settled}
 use Rattle.refusal.specs.Checks.{Check, refuse, first}
 use Rattle.refusal.specs.declared.Refusal.TheVariants.{Lent}
-use Rattle.refusal.specs.declared.Verdict.{Verdict}
+use Rattle.refusal.specs.declared.Refusal.{Refusal}
 use Rattle.syntax.specs.Grammar as G
 use Rattle.syntax.specs.Grammar.{Bytes}
 use Rattle.syntax.specs.Limits.{max_streams, natural}
@@ -14,9 +14,8 @@ use Rattle.calls.specs.Replies.{written}
 use Rattle.calls.specs.Tables.{clock_checks, row_line_checks}
 use Rattle.schema.specs.Schemas.{schema_of}
 use Rattle.ledger.specs.declared.Ledger.{Ledger}
-use Rattle.ledger.specs.declared.Entered.{Entered}
 use Rattle.ledger.specs.Records.{Memory, record_of, ledger_sound, memory_sound}
-use Rattle.ledger.specs.Calls.{entered, with_row, memory_after}
+use Rattle.ledger.specs.Calls.{with_row}
 
 -- ---- clock
 
@@ -27,16 +26,16 @@ unfoldable pub with_clock : Ledger → Option ℤ → Ledger
 with_clock l none = l
 with_clock l (some n) = record { clock = natural n; rows = l.rows }
 
-unfoldable pub clock_line_call : Ledger → Bytes → Entered
-clock_line_call l bs = entered (verdict_of (first (clock_line_table l bs))) (with_clock l (parse_as G.clock bs)) l
+unfoldable pub clock_line_call : Ledger → Bytes → Result Ledger Refusal
+clock_line_call l bs = giving (result_of (first (clock_line_table l bs))) (with_clock l (parse_as G.clock bs))
 
 -- ---- clear
 
 unfoldable pub clear_line_table : Ledger → Bytes → List Check
 clear_line_table l bs = refuse Lent (not (ledger_sound l)) ∷ written 0 bs (parse_as G.clear bs) (λ u. [])
 
-unfoldable pub clear_line_call : Ledger → Bytes → Entered
-clear_line_call l bs = entered (verdict_of (first (clear_line_table l bs))) (record { clock = l.clock; rows = replicate max_streams 0 }) l
+unfoldable pub clear_line_call : Ledger → Bytes → Result Ledger Refusal
+clear_line_call l bs = giving (result_of (first (clear_line_table l bs))) (record { clock = l.clock; rows = replicate max_streams 0 })
 
 -- ---- row
 
@@ -47,6 +46,6 @@ unfoldable pub with_row_line : Memory → Option G.RowLine → Memory
 with_row_line m none = m
 with_row_line m (some w) = with_row m (stream_number (schema_of m.names) w.name) w.values
 
-pub record RowLineCall (m : Memory) (bs : Bytes) (m' : Memory) (v : Verdict) : Type 0 where
-  pub said : v ≡ verdict_of (first (row_line_table m bs))
-  pub left : m' ≡ memory_after v m (with_row_line m (parse_as G.row bs))
+pub record RowLineCall (m : Memory) (bs : Bytes) (m' : Memory) (v : Said) : Type 0 where
+  pub said : v ≡ result_of (first (row_line_table m bs))
+  pub left : m' ≡ settled v m (with_row_line m (parse_as G.row bs))

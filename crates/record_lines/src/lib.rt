@@ -1,21 +1,21 @@
 // The `clock`, `row` and `clear` lines. Each is read and does what the call of its name does.
 #![tactic(auto)]
 
-ghost use Rattle.std.specs.Prelude.{◌≡◌, min};
-ghost use Rattle.syntax.specs.Limits.{max_columns};
-ghost use Rattle.record_lines.specs.Lines.{clock_line, unread_clock, clear_line, row_line, unread_row, row_read};
+ghost use Rattle.std.specs.Prelude.{◌≡◌};
+ghost use Rattle.refusal.specs.Results.{said_by, held_after};
+ghost use Rattle.record_lines.specs.Lines.{clock_line, clock_after, unread_clock, clear_line, row_line, row_after, unread_row, row_read};
 ghost use Rattle.record_lines.specs.Calls.{clock_line_call, clear_line_call, RowLineCall};
 
-use items::{Names, Values};
-use ledger::{Entered, Ledger};
-use refusal::Checks;
-use text::{Line, Name, Time, Word};
+use items::{Names, ValuesAt};
+use ledger::Ledger;
+use refusal::{Checks, Refusal};
+use text::{Line, NameAt, Word};
 
-// What is read of a clock line.
+// What is read of a clock line; its time is None where its number is none.
 #[derive(Clone, Copy)]
 pub struct ClockLine {
     pub checks: Checks,
-    pub time: Time,
+    pub time: Option<u32>,
 }
 
 // What is read of a row line: the stream's name, how many values it lists, and the first of them.
@@ -31,40 +31,33 @@ pub struct RowLine {
 fn unread_clock(long: bool) -> ClockLine
     ensures { result ≡ unread_clock long }
 {
-    let checks = Checks::unread(long);
     ClockLine {
-        checks: checks,
-        time: Time {
-            beyond: false,
-            value: 0,
-        },
+        checks: Checks::unread(long),
+        time: None,
     }
+}
+
+// The clock line that a text is after its first word.
+fn clock_after(s: &[u8], at: usize) -> Option<ClockLine>
+    ensures { result ≡ clock_after s.now at }
+{
+    let n = text::read_number(s, text::skip(s, at, b' ')?)?;
+    if !text::closes_at(s, n.next) {
+        return None;
+    }
+    Some(ClockLine {
+        checks: Checks::new(),
+        time: n.time(),
+    })
 }
 
 // Returns the clock line that a text is, with what is wrong with it. This decides refusal 1 of clock lines.
 pub fn read_clock(s: &[u8]) -> ClockLine
     ensures { result ≡ clock_line s.now }
 {
-    let o = Line::open(s, Word::CLOCK);
-    let at = o.at;
-    if at == 0 {
-        return unread_clock(o.long);
-    }
-    if text::byte(s, at) != b' ' {
-        return unread_clock(false);
-    }
-    let n = text::number_at(s, at + 1);
-    if !n.ok {
-        return unread_clock(false);
-    }
-    if !text::closes_at(s, n.next) {
-        return unread_clock(false);
-    }
-    let checks = Checks::new();
-    let time = n.time();
-    ClockLine {
-        checks: checks,
-        time: time,
+    match Line::after(s, Word::CLOCK) {
+        Ok(at) => clock_after(s, at).unwrap_or(unread_clock(false)),
+        Err(e) => unread_clock(e.long()),
     }
 }
 
@@ -72,11 +65,10 @@ pub fn read_clock(s: &[u8]) -> ClockLine
 pub fn read_clear(s: &[u8]) -> Checks
     ensures { result ≡ clear_line s.now }
 {
-    let o = Line::open(s, Word::CLEAR);
-    let at = o.at;
-    if at == 0 {
-        return Checks::unread(o.long);
-    }
+    let at = match Line::after(s, Word::CLEAR) {
+        Ok(at) => at,
+        Err(e) => return Checks::unread(e.long()),
+    };
     if !text::closes_at(s, at) {
         return Checks::unread(false);
     }
@@ -87,9 +79,8 @@ pub fn read_clear(s: &[u8]) -> Checks
 fn unread_row(long: bool) -> RowLine
     ensures { result ≡ unread_row long }
 {
-    let checks = Checks::unread(long);
     RowLine {
-        checks: checks,
+        checks: Checks::unread(long),
         name: 0,
         count: 0,
         values: [0; Names::MOST],
@@ -97,92 +88,72 @@ fn unread_row(long: bool) -> RowLine
 }
 
 // The row line of a name and values.
-fn row_of(n: Name, vs: Values) -> RowLine
+fn row_of(n: NameAt, vs: ValuesAt) -> RowLine
     ensures { result ≡ row_read n vs }
 {
     let over = text::either(n.long, vs.wide);
     let count = vs.count;
-    let checks = Checks::shown(over, false, false, Names::OVER <= count, false);
     let values = vs.values;
     RowLine {
-        checks: checks,
+        checks: Checks::shown(over, false, false, Names::OVER <= count, false),
         name: n.code,
         count: count,
         values: values,
     }
 }
 
+// The row line that a text is after its first word.
+fn row_after(s: &[u8], at: usize) -> Option<RowLine>
+    ensures { result ≡ row_after s.now at }
+{
+    let n = text::read_name(s, text::skip(s, at, b' ')?)?;
+    let vs = items::read_values(s, n.next)?;
+    if vs.count == 0 {
+        return None;
+    }
+    if !text::closes_at(s, vs.next) {
+        return None;
+    }
+    Some(row_of(n, vs))
+}
+
 // Returns the row line that a text is, with what is wrong with it. This decides refusal 1 of row lines.
 pub fn read_row(s: &[u8]) -> RowLine
     ensures { result ≡ row_line s.now }
 {
-    let o = Line::open(s, Word::ROW);
-    let at = o.at;
-    if at == 0 {
-        return unread_row(o.long);
+    match Line::after(s, Word::ROW) {
+        Ok(at) => row_after(s, at).unwrap_or(unread_row(false)),
+        Err(e) => unread_row(e.long()),
     }
-    if text::byte(s, at) != b' ' {
-        return unread_row(false);
-    }
-    let n = text::name_at(s, at + 1);
-    if !n.ok {
-        return unread_row(false);
-    }
-    let vs = items::values_at(s, n.next);
-    if !vs.ok {
-        return unread_row(false);
-    }
-    if vs.count == 0 {
-        return unread_row(false);
-    }
-    if !text::closes_at(s, vs.next) {
-        return unread_row(false);
-    }
-    row_of(n, vs)
 }
 
-// The clock line. Returns the verdict, and the ledger with its time; refused, the ledger as it was.
-pub fn clock_line(l: Ledger, line: &[u8]) -> Entered
+// The clock line. Returns the ledger with its time, or the refusal.
+pub fn clock_line(l: Ledger, line: &[u8]) -> Result<Ledger, Refusal>
     ensures { result ≡ clock_line_call l line.now }
 {
     let c = read_clock(line);
-    let checks = c.checks;
-    let time = c.time;
-    l.clock_with(time, checks)
+    l.clock_with(c.time, c.checks)
 }
 
-// The clear line. Returns the verdict, and the ledger with no rows; refused, the ledger as it was.
-pub fn clear_line(l: Ledger, line: &[u8]) -> Entered
+// The clear line. Returns the ledger with no rows, or the refusal.
+pub fn clear_line(l: Ledger, line: &[u8]) -> Result<Ledger, Refusal>
     ensures { result ≡ clear_line_call l line.now }
 {
     l.clear_with(read_clear(line))
 }
 
-// How many values of a row line are kept.
-fn kept(count: u32) -> usize
-    ensures { result ≡ min count max_columns }
-{
-    let n = count as usize;
-    if n < Names::MOST {
-        return n;
-    }
-    Names::MOST
-}
-
-// The row line. Returns the verdict, and the ledger with one row more. Leaves the row in its place, and all else as it was; refused, the ledger and all places as they were.
+// The row line. Returns the ledger with one row more, or the refusal. Leaves the row in its place, and all else as it was; refused, all places as they were.
 pub fn row_line(
     l: Ledger,
     names: &[u64],
     line: &[u8],
     times: &mut [u32],
     values: &mut [i32],
-) -> Entered
-    ensures { RowLineCall (record { ledger = l; names = names.now; times = times.old; values = values.old }) line.now (record { ledger = result.ledger; names = names.now; times = times.new; values = values.new }) result.verdict }
+) -> Result<Ledger, Refusal>
+    ensures { RowLineCall (record { ledger = l; names = names.now; times = times.old; values = values.old }) line.now (record { ledger = held_after result l; names = names.now; times = times.new; values = values.new }) (said_by result) }
 {
     let w = read_row(line);
-    let checks = w.checks;
     let s = schema::stream_number(names, w.name);
-    let n = kept(w.count);
-    let vs = w.values;
-    l.row_with(names, s, &vs[0..n], times, values, checks)
+    let n = (w.count as usize).min(Names::MOST);
+    l.row_with(names, s, &w.values[..n], times, values, w.checks)
 }

@@ -2,18 +2,17 @@
 use mathlib.Core.Path.{◌≡◌, refl}
 use mathlib.Core.List.{List, [], ◌∷◌}
 use mathlib.Core.Bool.{Bool, true, false}
-use Rattle.refusal.specs.Numbers.{verdict_of}
+use Rattle.std.specs.Prelude.{Ok, Err}
+use Rattle.refusal.specs.Results.{Said, result_of}
 use Rattle.refusal.specs.Checks.{Check, first}
 use Rattle.refusal.specs.declared.Refusal.{Refusal}
-use Rattle.refusal.specs.declared.Verdict.{Verdict}
-use Rattle.refusal.specs.declared.Verdict.TheVariants.{Accepted, Refused}
 
-pub data Gives : Verdict → List Check → Type 0 where
-  ends : Gives Accepted []
-  fails : {r : Refusal} {b : Bool} {cs : List Check} → b ≡ true → Gives (Refused r) (record { refusal = r; fails = b } ∷ cs)
-  holds : {v : Verdict} {r : Refusal} {b : Bool} {cs : List Check} → b ≡ false → Gives v cs → Gives v (record { refusal = r; fails = b } ∷ cs)
+pub data Gives : Said → List Check → Type 0 where
+  ends : Gives (Ok tt) []
+  fails : {r : Refusal} {b : Bool} {cs : List Check} → b ≡ true → Gives (Err r) (record { refusal = r; fails = b } ∷ cs)
+  holds : {v : Said} {r : Refusal} {b : Bool} {cs : List Check} → b ≡ false → Gives v cs → Gives v (record { refusal = r; fails = b } ∷ cs)
 
-pub gives_first : {v : Verdict} {cs : List Check} → Gives v cs → v ≡ verdict_of (first cs)
+pub gives_first : {v : Said} {cs : List Check} → Gives v cs → v ≡ result_of (first cs)
 unfolding first
 gives_first ends = refl
 gives_first (fails e) = rw e

@@ -3,6 +3,7 @@
 
 ghost use Rattle.std.specs.Prelude.{◌≡◌};
 ghost use Rattle.refusal.specs.Numbers.{number_of, verdict_of};
+ghost use Rattle.refusal.specs.Results.{result_of};
 ghost use Rattle.refusal.specs.Checks.{first, no_fault, unread, shown, table};
 
 #[derive(Clone, Copy)]
@@ -120,48 +121,58 @@ impl Checks {
     }
 
     // Returns the refusal of the first check that fails, in the order of the fields, or that it is accepted.
+    pub fn result(self) -> Result<(), Refusal>
+        ensures { result ≡ result_of (first (table self)) }
+    {
+        if self.lent {
+            return Err(Refusal::Lent);
+        }
+        if self.long {
+            return Err(Refusal::Bound);
+        }
+        if self.malformed {
+            return Err(Refusal::Malformed);
+        }
+        if self.bound {
+            return Err(Refusal::Bound);
+        }
+        if self.undeclared {
+            return Err(Refusal::Undeclared);
+        }
+        if self.repeated {
+            return Err(Refusal::Repeated);
+        }
+        if self.misplaced {
+            return Err(Refusal::Misplaced);
+        }
+        if self.window {
+            return Err(Refusal::WindowSize);
+        }
+        if self.back {
+            return Err(Refusal::ClockBack);
+        }
+        if self.full {
+            return Err(Refusal::StreamFull);
+        }
+        if self.unrouted {
+            return Err(Refusal::NoRoute);
+        }
+        if self.many {
+            return Err(Refusal::ManyRoutes);
+        }
+        if self.room {
+            return Err(Refusal::NoRoom);
+        }
+        Ok(())
+    }
+
+    // Returns the same as a verdict.
     pub fn verdict(self) -> Verdict
         ensures { result ≡ verdict_of (first (table self)) }
     {
-        if self.lent {
-            return Verdict::Refused(Refusal::Lent);
+        match self.result() {
+            Ok(()) => Verdict::Accepted,
+            Err(f) => Verdict::Refused(f),
         }
-        if self.long {
-            return Verdict::Refused(Refusal::Bound);
-        }
-        if self.malformed {
-            return Verdict::Refused(Refusal::Malformed);
-        }
-        if self.bound {
-            return Verdict::Refused(Refusal::Bound);
-        }
-        if self.undeclared {
-            return Verdict::Refused(Refusal::Undeclared);
-        }
-        if self.repeated {
-            return Verdict::Refused(Refusal::Repeated);
-        }
-        if self.misplaced {
-            return Verdict::Refused(Refusal::Misplaced);
-        }
-        if self.window {
-            return Verdict::Refused(Refusal::WindowSize);
-        }
-        if self.back {
-            return Verdict::Refused(Refusal::ClockBack);
-        }
-        if self.full {
-            return Verdict::Refused(Refusal::StreamFull);
-        }
-        if self.unrouted {
-            return Verdict::Refused(Refusal::NoRoute);
-        }
-        if self.many {
-            return Verdict::Refused(Refusal::ManyRoutes);
-        }
-        if self.room {
-            return Verdict::Refused(Refusal::NoRoom);
-        }
-        Verdict::Accepted
     }
 }

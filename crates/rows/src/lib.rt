@@ -34,7 +34,7 @@ fn filled(n: u32, from: u32) -> u32
     if k < 32 {
         return (1 << k) - 1;
     }
-    4294967295
+    u32::MAX
 }
 
 // Returns the first bit from i on that is set in a word, or 32.
@@ -75,10 +75,10 @@ impl Rows {
     {
         if Rows::MOST <= n {
             return Rows {
-                a: 4294967295,
-                b: 4294967295,
-                c: 4294967295,
-                d: 4294967295,
+                a: u32::MAX,
+                b: u32::MAX,
+                c: u32::MAX,
+                d: u32::MAX,
             };
         }
         Rows {

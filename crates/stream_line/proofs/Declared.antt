@@ -8,12 +8,11 @@ use native.Mathlib.Omega.{arith}
 use lib.Dec.{T, leb, ltb, ltb→lt}
 use lib.ListN.{length}
 use borrow.Author.Tests.{le-ltb}
-use Rattle.refusal.specs.Numbers.{verdict_of}
+use Rattle.std.specs.Prelude.{Ok, Err}
+use Rattle.refusal.specs.Results.{Said, result_of, settled}
 use Rattle.refusal.specs.Checks.{first, passes, table}
-use Rattle.refusal.specs.declared.Verdict.{Verdict}
-use Rattle.refusal.specs.declared.Verdict.TheVariants.{Accepted, Refused}
 use Rattle.refusal.specs.declared.Refusal.{Refusal}
-use Rattle.refusal.proofs.Verdicts.{verdict_none}
+use Rattle.refusal.proofs.Results.{result_none, settled_old, settled_new}
 use Rattle.refusal.proofs.Passing.{pass_first, pass_rest, pass_test, passes_first}
 use Rattle.lists.specs.Lists.{distinct, same_list}
 use Rattle.lists.proofs.Laws.{parts, T_true, not_or_l}
@@ -36,7 +35,7 @@ use Rattle.schema.proofs.Lookups.{length_schema}
 use Rattle.schema.proofs.Adding.{schema_more, sound_more}
 use Rattle.schema.proofs.Later.{Later, schema_later}
 use Rattle.stream_line.specs.declared.StreamLine.{StreamLine}
-use Rattle.stream_line.specs.Declaring.{stream_made, read_line, line_of, stream_line, declare_table, with_stream, names_after, Declares}
+use Rattle.stream_line.specs.Declaring.{stream_made, read_line, line_of, stream_line, declare_table, with_stream, Declares}
 use Rattle.stream_line.proofs.Flags.{flags_of, flags, name_code, columns_codes, flags_said}
 
 -- ---- a table that passes
@@ -77,7 +76,7 @@ module _ (d : List Stream) (s : Stream) (t : T (passes (stream_checks d s))) whe
 
 module _ (ns : List ℕ) (bs : Bytes) {l : StreamLine} {n i : ℕ} {x a b : Bool} (e : l ≡ stream_line bs) (c : n ≡ streams_in ns) (f : x ≡ schema_sound ns)
     (g : a ≡ (l.checks.bound || leb 4 n)) (h : i ≡ stream_number (schema_of ns) (name_of l.stream.name)) (k : b ≡ (ltb i n || l.checks.repeated))
-    {v : Verdict} (m : v ≡ verdict_of (first (table (flags_of (not x) a b l)))) where
+    {v : Said} (m : v ≡ result_of (first (table (flags_of (not x) a b l)))) where
   flags_are : flags_of (not x) a b l ≡ flags ns (stream_line bs)
   flags_are =
       ap (λ y. flags_of (not y) a b l) f
@@ -85,42 +84,37 @@ module _ (ns : List ℕ) (bs : Bytes) {l : StreamLine} {n i : ℕ} {x a b : Bool
       ∙ ap (λ y. flags_of (not (schema_sound ns)) (l.checks.bound || leb 4 (streams_in ns)) y l) (k ∙ ap₂ (λ p q. ltb p q || l.checks.repeated) h c)
       ∙ ap (flags ns) e
 
-  verdict_is : v ≡ verdict_of (first (declare_table ns bs))
-  verdict_is = m ∙ ap (λ y. verdict_of (first (table y))) flags_are ∙ ap verdict_of (flags_said ns bs)
+  said_is : v ≡ result_of (first (declare_table ns bs))
+  said_is = m ∙ ap (λ y. result_of (first (table y))) flags_are ∙ ap result_of (flags_said ns bs)
 
-  pub declare_refused : {r : Refusal} → v ≡ Refused r → Declares ns bs ns (Refused r)
-  unfolding names_after
-  declare_refused d = record { said = sym d ∙ verdict_is; left = refl }
+  pub declare_refused : {r : Refusal} → v ≡ Err r → Declares ns bs ns (Err r)
+  unfolding settled
+  declare_refused d = record { said = sym d ∙ said_is; left = refl }
 
-  pub declare_accepted : {ms : List ℕ} → v ≡ Accepted → ms ≡ with_codes ns l.stream.name l.stream.columns → Declares ns bs ms Accepted
-  unfolding names_after with_stream stream_line line_of read_line
+  pub declare_accepted : {ms : List ℕ} → v ≡ Ok tt → ms ≡ with_codes ns l.stream.name l.stream.columns → Declares ns bs ms (Ok tt)
+  unfolding settled with_stream stream_line line_of read_line
   declare_accepted d p =
-      let t : first (declare_table ns bs) ≡ none = verdict_none (first (declare_table ns bs)) (sym verdict_is ∙ d) in
+      let t : first (declare_table ns bs) ≡ none = result_none (first (declare_table ns bs)) (sym said_is ∙ d) in
       stream_pass ns bs t
       (λ s z u.
       let w : l.stream ≡ stream_made s = ap (λ y. y.stream) e ∙ rw (short_pass ns bs t, z) in
       let y = bound_pass (schema_of ns) s u in
       let r = (parsed_printed G.stream bs s z).0 in
       record {
-        said = sym d ∙ verdict_is;
+        said = sym d ∙ said_is;
         left = p ∙ ap (λ q. with_codes ns q.name q.columns) w ∙ ap₂ (with_codes ns) (name_code s r y) (columns_codes s r y) ∙ sym (ap (with_stream ns) z);
       })
 
 -- ---- what an accepted line leaves
 
-module _ (ns : List ℕ) (bs : Bytes) (ns' : List ℕ) (v : Verdict) (d : Declares ns bs ns' v) where
+module _ (ns : List ℕ) (bs : Bytes) (ns' : List ℕ) (v : Said) (d : Declares ns bs ns' v) where
   -- a refusal leaves the names as they were
-  pub refused_kept : (v ≡ Accepted → ⊥) → ns' ≡ ns
-  unfolding names_after
-  refused_kept f = go v d.left f
-    where
-      go : (u : Verdict) → ns' ≡ names_after u ns (parse_as G.stream bs) → (u ≡ Accepted → ⊥) → ns' ≡ ns
-      go Accepted e f = absurd (f refl)
-      go (Refused r) e f = e
+  pub refused_kept : (v ≡ Ok tt → ⊥) → ns' ≡ ns
+  refused_kept f = d.left ∙ settled_old v ns _ f
 
-  module _ (a : v ≡ Accepted) where
+  module _ (a : v ≡ Ok tt) where
     clear : first (declare_table ns bs) ≡ none
-    clear = verdict_none (first (declare_table ns bs)) (sym d.said ∙ a)
+    clear = result_none (first (declare_table ns bs)) (sym d.said ∙ a)
 
     -- an accepted line is a stream's
     pub accepted_read : {X : Type 0} → ((s : Stream) → parse_as G.stream bs ≡ some s → X) → X
@@ -141,8 +135,8 @@ module _ (ns : List ℕ) (bs : Bytes) (ns' : List ℕ) (v : Verdict) (d : Declar
       fine = stream_fine (schema_of ns) s (parsed_printed G.stream bs s e).0 checks_pass
 
       left_is : ns' ≡ with_codes ns (code_of s.name) (first_of 6 0 (map code_of s.columns))
-      unfolding names_after with_stream
-      left_is = d.left ∙ ap (λ w. names_after w ns (parse_as G.stream bs)) a ∙ ap (with_stream ns) e
+      unfolding with_stream
+      left_is = d.left ∙ settled_new v ns _ a ∙ ap (with_stream ns) e
 
       -- they then stand for the streams that there were and the line's
       pub accepted_schema : schema_of ns' ≡ schema_of ns ++ (s ∷ [])

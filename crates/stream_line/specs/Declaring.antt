@@ -1,22 +1,21 @@
 -- The stream call: what is read of its line, its table, and what it leaves.
-use Rattle.std.specs.Prelude.{◌≡◌, List, ◌∷◌, map, Bool, true, false, ◌&&◌, ◌||◌, not, cond, ℕ, suc, min, leb, ltb, length, replicate, take}
+use Rattle.std.specs.Prelude.{◌≡◌, List, ◌∷◌, map, Bool, true, false, ◌&&◌, ◌||◌, not, cond, ℕ, suc, min, leb, ltb, length, drop, replicate, take}
 use Rattle.std.proofs.Math.Option.{Option, none, some}
-use Rattle.refusal.specs.Numbers.{verdict_of}
+use Rattle.refusal.specs.Results.{Said, result_of, settled}
 use Rattle.refusal.specs.Checks.{Check, refuse, first, unread, shown}
-use Rattle.refusal.specs.declared.Verdict.{Verdict}
-use Rattle.refusal.specs.declared.Verdict.TheVariants.{Accepted, Refused}
 use Rattle.refusal.specs.declared.Refusal.TheVariants.{Lent}
 use Rattle.lists.specs.Lists.{every}
 use Rattle.syntax.specs.Grammar as G
 use Rattle.syntax.specs.Grammar.{Bytes, Stream}
 use Rattle.syntax.specs.Limits.{max_line, max_columns}
-use Rattle.syntax.specs.Readers.{parse_as}
+use Rattle.syntax.specs.Readers.{read_body, parse_as}
 use Rattle.calls.specs.Bounds.{stream_bounded}
 use Rattle.calls.specs.Replies.{written}
 use Rattle.calls.specs.Tables.{stream_checks}
-use Rattle.text.specs.Words.{code_of}
-use Rattle.text.specs.declared.Name.{Name}
-use Rattle.items.specs.declared.Names.{Names}
+use Rattle.text.specs.Words.{Found, seen, code_of}
+use Rattle.text.specs.Readings.{closed}
+use Rattle.text.specs.declared.NameAt.{NameAt}
+use Rattle.items.specs.declared.NamesAt.{NamesAt}
 use Rattle.items.specs.Items.{code_short, first_of, once}
 use Rattle.schema.specs.declared.Stream as M
 use Rattle.schema.specs.Schemas.{code_free, schema_of, schema_sound, with_codes}
@@ -42,7 +41,7 @@ read_line s =
     }
 
 -- the same by a name and columns as the code reads them
-unfoldable pub line_read : Name → Names → StreamLine
+unfoldable pub line_read : NameAt → NamesAt → StreamLine
 line_read n cs =
     record {
       checks = shown ((n.long || cs.long) || leb (suc max_columns) cs.count) false (not (once cs.codes cs.count)) (not (code_free n.code && every code_free (take cs.count cs.codes))) false;
@@ -52,6 +51,10 @@ line_read n cs =
 unfoldable pub line_of : Option Stream → StreamLine
 line_of none = unread_line false
 line_of (some s) = read_line s
+
+-- what a text says from a place on, after its first word
+unfoldable pub line_after : Bytes → ℕ → Found StreamLine
+line_after s at = seen read_line (closed (read_body G.stream (length s) (drop at s)))
 
 unfoldable pub stream_line : Bytes → StreamLine
 stream_line bs = cond (ltb max_line (length bs)) (unread_line true) (line_of (parse_as G.stream bs))
@@ -66,11 +69,7 @@ unfoldable pub with_stream : List ℕ → Option Stream → List ℕ
 with_stream ns none = ns
 with_stream ns (some s) = with_codes ns (code_of s.name) (first_of max_columns 0 (map code_of s.columns))
 
-unfoldable pub names_after : Verdict → List ℕ → Option Stream → List ℕ
-names_after Accepted ns o = with_stream ns o
-names_after (Refused f) ns o = ns
-
 -- the first check that fails, and the names as they were; or the names with those of the line's stream in the next places, and all others as they were
-pub record Declares (ns : List ℕ) (bs : Bytes) (ns' : List ℕ) (v : Verdict) : Type 0 where
-  pub said : v ≡ verdict_of (first (declare_table ns bs))
-  pub left : ns' ≡ names_after v ns (parse_as G.stream bs)
+pub record Declares (ns : List ℕ) (bs : Bytes) (ns' : List ℕ) (v : Said) : Type 0 where
+  pub said : v ≡ result_of (first (declare_table ns bs))
+  pub left : ns' ≡ settled v ns (with_stream ns (parse_as G.stream bs))

@@ -4,12 +4,12 @@
 ghost use Rattle.std.specs.Prelude.{◌≡◌, ◌&&◌, take};
 ghost use Rattle.lists.specs.Lists.{every};
 ghost use Rattle.schema.specs.Schemas.{code_free};
-ghost use Rattle.stream_line.specs.Declaring.{unread_line, line_read, stream_line, Declares};
+ghost use Rattle.stream_line.specs.Declaring.{unread_line, line_read, line_after, stream_line, Declares};
 
-use items::Names;
-use refusal::{Checks, Verdict};
+use items::{Names, NamesAt};
+use refusal::{Checks, Refusal};
 use schema::Stream;
-use text::{Line, Name, Word};
+use text::{Line, NameAt, Word};
 
 // What is read of a stream line: what is wrong with it by itself, and its stream.
 #[derive(Clone, Copy)]
@@ -22,9 +22,8 @@ pub struct StreamLine {
 fn unread(long: bool) -> StreamLine
     ensures { result ≡ unread_line long }
 {
-    let checks = Checks::unread(long);
     StreamLine {
-        checks: checks,
+        checks: Checks::unread(long),
         stream: Stream {
             name: 0,
             count: 0,
@@ -37,21 +36,16 @@ fn unread(long: bool) -> StreamLine
 fn all_free(codes: [u64; Names::MOST], n: usize) -> bool
     ensures { result ≡ every code_free (take n codes) }
 {
-    let mut i: usize = 0;
-    while i < Names::MOST {
-        if n <= i {
-            return true;
-        }
-        if !schema::free_name(codes[i]) {
+    for code in &codes[..n.min(Names::MOST)] {
+        if !schema::free_name(*code) {
             return false;
         }
-        i += 1;
     }
     true
 }
 
 // Whether the stream and its columns have names that they may have.
-fn free(n: Name, cs: Names) -> bool
+fn free(n: NameAt, cs: NamesAt) -> bool
     ensures { result ≡ (code_free n.code && every code_free (take cs.count cs.codes)) }
 {
     if !schema::free_name(n.code) {
@@ -62,14 +56,14 @@ fn free(n: Name, cs: Names) -> bool
 }
 
 // The line of a name and columns.
-fn line_of(n: Name, cs: Names) -> StreamLine
+fn line_of(n: NameAt, cs: NamesAt) -> StreamLine
     ensures { result ≡ line_read n cs }
 {
     let codes = cs.codes;
     let count = cs.count;
     let long = text::either(n.long, cs.long);
     let over = text::either(long, Names::OVER <= count);
-    let once = items::once(codes, count as usize);
+    let once = items::distinct(&codes[..(count as usize).min(Names::MOST)]);
     let checks = Checks::shown(over, false, !once, !free(n, cs), false);
     StreamLine {
         checks: checks,
@@ -81,37 +75,33 @@ fn line_of(n: Name, cs: Names) -> StreamLine
     }
 }
 
+// The stream line that a text is after its first word.
+fn line_after(s: &[u8], at: usize) -> Option<StreamLine>
+    ensures { result ≡ line_after s.now at }
+{
+    let n = text::read_name(s, text::skip(s, at, b' ')?)?;
+    let cs = items::read_names(s, n.next)?;
+    if cs.count == 0 {
+        return None;
+    }
+    if !text::closes_at(s, cs.next) {
+        return None;
+    }
+    Some(line_of(n, cs))
+}
+
 // Returns the stream line that a text is, with what is wrong with it. This decides refusal 1 of stream lines.
 pub fn read(s: &[u8]) -> StreamLine
     ensures { result ≡ stream_line s.now }
 {
-    let o = Line::open(s, Word::STREAM);
-    let at = o.at;
-    if at == 0 {
-        return unread(o.long);
+    match Line::after(s, Word::STREAM) {
+        Ok(at) => line_after(s, at).unwrap_or(unread(false)),
+        Err(e) => unread(e.long()),
     }
-    if text::byte(s, at) != b' ' {
-        return unread(false);
-    }
-    let n = text::name_at(s, at + 1);
-    if !n.ok {
-        return unread(false);
-    }
-    let cs = items::names_at(s, n.next);
-    if !cs.ok {
-        return unread(false);
-    }
-    if cs.count == 0 {
-        return unread(false);
-    }
-    if !text::closes_at(s, cs.next) {
-        return unread(false);
-    }
-    line_of(n, cs)
 }
 
-// Returns the verdict. Leaves the names with the stream of the line in the next places and all others as they were; refused, all as they were.
-pub fn declare(names: &mut [u64], line: &[u8]) -> Verdict
+// Returns that it is accepted, or the refusal. Leaves the names with the stream of the line in the next places and all others as they were; refused, all as they were.
+pub fn declare(names: &mut [u64], line: &[u8]) -> Result<(), Refusal>
     ensures { Declares names.old line.now names.new result }
 {
     let l = read(line);
@@ -124,12 +114,7 @@ pub fn declare(names: &mut [u64], line: &[u8]) -> Verdict
         schema::stream_number(names, stream.name) < n,
         checks.repeated,
     );
-    let v = checks.verdict();
-    match v {
-        Verdict::Refused(f) => Verdict::Refused(f),
-        Verdict::Accepted => {
-            schema::put_stream(names, stream);
-            Verdict::Accepted
-        }
-    }
+    checks.result()?;
+    schema::put_stream(names, stream);
+    Ok(())
 }

@@ -4,6 +4,8 @@ use mathlib.Core.Bool.{Bool, true, false}
 use Prim.Native.Nat.{ℕ, suc, ◌-◌, ◌≤◌, ◌<◌, min}
 use native.Mathlib.Omega.{arith}
 use lib.IntN.{ℤ, pos, negsuc, neg_ℤ, nat_abs}
+use mir.Syntax.{w64}
+use mir.Val.{SFits}
 use lib.Dec.{T, leb, leb→le}
 use borrow.Author.Tests.{le-leb, lt-leb, leb-true, leb-false}
 use Rattle.syntax.specs.Limits.{top, is_value, is_time, not_above}
@@ -21,6 +23,11 @@ leb_both a b c d f g = go (leb a b) refl
 clamp_negative : (n : ℕ) → clamp (negsuc n) ≡ negsuc (min n (far - 1))
 unfolding clamp far
 clamp_negative n = let e : min (suc n) far ≡ suc (min n (far - 1)) = omega arith in ap (λ m. neg_ℤ (pos m)) e
+
+pub clamp_fits : (z : ℤ) → SFits w64 (clamp z)
+unfolding clamp far
+clamp_fits (pos n) = record { sfits = omega arith }
+clamp_fits (negsuc n) = rw (clamp_negative n) (record { sfits = omega arith })
 
 -- what is above the range stays above it
 top_kept : (n : ℕ) → leb (min n far) top ≡ leb n top

@@ -7,8 +7,8 @@ use native.Mathlib.Omega.{arith}
 use native.Mathlib.Numerals.{add-one}
 use native.Mathlib.Nat.{pow-suc, pow-le-pow_right}
 use lib.Dec.{T, eqb, leb, leb→le, le→leb, ltb→lt, lt→ltb, lit<}
-use lib.ListN.{length, take, drop, get_or, length-drop}
-use lib.Seq.{take-suc, get_or-drop}
+use lib.ListN.{length, take, get_or}
+use lib.Seq.{take-suc}
 use borrow.Author.Tests.{ne_eqb, eqb-true, eqb-false}
 use Rattle.lists.specs.Lists.{All, all_nil, all_cons, same_list}
 use Rattle.lists.proofs.Laws.{and_r, and_both, parts, or_cases, T_true, T_false, all_head, all_tail, all_weaken, every_all, all_every, append_nil, same_list→eq, same_list_refl}
@@ -52,11 +52,9 @@ unfolding code_from
 code_snoc a [] b = refl
 code_snoc a (x ∷ w) b = code_snoc (a * 256 + x) w b
 
-pub code_more : (s : Bytes) (at i : ℕ) {c : ℕ} → at + i < length s → c ≡ code_of (take i (drop at s)) → c * 256 + get_or s (at + i) 0 ≡ code_of (take (i + 1) (drop at s))
+pub code_more : (w : Bytes) (i : ℕ) {c : ℕ} → i < length w → c ≡ code_of (take i w) → c * 256 + get_or w i 0 ≡ code_of (take (i + 1) w)
 unfolding code_of
-code_more s at i {c} h e =
-    let l : i < length (drop at s) = rw length-drop (omega arith) in
-    sym (rw (add-one i, take-suc (drop at s) i 0 l, code_snoc 0 (take i (drop at s)) (get_or (drop at s) i 0), get_or-drop at s i 0) (ap (λ n. n * 256 + get_or s (at + i) 0) (sym e)))
+code_more w i {c} h e = sym (rw (add-one i, take-suc w i 0 h, code_snoc 0 (take i w) (get_or w i 0)) (ap (λ n. n * 256 + get_or w i 0) (sym e)))
 
 pub code_wider : (i : ℕ) {c b : ℕ} → c < 256 ^ i → b < 256 → c * 256 + b < 256 ^ (i + 1)
 code_wider i h k = rw (add-one i, pow-suc 256 i) (omega arith)
@@ -95,7 +93,7 @@ word_first : (b : ℕ) (w : Bytes) → T (keyword? (b ∷ w)) → 0 < b
 unfolding keyword?
 word_first b w t = let n = eqb-false b 0 (T_false (eqb b 0) (search parts)) in omega arith
 
-word_length : (w : Bytes) → T (keyword? w) → length w ≤ 8
+pub word_length : (w : Bytes) → T (keyword? w) → length w ≤ 8
 unfolding keyword? short
 word_length [] t = absurd t
 word_length (b ∷ w) t = leb→le (length (b ∷ w)) 8 (search parts)

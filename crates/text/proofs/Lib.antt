@@ -1,4 +1,5 @@
 pub mod Runs
+pub mod Views
 pub mod Codes
 pub mod Names
 pub mod Clamps
@@ -6,7 +7,8 @@ pub mod Ranges
 pub mod Numbers
 pub mod Keywords
 pub mod Values
-pub mod Views
 pub mod Places
 pub mod Lines
 pub mod Fuel
+pub mod Flags
+pub mod Found

@@ -15,7 +15,7 @@ use Rattle.text.specs.Readings.{any_form, whole, closed}
 use Rattle.text.proofs.Places.{Spells, open_not, open_is}
 
 -- a line after its first word
-after_open : {A : Type 0} (o : Option (Read A))
+pub after_open : {A : Type 0} (o : Option (Read A))
     → bind (bind o (λ b. bind (byte 41 b.left) (λ u. some (record { what = b.what; left = u.left })))) (λ a. whole (some a)) ≡ closed o
 unfolding bind whole closed
 after_open none = refl

@@ -2,7 +2,7 @@
 use mathlib.Core.Path.{◌≡◌, refl, sym, ap, ◌∙◌}
 use mathlib.Core.List.{[], ◌∷◌}
 use mathlib.Core.Bool.{Bool, true, false, ◌||◌, not, cond}
-use Prim.Native.Nat.{ℕ, ◌+◌, ◌-◌, ◌≤◌, ◌<◌}
+use Prim.Native.Nat.{ℕ, ◌-◌, ◌≤◌, ◌<◌}
 use native.Mathlib.Omega.{arith}
 use lib.Dec.{leb, leb→le}
 use lib.ListN.{length, take, drop, get_or}
@@ -14,9 +14,8 @@ use Rattle.syntax.specs.Readers.{ensure, run, past, read_name}
 use Rattle.syntax.proofs.Steps.{run_every}
 use Rattle.syntax.specs.Limits.{short}
 use Rattle.text.specs.declared.Class.TheVariants.{Alnum}
-use Rattle.text.specs.declared.Name.{Name}
-use Rattle.text.specs.Words.{class_of, run_end, code_of, name_read, name_at}
-use Rattle.text.proofs.Runs.{first_byte, inside, run_from, run_length, run_word, run_place, run_room}
+use Rattle.text.specs.Words.{Some, None, seen, left_at, class_of, run_end, code_of, name_seen, name_found}
+use Rattle.text.proofs.Runs.{first_byte, inside, run_from, run_length, run_word, run_place, run_within}
 
 -- a run of letters and digits is a name where it begins with a letter
 name_first : (bs : Bytes) → name? (run alnum bs) ≡ letter (get_or bs 0 0)
@@ -33,9 +32,9 @@ module _ (s : Bytes) (at : ℕ) {b : ℕ} {l : Bool} (p : b ≡ get_or s at 0) (
   named : name? (run alnum (drop at s)) ≡ l
   named = name_first (drop at s) ∙ ap letter (first_byte s at ∙ sym p) ∙ sym q
 
-  pub name_none : {r : Name} → not l ≡ true → r ≡ record { ok = false; long = false; code = 0; next = 0 } → r ≡ name_at s at
-  unfolding name_at read_name ensure name_read
-  name_none h e = e ∙ rw (named, not-true l h)
+  pub name_none : not l ≡ true → None ≡ name_found s at
+  unfolding name_found read_name ensure seen
+  name_none h = rw (named, not-true l h)
 
   module _ (h : not l ≡ false) where
     letter_here : letter b ≡ true
@@ -51,8 +50,8 @@ module _ (s : Bytes) (at : ℕ) {b : ℕ} {l : Bool} (p : b ≡ get_or s at 0) (
       pub name_from : at ≤ e
       name_from = run_from Alnum s at w
 
-      pub name_room : at + (e - at) ≤ length s
-      name_room = let k = place in run_room Alnum s at w (omega arith)
+      pub name_within : e ≤ length s
+      name_within = let k = place in run_within Alnum s at w (omega arith)
 
       short_is : short (run alnum (drop at s)) ≡ leb (e - at) 8
       unfolding short class_of
@@ -66,12 +65,12 @@ module _ (s : Bytes) (at : ℕ) {b : ℕ} {l : Bool} (p : b ≡ get_or s at 0) (
       unfolding class_of
       word_is = run_word Alnum s at w
 
-      pub name_long : 8 < e - at → record { ok = true; long = true; code = 0; next = e } ≡ name_at s at
-      unfolding name_at read_name ensure name_read
+      pub name_long : 8 < e - at → Some (record { long = true; code = 0; next = e }) ≡ name_found s at
+      unfolding name_found read_name ensure seen name_seen left_at
       name_long n = sym (rw (named, not-false l h, short_is, lt-leb (e - at) 8 n, next_is))
 
-      pub name_short : {c : ℕ} → e - at ≤ 8 → c ≡ code_of (take (e - at) (drop at s)) → record { ok = true; long = false; code = c; next = e } ≡ name_at s at
-      unfolding name_at read_name ensure name_read
+      pub name_short : {c : ℕ} → e - at ≤ 8 → c ≡ code_of (take (e - at) (drop at s)) → Some (record { long = false; code = c; next = e }) ≡ name_found s at
+      unfolding name_found read_name ensure seen name_seen left_at
       name_short n f = sym (rw (named, not-false l h, short_is, le-leb (e - at) 8 n, next_is, f, word_is))
 
-pub ruleset name_ends = (name_none, name_from, name_room, name_long, name_short)
+pub ruleset name_ends = (name_none, name_from, name_within, name_long, name_short)

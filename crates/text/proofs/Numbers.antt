@@ -1,26 +1,27 @@
 -- The number at a place as the code reads it.
 use mathlib.Core.Path.{◌≡◌, refl, sym, ap, ◌∙◌}
 use mathlib.Core.List.{[], ◌∷◌, ◌++◌}
-use mathlib.Core.Option.{some}
+use mathlib.Core.Option.{Option, none, some, none-ne-some}
 use mathlib.Core.Bool.{Bool, true, false, cond}
-use Prim.Native.Nat.{ℕ, zero, suc, ◌+◌, ◌*◌, ◌-◌, ◌^◌, ◌≤◌, ◌<◌, min}
+use Prim.Native.Nat.{ℕ, zero, suc, ◌+◌, ◌*◌, ◌-◌, ◌≤◌, ◌<◌, min}
 use native.Mathlib.Omega.{arith}
 use native.Mathlib.Numerals.{add-one}
 use lib.IntN.{pos, neg_ℤ, ◌-ℤ◌, +ℤ_idl}
-use lib.Signed.{mag}
 use mir.Syntax.{w64}
 use mir.Val.{SFits, to_z, of_z}
 use mir.ValLaws.{to_z-of_z, to_z_pos}
+use lib.Dec.{eqb}
 use lib.ListN.{length, take, drop, get_or, length-append, length-drop}
-use lib.Seq.{take-suc, get_or-drop, drop-cons}
-use borrow.Author.Tests.{eq-eqb, ne_eqb}
+use lib.Seq.{take-suc}
+use borrow.Author.Tests.{ne_eqb}
 use Rattle.syntax.specs.Grammar.{Bytes, digit}
-use Rattle.syntax.specs.Readers.{bind, ensure, run, past, numeral, value_from, read_nat, negated, read_negative, read_natural, read_int}
-use Rattle.syntax.proofs.Steps.{run_past}
+use Rattle.syntax.specs.Readers.{Read, bind, ensure, byte, run, past, numeral, value_from, read_nat, negated, read_negative, read_natural, read_int}
+use Rattle.syntax.proofs.Steps.{done, run_past}
 use Rattle.text.specs.declared.Class.TheVariants.{Digit}
-use Rattle.text.specs.declared.Number.{Number}
-use Rattle.text.specs.Words.{class_of, run_end, far, clamp, number_read, number_at, numeral_end, negative_at}
-use Rattle.text.proofs.Runs.{first_byte, inside, run_head, run_from, run_word, run_place, run_room}
+use Rattle.text.specs.declared.NumberAt.{NumberAt}
+use Rattle.text.specs.Words.{Found, Some, None, seen, left_at, read_end, class_of, run_end, far, clamp, number_seen, number_found, natural_found, numeral_end}
+use Rattle.text.proofs.Runs.{first_byte, run_head, run_from, run_word, run_place, run_within}
+use Rattle.text.proofs.Views.{no_some, skip_none, skip_is}
 
 -- ---- the value, digit by digit
 
@@ -34,13 +35,10 @@ capped : (v d : ℕ) → min (min v far * 10 + d) far ≡ min (v * 10 + d) far
 unfolding far
 capped v d = omega arith
 
-pub value_more : (s : Bytes) (at i : ℕ) {v w : ℕ} → at + i < length s → v ≡ min (value_from 0 (take i (drop at s))) far
-    → w ≡ min (v * 10 + (get_or s (at + i) 0 - 48)) far → w ≡ min (value_from 0 (take (i + 1) (drop at s))) far
-value_more s at i {v} {w} h e f =
-    let l : i < length (drop at s) = rw length-drop (omega arith) in
-    let d = get_or s (at + i) 0 - 48 in
-    f ∙ ap (λ n. min (n * 10 + d) far) e ∙ capped (value_from 0 (take i (drop at s))) d
-    ∙ sym (rw (add-one i, take-suc (drop at s) i 0 l, value_snoc 0 (take i (drop at s)) (get_or (drop at s) i 0), get_or-drop at s i 0) refl)
+pub value_more : (w : Bytes) (i : ℕ) {v x : ℕ} → i < length w → v ≡ min (value_from 0 (take i w)) far → x ≡ min (v * 10 + (get_or w i 0 - 48)) far → x ≡ min (value_from 0 (take (i + 1) w)) far
+value_more w i h e f =
+    let d = get_or w i 0 - 48 in
+    f ∙ ap (λ n. min (n * 10 + d) far) e ∙ capped (value_from 0 (take i w)) d ∙ sym (rw (add-one i, take-suc w i 0 h, value_snoc 0 (take i w) (get_or w i 0)) refl)
 
 -- ---- numerals
 
@@ -90,33 +88,14 @@ pub ruleset numeral_ends = (digits_other, digits_needless, digits_zero, digits_f
 
 -- ---- numbers
 
--- capped values fit with either sign
+-- a capped value fits
 module _ (v x : ℕ) (h : v ≡ min x far) where
-  small : v ≤ 4294967296
-  unfolding far
-  small = omega arith
-
   pub cast_fits : SFits w64 (pos v)
-  cast_fits = let k = small in record { sfits = omega arith }
+  unfolding far
+  cast_fits = record { sfits = omega arith }
 
-  pub cast_is : to_z w64 v ≡ pos v
+  cast_is : to_z w64 v ≡ pos v
   cast_is = to_z_pos w64 v cast_fits.sfits
-
-  minus_is : pos 0 -ℤ to_z w64 v ≡ neg_ℤ (pos v)
-  minus_is = ap (λ z. pos 0 -ℤ z) cast_is ∙ +ℤ_idl (neg_ℤ (pos v))
-
-  minus_small : (n : ℕ) → n ≤ 4294967296 → mag (neg_ℤ (pos n)) < 2 ^ 63
-  minus_small zero k = omega arith
-  minus_small (suc n) k = omega arith
-
-  negated_fits : SFits w64 (neg_ℤ (pos v))
-  negated_fits = record { sfits = minus_small v small }
-
-  pub minus_fits : SFits w64 (pos 0 -ℤ to_z w64 v)
-  minus_fits = rw minus_is negated_fits
-
-  pub minus_back : to_z w64 (of_z w64 (pos 0 -ℤ to_z w64 v)) ≡ neg_ℤ (pos v)
-  minus_back = rw minus_is (to_z-of_z w64 (neg_ℤ (pos v)) negated_fits)
 
 -- what follows a numeral's end
 module _ (s : Bytes) (at : ℕ) {e : ℕ} (q : e ≡ numeral_end s at) where
@@ -129,9 +108,9 @@ module _ (s : Bytes) (at : ℕ) {e : ℕ} (q : e ≡ numeral_end s at) where
       go [] f true g = sym g ∙ rw f
       go (d ∷ ds) f true g = let w : e ≡ at + suc (length ds) = q ∙ rw (g, f) in absurd (omega arith)
 
-  pub negative_none : {r : Number} → e ≡ at → r ≡ record { ok = false; value = pos 0; next = 0 } → r ≡ negative_at s at
-  unfolding negative_at read_negative read_nat ensure bind number_read
-  negative_none z f = f ∙ rw (numeral_none z)
+  pub natural_none : e ≡ at → None ≡ natural_found s at
+  unfolding natural_found read_natural read_nat ensure bind seen
+  natural_none z = rw (numeral_none z)
 
   module _ (n : e ≡ at → ⊥) where
     numeral_some : numeral (run digit (drop at s)) ≡ true
@@ -156,8 +135,8 @@ module _ (s : Bytes) (at : ℕ) {e : ℕ} (q : e ≡ numeral_end s at) where
     pub number_from : at ≤ e
     number_from = run_from Digit s at end_here
 
-    pub number_room : at + (e - at) ≤ length s
-    number_room = run_room Digit s at end_here here
+    pub number_within : e ≤ length s
+    number_within = run_within Digit s at end_here here
 
     next_is : length s - length (past digit (drop at s)) ≡ e
     unfolding class_of
@@ -171,46 +150,99 @@ module _ (s : Bytes) (at : ℕ) {e : ℕ} (q : e ≡ numeral_end s at) where
     unfolding read_nat ensure
     nat_is = rw (numeral_some, word_is)
 
-    module _ {v : ℕ} (f : v ≡ min (value_from 0 (take (e - at) (drop at s))) far) where
-      pub negative_zero : {r : Number} → v ≤ 0 → r ≡ record { ok = false; value = pos 0; next = 0 } → r ≡ negative_at s at
-      unfolding negative_at read_negative negated bind number_read far
-      negative_zero z g = let k : value_from 0 (take (e - at) (drop at s)) ≡ 0 = omega arith in g ∙ rw (nat_is, k)
+    pub natural_some : {v : ℕ} → v ≡ min (value_from 0 (take (e - at) (drop at s))) far → Some (record { value = to_z w64 v; next = e }) ≡ natural_found s at
+    unfolding natural_found read_natural bind seen number_seen left_at clamp
+    natural_some {v} f = rw (cast_is v (value_from 0 (take (e - at) (drop at s))) f, nat_is, next_is, f)
 
-      pub negative_some : 0 < v → record { ok = true; value = to_z w64 (of_z w64 (pos 0 -ℤ to_z w64 v)); next = e } ≡ negative_at s at
-      unfolding negative_at read_negative negated bind number_read clamp
-      negative_some z = go (value_from 0 (take (e - at) (drop at s))) refl
+pub ruleset natural_ends = (number_from, number_within, cast_fits, natural_none, natural_some)
+
+minus_is : (m : ℕ) → pos 0 -ℤ pos m ≡ neg_ℤ (pos m)
+minus_is m = +ℤ_idl (neg_ℤ (pos m))
+
+minus_small : (n : ℕ) → n ≤ 4294967296 → SFits w64 (neg_ℤ (pos n))
+minus_small zero k = record { sfits = omega arith }
+minus_small (suc n) k = record { sfits = omega arith }
+
+-- a number that begins with no minus, and one with a minus
+module _ (s : Bytes) (at : ℕ) where
+  pub number_natural : {r : Found NumberAt} → None ≡ read_end s (byte 45 (drop at s)) → r ≡ natural_found s at → r ≡ number_found s at
+  unfolding number_found natural_found read_int byte ensure read_natural read_nat bind run numeral read_end seen
+  number_natural {r} p f = f ∙ go (drop at s) (skip_none s at 45 p)
+    where
+      go : (bs : Bytes) → byte 45 bs ≡ none → seen (number_seen s) (read_natural bs) ≡ seen (number_seen s) (read_int bs)
+      go [] e = refl
+      go (x ∷ xs) e = other (eqb 45 x) e
         where
-          go : (x : ℕ) → value_from 0 (take (e - at) (drop at s)) ≡ x → record { ok = true; value = to_z w64 (of_z w64 (pos 0 -ℤ to_z w64 v)); next = e } ≡ negative_at s at
-          go zero g = absurd (omega arith)
-          go (suc x) g = rw (minus_back v (suc x) (f ∙ rw g), nat_is, g, next_is, f, g)
+          other : (b : Bool) → ensure {A = Read (Unit {0})} b (record { what = tt; left = xs }) ≡ none → seen (number_seen s) (read_natural (x ∷ xs)) ≡ seen (number_seen s) (cond b (read_negative xs) (read_natural (x ∷ xs)))
+          other true e = absurd (none-ne-some _ (sym e))
+          other false e = refl
 
--- a number that begins with no minus
-natural_is : (s : Bytes) (at : ℕ) {b : ℕ} → b ≡ get_or s at 0 → (b ≡ 45 → ⊥) → number_at s at ≡ number_read s (read_natural (drop at s))
-unfolding number_at read_int read_natural read_nat ensure bind run numeral
-natural_is s at {b} p n = go (drop at s) refl
-  where
-    go : (bs : Bytes) → drop at s ≡ bs → number_read s (read_int bs) ≡ number_read s (read_natural bs)
-    go [] f = refl
-    go (x ∷ xs) f = rw (ne_eqb 45 x (λ h. n (p ∙ sym (first_byte s at) ∙ rw f (sym h))))
+  module _ {p : ℕ} (q : Some p ≡ read_end s (byte 45 (drop at s))) where
+    negative_is : number_found s at ≡ seen (number_seen s) (read_negative (drop p s))
+    unfolding number_found read_int byte ensure
+    negative_is = go (drop at s) (skip_is s at 45 q)
+      where
+        go : (bs : Bytes) → byte 45 bs ≡ some (record { what = tt; left = drop p s }) → seen (number_seen s) (read_int bs) ≡ seen (number_seen s) (read_negative (drop p s))
+        go [] e = absurd (none-ne-some _ e)
+        go (x ∷ xs) e = other (eqb 45 x) e
+          where
+            other : (b : Bool) → ensure {A = Read (Unit {0})} b (record { what = tt; left = xs }) ≡ some (record { what = tt; left = drop p s }) → seen (number_seen s) (cond b (read_negative xs) (read_natural (x ∷ xs))) ≡ seen (number_seen s) (read_negative (drop p s))
+            other true e = let k = done (λ r. xs ≡ r.left) e refl in rw k
+            other false e = absurd (none-ne-some _ e)
 
-module _ (s : Bytes) (at : ℕ) {b : ℕ} (p : b ≡ get_or s at 0) where
-  pub minus_inside : b ≡ 45 → at < length s
-  minus_inside z = inside s at (omega arith)
+    pub number_none : None ≡ natural_found s p → None ≡ number_found s at
+    unfolding natural_found read_natural read_negative bind seen
+    number_none e = sym (negative_is ∙ go (read_nat (drop p s)) e)
+      where
+        go : (o : Option (Read ℕ)) → None ≡ seen (number_seen s) (bind o (λ n. some (record { what = pos n.what; left = n.left })))
+            → seen (number_seen s) (bind o (λ n. bind (negated n.what) (λ z. some (record { what = z; left = n.left })))) ≡ None
+        go none e = refl
+        go (some r) e = absurd (no_some e)
 
-  pub number_minus : {r : Number} → b ≡ 45 → r ≡ negative_at s (at + 1) → r ≡ number_at s at
-  unfolding number_at negative_at read_int
-  number_minus z f = f ∙ sym (rw (drop-cons s at 0 (minus_inside z), add-one at, eq-eqb 45 (get_or s at 0) (sym z ∙ p)))
+    module _ {n : NumberAt} (e : Some n ≡ natural_found s p) where
+      -- the digits after the minus
+      digits_are : {X : Type 0} → ((m : ℕ) → n.value ≡ pos (min m far) → number_found s at ≡ seen (λ z. record { value = clamp z; next = n.next }) (negated m) → X) → X
+      unfolding natural_found read_natural read_negative bind seen number_seen left_at clamp negated
+      digits_are {X} f = go (read_nat (drop p s)) e negative_is
+        where
+          go : (o : Option (Read ℕ)) → Some n ≡ seen (number_seen s) (bind o (λ n. some (record { what = pos n.what; left = n.left })))
+              → number_found s at ≡ seen (number_seen s) (bind o (λ n. bind (negated n.what) (λ z. some (record { what = z; left = n.left })))) → X
+          go none e d = absurd (no_some (sym e))
+          go (some r) e d = let k : n ≡ record { value = pos (min r.what far); next = left_at s r } = cc in f r.what (ap (λ x. x.value) k) (d ∙ made r.what r.left k)
+            where
+              made : (m : ℕ) (l : Bytes) → n ≡ record { value = pos (min m far); next = length s - length l }
+                  → seen (number_seen s) (bind (negated m) (λ z. some (record { what = z; left = l }))) ≡ seen (λ z. record { value = clamp z; next = n.next }) (negated m)
+              made zero l k = refl
+              made (suc m) l k = rw k
 
-  module _ (m : b ≡ 45 → ⊥) {e : ℕ} (q : e ≡ numeral_end s at) where
-    pub number_none : {r : Number} → e ≡ at → r ≡ record { ok = false; value = pos 0; next = 0 } → r ≡ number_at s at
-    unfolding read_natural read_nat ensure bind number_read
-    number_none z f = f ∙ sym (natural_is s at p m ∙ rw (numeral_none s at q z))
+      -- as the code has them
+      back : to_z w64 (of_z w64 n.value) ≡ n.value
+      unfolding far
+      back = digits_are (λ m v d. to_z-of_z w64 n.value (rw v (record { sfits = omega arith })))
 
-    pub number_some : {v : ℕ} → (e ≡ at → ⊥) → v ≡ min (value_from 0 (take (e - at) (drop at s))) far → record { ok = true; value = to_z w64 v; next = e } ≡ number_at s at
-    unfolding read_natural bind number_read clamp
-    number_some {v} n f =
-        rw (cast_is v (value_from 0 (take (e - at) (drop at s))) f)
-        (sym (natural_is s at p m ∙ rw (nat_is s at q n, next_is s at q n, f)))
+      minus_signed : ℕ → Found NumberAt
+      minus_signed m = seen (λ z. record { value = clamp z; next = n.next }) (negated m)
 
-pub ruleset number_ends =
-    (number_from, number_room, cast_fits, minus_fits, negative_none, negative_zero, negative_some, number_minus, number_none, number_some)
+      pub number_zero : of_z w64 n.value ≡ 0 → None ≡ number_found s at
+      unfolding minus_signed far negated seen
+      number_zero z = digits_are (λ m v d. sym (d ∙ go m (sym v ∙ sym back ∙ ap (to_z w64) z)))
+        where
+          go : (m : ℕ) → pos (min m far) ≡ pos 0 → minus_signed m ≡ None
+          go m e = let k : min m far ≡ 0 = cc in let h : m ≡ 0 = omega arith in rw h
+
+      minus_of : (m : ℕ) → n.value ≡ pos (min m far) → SFits w64 (pos 0 -ℤ n.value)
+      unfolding far
+      minus_of m v = rw (v, minus_is (min m far)) (minus_small (min m far) (omega arith))
+
+      pub minus_fits : SFits w64 (pos 0 -ℤ to_z w64 (of_z w64 n.value))
+      minus_fits = rw back (digits_are (λ m v d. minus_of m v))
+
+      pub number_minus : (of_z w64 n.value ≡ 0 → ⊥) → Some (record { value = to_z w64 (of_z w64 (pos 0 -ℤ to_z w64 (of_z w64 n.value))); next = n.next }) ≡ number_found s at
+      unfolding minus_signed clamp negated seen far
+      number_minus z = digits_are (λ m v d. rw (back, to_z-of_z w64 (pos 0 -ℤ n.value) (minus_of m v)) (go m v d))
+        where
+          go : (m : ℕ) → n.value ≡ pos (min m far) → number_found s at ≡ minus_signed m → Some (record { value = pos 0 -ℤ n.value; next = n.next }) ≡ number_found s at
+          go zero v d = absurd (z (ap (of_z w64) v))
+          go (suc m) v d = rw (v, minus_is (min (suc m) far), d)
+
+pub ruleset number_ends = (number_natural, number_none, number_zero, minus_fits, number_minus)

@@ -9,7 +9,7 @@ use native.Mathlib.Numerals.{add-one}
 use lib.IntN.{ℤ}
 use lib.Dec.{T, eqb, ltb, ltb→lt, leb}
 use lib.ListN.{length, drop, get_or, drop_of_length-le}
-use lib.Seq.{drop-cons, drop-drop, drop-append_seam}
+use lib.Seq.{drop-cons}
 use mir.Syntax.{w64}
 use mir.Val.{Fits}
 use borrow.Author.Tests.{eq-eqb, ne_eqb, eqb-true, eqb-false, ltb-true, ltb-false, le-leb, lt-leb}
@@ -18,20 +18,19 @@ use Rattle.lists.proofs.Laws.{cond_cases}
 use Rattle.syntax.specs.Grammar.{Bytes, bytes, eq, stream, grant, clock, row, clear, caller, ask, line, op_word, right_word, verb_word}
 use Rattle.syntax.specs.Readers.{Read, Reader, bind, ensure, ◌>>=◌, ◌>>◌, give, byte, run, past, plain, among, read_word, read_head, itself, read_open, read_name, read_int, head_word, heads, rights, kind_word, kinds, word_opens, part_opens, read_part}
 use Rattle.syntax.specs.Limits.{short}
-use Rattle.syntax.proofs.Steps.{from, done, run_past}
+use Rattle.syntax.proofs.Steps.{from, done}
 use Rattle.syntax.proofs.Leaving.{open_leaves, head_less}
-use Rattle.text.specs.declared.Class.{Class}
 use Rattle.text.specs.declared.Class.TheVariants.{Plain}
 use Rattle.text.specs.declared.Word.{Word}
 use Rattle.text.specs.declared.Kept.{Kept}
 use Rattle.text.specs.declared.Time.{Time}
 use Rattle.text.specs.declared.Name.{Name}
 use Rattle.text.specs.declared.Number.{Number}
-use Rattle.text.specs.Words.{class_of, run_end, code_of, name_of, name_read, name_at, clamp, number_read, number_at, kept_of, time_of}
+use Rattle.text.specs.Words.{class_of, code_of, name_of, name_read, name_at, clamp, number_read, number_at, kept_of, time_of}
 use Rattle.text.specs.Keywords.{keyword?, word_at, WordAt, coded, place, opened_at, part_at, closes_at, keywords_compute}
 use Rattle.text.specs.Readings.{whole, closed}
 use Rattle.text.proofs.Codes.{word_above, word_back}
-use Rattle.text.proofs.Runs.{inside}
+use Rattle.text.proofs.Runs.{inside, run_left}
 use Rattle.text.proofs.Keywords.{among_coded}
 use Rattle.text.proofs.Ranges.{kept_clamp, time_clamp}
 use Rattle.text.proofs.Views.{place_none, place_some, view_none, view_here, name_view, int_view}
@@ -74,14 +73,6 @@ module _ (s : Bytes) (p : ℕ) {b : ℕ} (e : b ≡ get_or s p 0) where
   pub close_not : (b ≡ 41 → ⊥) → byte 41 (drop p s) ≡ none
   close_not f = byte_not 41 f
 
--- what follows a run of bytes
-pub run_left : (c : Class) (s : Bytes) (at : ℕ) {e : ℕ} → e ≡ run_end c s at → drop e s ≡ past (class_of c) (drop at s)
-unfolding run_end
-run_left c s at q =
-    rw q (sym (drop-drop (length (run (class_of c) (drop at s))) at s)
-    ∙ ap (drop (length (run (class_of c) (drop at s)))) (sym (run_past (class_of c) (drop at s)))
-    ∙ drop-append_seam (run (class_of c) (drop at s)) (past (class_of c) (drop at s)))
-
 -- ---- names
 
 module _ (s : Bytes) (p : ℕ) {n : Name} (e : n ≡ name_at s p) where
@@ -122,17 +113,17 @@ pub record Spells (c : ℕ) (w : Bytes) : Type 0 where
 pub spelt_name : {c : ℕ} {w : Bytes} → Spells c w → name_of c ≡ w
 spelt_name {w} k = ap name_of k.code ∙ word_back w k.keyword
 
-spelt_above : {c : ℕ} {w : Bytes} → Spells c w → 0 < c
+pub spelt_above : {c : ℕ} {w : Bytes} → Spells c w → 0 < c
 spelt_above {w} k = let h = word_above w k.keyword in let e = k.code in omega arith
 
 -- an opening bracket and a keyword, as readers see them
-open_what : (w bs : Bytes) (r : Read Bytes) → read_open w bs ≡ some r → r.what ≡ w
+pub open_what : (w bs : Bytes) (r : Read Bytes) → read_open w bs ≡ some r → r.what ≡ w
 unfolding read_open read_head read_word ◌>>◌ among itself
 open_what w bs r e =
     from _ _ e (λ b p q. from _ _ q (λ h u v. cond_cases (same_list w (run plain b.left)) (some w) none u
     (λ t d. done (λ x. x.what ≡ w) v (done (λ x. x ≡ w) d refl)) (λ t d. absurd (none-ne-some h d))))
 
-opens_not : (w bs : Bytes) → read_open w bs ≡ none → word_opens w bs ≡ false
+pub opens_not : (w bs : Bytes) → read_open w bs ≡ none → word_opens w bs ≡ false
 unfolding word_opens read_open read_head read_word ◌>>◌ byte ensure bind among itself
 opens_not w [] e = refl
 opens_not w (b ∷ bs) e = go (eqb 40 b) (same_list w (run plain bs)) refl e
@@ -144,7 +135,7 @@ opens_not w (b ∷ bs) e = go (eqb 40 b) (same_list w (run plain bs)) refl e
     go true false f e = refl
     go false y f e = refl
 
-opens_is : (w bs : Bytes) (r : Read Bytes) → read_open w bs ≡ some r → word_opens w bs ≡ true
+pub opens_is : (w bs : Bytes) (r : Read Bytes) → read_open w bs ≡ some r → word_opens w bs ≡ true
 unfolding word_opens read_open read_head read_word ◌>>◌ byte ensure bind among itself
 opens_is w [] r e = absurd (none-ne-some r e)
 opens_is w (b ∷ bs) r e = go (eqb 40 b) (same_list w (run plain bs)) refl e

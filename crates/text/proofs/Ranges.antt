@@ -14,7 +14,7 @@ use borrow.Author.Tests.{le-leb, lt-leb, ltb-true, ltb-false}
 use Rattle.syntax.specs.Limits.{is_value, is_time, natural}
 use Rattle.text.specs.declared.Kept.{Kept}
 use Rattle.text.specs.declared.Time.{Time}
-use Rattle.text.specs.Words.{clamp, value_kept, kept_of, time_kept, time_of}
+use Rattle.text.specs.Words.{Found, Some, None, clamp, value_given, time_given, value_kept, kept_of, time_kept, time_of}
 use Rattle.text.proofs.Clamps.{clamp_value, clamp_time, value_same, time_same}
 
 -- ---- clamping changes nothing that is kept
@@ -32,6 +32,22 @@ unfolding time_of time_kept
 time_clamp z = rw (clamp_time z) (go (is_time z) refl)
   where
     go : (b : Bool) → is_time z ≡ b → ◌≡◌ {A = Time} (record { beyond = not b; value = cond b (natural (clamp z)) 0 }) (record { beyond = not b; value = cond b (natural z) 0 })
+    go true e = rw (time_same z (rw e tt))
+    go false e = refl
+
+pub value_clamp : (z : ℤ) → value_given (clamp z) ≡ value_given z
+unfolding value_given
+value_clamp z = rw (clamp_value z) (go (is_value z) refl)
+  where
+    go : (b : Bool) → is_value z ≡ b → ◌≡◌ {A = Found ℤ} (cond b (Some (clamp z)) None) (cond b (Some z) None)
+    go true e = rw (value_same z (rw e tt))
+    go false e = refl
+
+pub given_clamp : (z : ℤ) → time_given (clamp z) ≡ time_given z
+unfolding time_given
+given_clamp z = rw (clamp_time z) (go (is_time z) refl)
+  where
+    go : (b : Bool) → is_time z ≡ b → ◌≡◌ {A = Found ℕ} (cond b (Some (natural (clamp z))) None) (cond b (Some (natural z)) None)
     go true e = rw (time_same z (rw e tt))
     go false e = refl
 
@@ -57,20 +73,20 @@ module _ (z : ℤ) (fits : SFits w64 z) where
   back : to_z w64 (of_z w64 z) ≡ z
   back = to_z-of_z w64 z fits
 
-  pub kept_low : lt_z (to_z w64 (of_z w64 z)) (negsuc 2147483647) ≡ true → record { wide = true; value = pos 0 } ≡ kept_of z
-  unfolding kept_of value_kept
+  pub kept_low : lt_z (to_z w64 (of_z w64 z)) (negsuc 2147483647) ≡ true → None ≡ value_given z
+  unfolding value_given
   kept_low e = rw (value_low z (rw back at e))
 
-  pub kept_high : lt_z (pos 2147483647) (to_z w64 (of_z w64 z)) ≡ true → record { wide = true; value = pos 0 } ≡ kept_of z
-  unfolding kept_of value_kept
+  pub kept_high : lt_z (pos 2147483647) (to_z w64 (of_z w64 z)) ≡ true → None ≡ value_given z
+  unfolding value_given
   kept_high e = rw (value_high z (rw back at e))
 
   module _ (e : lt_z (to_z w64 (of_z w64 z)) (negsuc 2147483647) ≡ false) (f : lt_z (pos 2147483647) (to_z w64 (of_z w64 z)) ≡ false) where
     pub kept_fits : SFits w32 (to_z w64 (of_z w64 z))
     kept_fits = (value_near (to_z w64 (of_z w64 z)) e f).1
 
-    pub kept_near : record { wide = false; value = to_z w32 (of_z w32 (to_z w64 (of_z w64 z))) } ≡ kept_of z
-    unfolding kept_of value_kept
+    pub kept_near : Some (to_z w32 (of_z w32 (to_z w64 (of_z w64 z)))) ≡ value_given z
+    unfolding value_given
     kept_near = rw (to_z-of_z w32 (to_z w64 (of_z w64 z)) kept_fits, back, (value_near z (rw back at e) (rw back at f)).0)
 
 pub ruleset kept_ends = (kept_low, kept_high, kept_fits, kept_near, sfits_of)
@@ -93,12 +109,12 @@ time_near (pos n) e f = let h = ltb-false 2147483647 n f in (le-leb n 2147483647
 time_near (negsuc n) e f = absurd (let k : ◌≡◌ {A = ℕ} 0 1 = cc in omega arith)
 
 module _ (z : ℤ) (fits : SFits w64 z) where
-  pub time_below : lt_z (to_z w64 (of_z w64 z)) (pos 0) ≡ true → record { beyond = true; value = 0 } ≡ time_of z
-  unfolding time_of time_kept
+  pub time_below : lt_z (to_z w64 (of_z w64 z)) (pos 0) ≡ true → None ≡ time_given z
+  unfolding time_given
   time_below e = rw (time_low z (rw (back z fits) at e))
 
-  pub time_above : lt_z (pos 2147483647) (to_z w64 (of_z w64 z)) ≡ true → record { beyond = true; value = 0 } ≡ time_of z
-  unfolding time_of time_kept
+  pub time_above : lt_z (pos 2147483647) (to_z w64 (of_z w64 z)) ≡ true → None ≡ time_given z
+  unfolding time_given
   time_above e = rw (time_high z (rw (back z fits) at e))
 
   module _ (e : lt_z (to_z w64 (of_z w64 z)) (pos 0) ≡ false) (f : lt_z (pos 2147483647) (to_z w64 (of_z w64 z)) ≡ false) where
@@ -108,8 +124,8 @@ module _ (z : ℤ) (fits : SFits w64 z) where
     pub time_fits : Fits w32 (nat_abs (to_z w64 (of_z w64 z)))
     time_fits = let h = (time_near (to_z w64 (of_z w64 z)) e f).2 in record { fits = omega arith }
 
-    pub time_here : record { beyond = false; value = nat_abs (to_z w64 (of_z w64 z)) } ≡ time_of z
-    unfolding time_of time_kept
+    pub time_here : Some (nat_abs (to_z w64 (of_z w64 z))) ≡ time_given z
+    unfolding time_given
     time_here = let h = time_near z (rw (back z fits) at e) (rw (back z fits) at f) in rw (back z fits, h.0, h.1)
 
 pub ruleset time_ends = (time_below, time_above, time_natural, time_fits, time_here, sfits_of)

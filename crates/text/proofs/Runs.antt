@@ -2,14 +2,14 @@
 use mathlib.Core.Path.{◌≡◌, refl, sym, ap, ◌∙◌}
 use mathlib.Core.List.{[], ◌∷◌}
 use mathlib.Core.Bool.{Bool, true, false, not, cond}
-use Prim.Native.Nat.{ℕ, ◌+◌, ◌-◌, ◌≤◌, ◌<◌}
+use Prim.Native.Nat.{ℕ, ◌+◌, ◌-◌, ◌≤◌, ◌<◌, max}
 use native.Mathlib.Omega.{arith}
 use native.Mathlib.Numerals.{add-one}
 use native.Mathlib.Nat.{add-zero}
 use lib.Dec.{leb, ltb}
 use lib.ListN.{length, take, drop, get_or, length-append, length-drop, drop_of_length-le, get_or-eq_default}
-use lib.Seq.{drop-cons, take-append_seam, get_or-drop}
-use borrow.Author.Tests.{lt-leb, le-leb, ne_eqb, ltb-true, ltb-false, not-true, not-false}
+use lib.Seq.{drop-cons, drop-drop, take-append_seam, drop-append_seam, get_or-drop}
+use borrow.Author.Tests.{lt-leb, le-leb, ne_eqb, ltb-true, ltb-false, leb-true, leb-false, not-true, not-false}
 use Rattle.syntax.specs.Grammar.{Bytes, digit, letter, alnum}
 use Rattle.syntax.specs.Readers.{run, past, plain}
 use Rattle.syntax.proofs.Steps.{run_past}
@@ -93,8 +93,12 @@ module _ (c : Class) (s : Bytes) where
   run_goes i h e = rw (drop-cons s i 0 h, e, add-one i) (omega arith)
 
   module _ (at i : ℕ) (inv : run_end c s at ≡ run_end c s i) where
-    pub end_over : length s ≤ i → i ≡ run_end c s at
-    end_over h = sym (inv ∙ run_over i h)
+    pub end_over : {r : ℕ} → r ≡ max at (length s) → length s ≤ i → (at ≤ length s → i ≤ length s) → r ≡ run_end c s at
+    end_over {r} e h k = go (leb at (length s)) refl
+      where
+        go : (b : Bool) → leb at (length s) ≡ b → r ≡ run_end c s at
+        go true l = let w = k (leb-true at (length s) l) in let q : r ≡ i = omega (arith, leb-true at (length s) l) in q ∙ sym (inv ∙ run_over i h)
+        go false l = let w = leb-false at (length s) l in let q : r ≡ at = omega arith in q ∙ sym (run_over at (omega arith))
 
     pub end_stops : {x : Bool} → x ≡ class_of c (get_or s i 0) → not x ≡ true → i ≡ run_end c s at
     end_stops {x} e h = sym (inv ∙ run_stops i (sym e ∙ not-true x h))
@@ -147,11 +151,22 @@ module _ (c : Class) (s : Bytes) (at : ℕ) {e : ℕ} (q : e ≡ run_end c s at)
       let l = ap length (run_past (class_of c) (drop at s)) in
       omega (arith, length-append (run (class_of c) (drop at s)) (past (class_of c) (drop at s)), length-drop at s)
 
-  pub run_room : at ≤ length s → at + (e - at) ≤ length s
+  pub run_within : at ≤ length s → e ≤ length s
   unfolding run_end
-  run_room h =
+  run_within h =
       let l = ap length (run_past (class_of c) (drop at s)) in
       omega (arith, length-append (run (class_of c) (drop at s)) (past (class_of c) (drop at s)), length-drop at s)
+
+  pub run_room : at ≤ length s → at + (e - at) ≤ length s
+  run_room h = let k = run_within h in let l = run_from in omega arith
+
+-- what follows a run of bytes
+pub run_left : (c : Class) (s : Bytes) (at : ℕ) {e : ℕ} → e ≡ run_end c s at → drop e s ≡ past (class_of c) (drop at s)
+unfolding run_end
+run_left c s at q =
+    rw q (sym (drop-drop (length (run (class_of c) (drop at s))) at s)
+    ∙ ap (drop (length (run (class_of c) (drop at s)))) (sym (run_past (class_of c) (drop at s)))
+    ∙ drop-append_seam (run (class_of c) (drop at s)) (past (class_of c) (drop at s)))
 
 -- ---- places
 

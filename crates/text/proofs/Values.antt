@@ -3,7 +3,7 @@ use mathlib.Core.List.{List, [], ◌∷◌}
 use Prim.Native.Nat.{ℕ, zero, suc, ◌<◌}
 use native.Mathlib.Omega.{arith}
 use lib.IntN.{ℤ, pos, negsuc}
-use lib.Dec.{T, le→leb}
+use lib.Dec.{T, leb→le, le→leb}
 use lib.ListN.{length, get_or}
 use mir.Syntax.{w32}
 use mir.Val.{SFits}
@@ -15,6 +15,11 @@ pub fits_value : (z : ℤ) → SFits w32 z → T (is_value z)
 unfolding is_value
 fits_value (pos n) h = le→leb n 2147483647 (let k = h.sfits in omega arith)
 fits_value (negsuc n) h = le→leb n 2147483647 (let k = h.sfits in omega arith)
+
+pub value_fits : (z : ℤ) → T (is_value z) → SFits w32 z
+unfolding is_value
+value_fits (pos n) t = let h = leb→le n 2147483647 t in record { sfits = omega arith }
+value_fits (negsuc n) t = let h = leb→le n 2147483647 t in record { sfits = omega arith }
 
 pub every_below : (vs : List ℤ) → ((k : ℕ) → k < length vs → T (is_value (get_or vs k (pos 0)))) → T (every is_value vs)
 unfolding every

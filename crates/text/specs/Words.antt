@@ -1,15 +1,32 @@
 -- What the code reads of a text at a place: names as numbers, numbers clamped, brackets.
 use Rattle.std.specs.Prelude.{[], ◌∷◌, Bool, true, false, not, cond, ℕ, zero, suc, ◌+◌, ◌*◌, ◌-◌, ◌/◌, ◌%◌, min, ℤ, pos, negsuc, neg_ℤ, eqb, length, drop}
+pub use Rattle.std.specs.Prelude.{Option as Found, Some, None}
 use Rattle.std.proofs.Math.Option.{Option, none, some}
 use Rattle.syntax.specs.Grammar.{Bytes, alnum, digit}
-use Rattle.syntax.specs.Readers.{Read, plain, run, numeral, read_name, read_negative, read_int}
+use Rattle.syntax.specs.Readers.{Read, plain, run, numeral, read_name, read_natural, read_int}
 use Rattle.syntax.specs.Limits.{short, is_value, is_time, natural}
 use Rattle.text.specs.declared.Class.{Class}
 use Rattle.text.specs.declared.Class.TheVariants.{Alnum, Digit, Plain}
 use Rattle.text.specs.declared.Name.{Name}
 use Rattle.text.specs.declared.Number.{Number}
+use Rattle.text.specs.declared.NameAt.{NameAt}
+use Rattle.text.specs.declared.NumberAt.{NumberAt}
 use Rattle.text.specs.declared.Kept.{Kept}
 use Rattle.text.specs.declared.Time.{Time}
+
+-- ---- what readers read, as the code has it
+
+unfoldable pub seen : {A T : Type 0} → (A → T) → Option A → Found T
+seen f none = None
+seen f (some a) = Some (f a)
+
+-- where in a text begins what is left of it
+unfoldable pub left_at : {A : Type 0} → Bytes → Read A → ℕ
+left_at s r = length s - length r.left
+
+-- the same where there is a read
+unfoldable pub read_end : {A : Type 0} → Bytes → Option (Read A) → Found ℕ
+read_end s o = seen (left_at s) o
 
 -- ---- runs of bytes
 
@@ -41,6 +58,13 @@ bytes_from (suc k) n bs = elim (eqb n 0) [ true ↦ bs | false ↦ bytes_from k 
 unfoldable pub name_of : ℕ → Bytes
 name_of n = bytes_from 8 n []
 
+-- the name at a place: whether it is longer than a name may be, its number (0 where it is longer), and the place after it
+unfoldable pub name_seen : Bytes → Read Bytes → NameAt
+name_seen s r = record { long = not (short r.what); code = cond (short r.what) (code_of r.what) 0; next = left_at s r }
+
+unfoldable pub name_found : Bytes → ℕ → Found NameAt
+name_found s at = seen (name_seen s) (read_name (drop at s))
+
 -- the name at a place: whether there is one, whether it is longer than a name may be, its number (0 where it is longer), and the place after it
 unfoldable pub name_read : Bytes → Option (Read Bytes) → Name
 name_read s none = record { ok = false; long = false; code = 0; next = 0 }
@@ -59,6 +83,17 @@ unfoldable pub clamp : ℤ → ℤ
 clamp (pos n) = pos (min n far)
 clamp (negsuc n) = neg_ℤ (pos (min (suc n) far))
 
+-- the number at a place, clamped, and the place after it
+unfoldable pub number_seen : Bytes → Read ℤ → NumberAt
+number_seen s r = record { value = clamp r.what; next = left_at s r }
+
+unfoldable pub number_found : Bytes → ℕ → Found NumberAt
+number_found s at = seen (number_seen s) (read_int (drop at s))
+
+-- one with no minus
+unfoldable pub natural_found : Bytes → ℕ → Found NumberAt
+natural_found s at = seen (number_seen s) (read_natural (drop at s))
+
 unfoldable pub number_read : Bytes → Option (Read ℤ) → Number
 number_read s none = record { ok = false; value = pos 0; next = 0 }
 number_read s (some r) = record { ok = true; value = clamp r.what; next = length s - length r.left }
@@ -70,9 +105,13 @@ number_at s at = number_read s (read_int (drop at s))
 unfoldable pub numeral_end : Bytes → ℕ → ℕ
 numeral_end s at = cond (numeral (run digit (drop at s))) (run_end Digit s at) at
 
--- a number after its minus
-unfoldable pub negative_at : Bytes → ℕ → Number
-negative_at s at = number_read s (read_negative (drop at s))
+-- a value within the 32 bits
+unfoldable pub value_given : ℤ → Found ℤ
+value_given z = cond (is_value z) (Some z) None
+
+-- a time within its range
+unfoldable pub time_given : ℤ → Found ℕ
+time_given z = cond (is_time z) (Some (natural z)) None
 
 -- a value within the 32 bits, and else 0
 unfoldable pub value_kept : ℤ → ℤ

@@ -1,12 +1,12 @@
 // Reading a text at a place: runs of bytes, names, numbers and keywords.
 #![tactic(auto)]
 
-ghost use Rattle.std.specs.Prelude.{◌≡◌, false, ◌||◌, ◌+◌, ◌*◌, ◌-◌, ◌≤◌, ◌<◌, min, pos, length, get_or, take, drop};
+ghost use Rattle.std.specs.Prelude.{◌≡◌, ◌||◌, ◌+◌, ◌*◌, ◌-◌, ◌≤◌, min, length, get_or, drop};
 ghost use Rattle.syntax.specs.Grammar.{digit, letter, alnum};
 ghost use Rattle.syntax.specs.Limits.{max_name, max_line, max_depth, top};
-ghost use Rattle.syntax.specs.Readers.{plain, value_from};
-ghost use Rattle.text.specs.Words.{class_of, run_end, code_of, name_at, far, numeral_end, negative_at, number_at, kept_of, time_of};
-ghost use Rattle.text.specs.Keywords.{head_coded, right_coded, kind_coded, WordAt, opened_at, part_at, closes_at, line_open};
+ghost use Rattle.syntax.specs.Readers.{byte, plain, value_from};
+ghost use Rattle.text.specs.Words.{read_end, class_of, run_end, code_of, name_found, name_at, far, numeral_end, natural_found, number_found, number_at, value_given, time_given, kept_of, time_of};
+ghost use Rattle.text.specs.Keywords.{head_given, right_given, form_given, head_coded, right_coded, kind_coded, word_found, WordAt, opening_end, part_end, opened_at, part_at, closes_at, line_after, too_long, line_open};
 
 // Classes of bytes: letters and digits, digits, and all but spaces and brackets.
 #[derive(Clone, Copy)]
@@ -31,6 +31,28 @@ pub struct Number {
     pub ok: bool,
     pub value: i64,
     pub next: usize,
+}
+
+// A name at a place: one of at most eight bytes fits a number, so that two names are compared as numbers; a longer one has 0.
+#[derive(Clone, Copy)]
+pub struct NameAt {
+    pub long: bool,
+    pub code: u64,
+    pub next: usize,
+}
+
+// A number at a place, clamped where it is beyond every range.
+#[derive(Clone, Copy)]
+pub struct NumberAt {
+    pub value: i64,
+    pub next: usize,
+}
+
+// Why a text is no line of a verb: it is longer than a line may be, or of another form.
+#[derive(Clone, Copy)]
+pub enum Unread {
+    TooLong,
+    Malformed,
 }
 
 // A number within 32 bits, or that it is beyond.
@@ -149,55 +171,88 @@ impl Word {
     // The number of no form's first word.
     pub const FORMLESS: u32 = 10;
 
-    // Returns a condition's head by the code of its word: 1 to 6 for the comparisons, 7 `and`, 8 `or`, 9 `not`; 0 for none.
+    // Returns the word as a condition's head: 1 to 6 for the comparisons, 7 `and`, 8 `or`, 9 `not`.
+    pub fn as_head(self) -> Option<u32>
+        ensures { result ≡ head_given self.code }
+    {
+        match self.code {
+            0x3d => Some(1),
+            0x2f3d => Some(2),
+            0x3c => Some(3),
+            0x3c3d => Some(4),
+            0x3e => Some(5),
+            0x3e3d => Some(6),
+            0x616e64 => Some(7),
+            0x6f72 => Some(8),
+            0x6e6f74 => Some(9),
+            _ => None,
+        }
+    }
+
+    // Returns the word as a right: 0 for `read`, 1 to 5 for the aggregates.
+    pub fn as_right(self) -> Option<u32>
+        ensures { result ≡ right_given self.code }
+    {
+        match self.code {
+            Word::READ => Some(0),
+            Word::MIN => Some(1),
+            Word::MAX => Some(2),
+            Word::COUNT => Some(3),
+            Word::AVG => Some(4),
+            Word::SUM => Some(5),
+            _ => None,
+        }
+    }
+
+    // Returns the word as a form's first word: 0 for `in`, 1 `pick`, 2 `keep`, 3 `join`, 5 to 9 for the aggregates.
+    pub fn as_form(self) -> Option<u32>
+        ensures { result ≡ form_given self.code }
+    {
+        match self.code {
+            Word::IN => Some(0),
+            Word::PICK => Some(1),
+            Word::KEEP => Some(2),
+            Word::JOIN => Some(3),
+            Word::MIN => Some(5),
+            Word::MAX => Some(6),
+            Word::COUNT => Some(7),
+            Word::AVG => Some(8),
+            Word::SUM => Some(9),
+            _ => None,
+        }
+    }
+
+    // Returns a condition's head by the code of its word, 0 for none.
     pub fn head(code: u64) -> u32
         ensures { result ≡ head_coded code }
     {
-        match code {
-            0x3d => 1,
-            0x2f3d => 2,
-            0x3c => 3,
-            0x3c3d => 4,
-            0x3e => 5,
-            0x3e3d => 6,
-            0x616e64 => 7,
-            0x6f72 => 8,
-            0x6e6f74 => 9,
-            _ => 0,
-        }
+        let w = Word {
+            code: code,
+            next: 0,
+        };
+        w.as_head().unwrap_or(0)
     }
 
-    // Returns a right by the code of its word: 0 for `read`, 1 to 5 for the aggregates; 6 for none.
+    // Returns a right by the code of its word, 6 for none.
     pub fn right(code: u64) -> u32
         ensures { result ≡ right_coded code }
     {
-        match code {
-            Word::READ => 0,
-            Word::MIN => 1,
-            Word::MAX => 2,
-            Word::COUNT => 3,
-            Word::AVG => 4,
-            Word::SUM => 5,
-            _ => 6,
-        }
+        let w = Word {
+            code: code,
+            next: 0,
+        };
+        w.as_right().unwrap_or(6)
     }
 
-    // Returns a form by the code of its first word: 0 for `in`, 1 `pick`, 2 `keep`, 3 `join`, 5 to 9 for the aggregates; 10 for none.
+    // Returns a form by the code of its first word, 10 for none.
     pub fn form(code: u64) -> u32
         ensures { result ≡ kind_coded code }
     {
-        match code {
-            Word::IN => 0,
-            Word::PICK => 1,
-            Word::KEEP => 2,
-            Word::JOIN => 3,
-            Word::MIN => 5,
-            Word::MAX => 6,
-            Word::COUNT => 7,
-            Word::AVG => 8,
-            Word::SUM => 9,
-            _ => Word::FORMLESS,
-        }
+        let w = Word {
+            code: code,
+            next: 0,
+        };
+        w.as_form().unwrap_or(Word::FORMLESS)
     }
 }
 
@@ -216,6 +271,19 @@ pub fn byte(s: &[u8], at: usize) -> u8
     ensures { result ≡ get_or s.now at 0 }
 {
     if at < s.len() { s[at] } else { 0 }
+}
+
+// Returns the place after a byte that stands at a place.
+pub fn skip(s: &[u8], at: usize, b: u8) -> Option<usize>
+    ensures { result ≡ read_end s.now (byte b (drop at s.now)) }
+{
+    if s.len() <= at {
+        return None;
+    }
+    if s[at] != b {
+        return None;
+    }
+    Some(at + 1)
 }
 
 // A digit.
@@ -274,75 +342,66 @@ pub fn in_class(b: u8, c: Class) -> bool
 pub fn run_end(s: &[u8], at: usize, c: Class) -> usize
     ensures { result ≡ run_end c s.now at }
 {
-    let mut i = at;
-    while i < s.len() {
+    for i in at..s.len() {
         if !in_class(s[i], c) {
             return i;
         }
-        i += 1;
     }
-    i
+    at.max(s.len())
 }
 
 // At most eight bytes as one number, the first highest.
-fn packed(s: &[u8], at: usize, n: usize) -> u64
-    requires { (n ≤ 8) × (at + n ≤ length s.now) }
-    ensures { result ≡ code_of (take n (drop at s.now)) }
+fn packed(word: &[u8]) -> u64
+    requires { length word.now ≤ 8 }
+    ensures { result ≡ code_of word.now }
 {
     let mut code: u64 = 0;
-    let mut i = 0;
-    while i < n {
-        code = code * 256 + (s[at + i] as u64);
-        i += 1;
+    for b in word {
+        code = code * 256 + (*b as u64);
     }
     code
 }
 
-fn no_name() -> Name
-    ensures { result ≡ (record { ok = false; long = false; code = 0; next = 0 }) }
+// Returns the name at a place.
+pub fn read_name(s: &[u8], at: usize) -> Option<NameAt>
+    ensures { result ≡ name_found s.now at }
 {
-    Name {
-        ok: false,
-        long: false,
-        code: 0,
-        next: 0,
+    if !is_letter(byte(s, at) as u64) {
+        return None;
     }
+    let end = run_end(s, at, Class::Alnum);
+    if end - at <= Name::BYTES {
+        return Some(NameAt {
+            long: false,
+            code: packed(&s[at..end]),
+            next: end,
+        });
+    }
+    Some(NameAt {
+        long: true,
+        code: 0,
+        next: end,
+    })
 }
 
 // Returns the name at a place, its number and the place after it; `ok` is false where there is none, and all else 0.
 pub fn name_at(s: &[u8], at: usize) -> Name
     ensures { result ≡ name_at s.now at }
 {
-    if !is_letter(byte(s, at) as u64) {
-        return no_name();
-    }
-    let end = run_end(s, at, Class::Alnum);
-    let n = end - at;
-    if n <= Name::BYTES {
-        let code = packed(s, at, n);
-        return Name {
-            ok: true,
+    match read_name(s, at) {
+        None => Name {
+            ok: false,
             long: false,
-            code: code,
-            next: end,
-        };
+            code: 0,
+            next: 0,
+        },
+        Some(n) => Name {
+            ok: true,
+            long: n.long,
+            code: n.code,
+            next: n.next,
+        },
     }
-    Name {
-        ok: true,
-        long: true,
-        code: 0,
-        next: end,
-    }
-}
-
-// The value of a digit, and 0 for a byte below the digits.
-fn digit_of(b: u8) -> u64
-    ensures { result ≡ b - 48 }
-{
-    if b < 48 {
-        return 0;
-    }
-    (b - 48) as u64
 }
 
 // A value with one digit more, up to what is far.
@@ -350,23 +409,16 @@ fn with_digit(v: u64, b: u8) -> u64
     requires { v ≤ far }
     ensures { result ≡ min (v * 10 + (b - 48)) far }
 {
-    let n = v * 10 + digit_of(b);
-    if n < 4294967296 {
-        return n;
-    }
-    4294967296
+    (v * 10 + (b.saturating_sub(48) as u64)).min(4294967296)
 }
 
 // The value of digits, up to what is far.
-fn value(s: &[u8], at: usize, n: usize) -> u64
-    requires { at + n ≤ length s.now }
-    ensures { result ≡ min (value_from 0 (take n (drop at s.now))) far }
+fn value(digits: &[u8]) -> u64
+    ensures { result ≡ min (value_from 0 digits.now) far }
 {
     let mut v: u64 = 0;
-    let mut i = 0;
-    while i < n {
-        v = with_digit(v, s[at + i]);
-        i += 1;
+    for b in digits {
+        v = with_digit(v, *b);
     }
     v
 }
@@ -385,51 +437,82 @@ fn numeral_end(s: &[u8], at: usize) -> usize
     at
 }
 
-fn no_number() -> Number
-    ensures { result ≡ (record { ok = false; value = pos 0; next = 0 }) }
-{
-    Number {
-        ok: false,
-        value: 0,
-        next: 0,
-    }
-}
-
-// The number after a minus: `-0` is none.
-fn negative_at(s: &[u8], at: usize) -> Number
-    ensures { result ≡ negative_at s.now at }
+// The value of the digits at a place, with no needless zero, and the place after them.
+fn natural(s: &[u8], at: usize) -> Option<NumberAt>
+    ensures { result ≡ natural_found s.now at }
 {
     let end = numeral_end(s, at);
     if end == at {
-        return no_number();
+        return None;
     }
-    let v = value(s, at, end - at);
-    if 0 < v {
-        return Number {
-            ok: true,
-            value: 0 - (v as i64),
-            next: end,
-        };
+    Some(NumberAt {
+        value: value(&s[at..end]) as i64,
+        next: end,
+    })
+}
+
+// Returns the number at a place: `-0` is none.
+pub fn read_number(s: &[u8], at: usize) -> Option<NumberAt>
+    ensures { result ≡ number_found s.now at }
+{
+    let Some(digits) = skip(s, at, b'-') else {
+        return natural(s, at);
+    };
+    let n = natural(s, digits)?;
+    if n.value == 0 {
+        return None;
     }
-    no_number()
+    Some(NumberAt {
+        value: 0 - n.value,
+        next: n.next,
+    })
 }
 
 // Returns the number at a place and the place after it; `ok` is false where there is none, and all else 0.
 pub fn number_at(s: &[u8], at: usize) -> Number
     ensures { result ≡ number_at s.now at }
 {
-    if byte(s, at) == b'-' {
-        return negative_at(s, at + 1);
+    match read_number(s, at) {
+        None => Number {
+            ok: false,
+            value: 0,
+            next: 0,
+        },
+        Some(n) => Number {
+            ok: true,
+            value: n.value,
+            next: n.next,
+        },
     }
-    let end = numeral_end(s, at);
-    if end == at {
-        return no_number();
+}
+
+impl NumberAt {
+    // Returns the number where it is within 32 bits.
+    pub fn kept(self) -> Option<i32>
+        ensures { result ≡ value_given self.value }
+    {
+        let v = self.value;
+        if v < Number::LEAST {
+            return None;
+        }
+        if Number::MOST < v {
+            return None;
+        }
+        Some(v as i32)
     }
-    let v = value(s, at, end - at);
-    Number {
-        ok: true,
-        value: v as i64,
-        next: end,
+
+    // Returns the number where it is a time.
+    pub fn time(self) -> Option<u32>
+        ensures { result ≡ time_given self.value }
+    {
+        let v = self.value;
+        if v < 0 {
+            return None;
+        }
+        if Number::MOST < v {
+            return None;
+        }
+        Some(v as u32)
     }
 }
 
@@ -443,22 +526,19 @@ impl Number {
     pub fn kept(self) -> Kept
         ensures { result ≡ kept_of self.value }
     {
-        let v = self.value;
-        if v < Number::LEAST {
-            return Kept {
+        let n = NumberAt {
+            value: self.value,
+            next: self.next,
+        };
+        match n.kept() {
+            None => Kept {
                 wide: true,
                 value: 0,
-            };
-        }
-        if Number::MOST < v {
-            return Kept {
-                wide: true,
-                value: 0,
-            };
-        }
-        Kept {
-            wide: false,
-            value: v as i32,
+            },
+            Some(v) => Kept {
+                wide: false,
+                value: v,
+            },
         }
     }
 
@@ -466,70 +546,86 @@ impl Number {
     pub fn time(self) -> Time
         ensures { result ≡ time_of self.value }
     {
-        let v = self.value;
-        if v < 0 {
-            return Time {
+        let n = NumberAt {
+            value: self.value,
+            next: self.next,
+        };
+        match n.time() {
+            None => Time {
                 beyond: true,
                 value: 0,
-            };
-        }
-        if Number::MOST < v {
-            return Time {
-                beyond: true,
-                value: 0,
-            };
-        }
-        Time {
-            beyond: false,
-            value: v as u32,
+            },
+            Some(t) => Time {
+                beyond: false,
+                value: t,
+            },
         }
     }
+}
+
+// Returns the word at a place, up to a space or a bracket, where it can be a keyword: it has at most eight bytes, the first not 0.
+pub fn read_word(s: &[u8], at: usize) -> Option<Word>
+    ensures { result ≡ word_found s.now at }
+{
+    if byte(s, at) == 0 {
+        return None;
+    }
+    let end = run_end(s, at, Class::Plain);
+    if end == at {
+        return None;
+    }
+    if Name::BYTES < end - at {
+        return None;
+    }
+    Some(Word {
+        code: packed(&s[at..end]),
+        next: end,
+    })
 }
 
 // Returns the word at a place, up to a space or a bracket, and the place after it; its code is 0 where it can be no keyword.
 pub fn word_at(s: &[u8], at: usize) -> Word
     ensures { WordAt s.now at result }
 {
-    let end = run_end(s, at, Class::Plain);
-    let n = end - at;
-    if byte(s, at) == 0 {
-        return Word { code: 0, next: end };
+    match read_word(s, at) {
+        None => Word {
+            code: 0,
+            next: run_end(s, at, Class::Plain),
+        },
+        Some(w) => w,
     }
-    if Name::BYTES < n {
-        return Word { code: 0, next: end };
+}
+
+// Returns the place after an opening bracket and the word of a code.
+pub fn opening(s: &[u8], at: usize, code: u64) -> Option<usize>
+    ensures { result ≡ opening_end s.now at code }
+{
+    let w = read_word(s, skip(s, at, b'(')?)?;
+    if w.code != code {
+        return None;
     }
-    let code = packed(s, at, n);
-    Word {
-        code: code,
-        next: end,
-    }
+    Some(w.next)
+}
+
+// Returns the place after a space, an opening bracket and the word of a code.
+pub fn part(s: &[u8], at: usize, code: u64) -> Option<usize>
+    ensures { result ≡ part_end s.now at code }
+{
+    opening(s, skip(s, at, b' ')?, code)
 }
 
 // Returns the place after an opening bracket and the word of a code; 0 means that they do not stand at the place.
 pub fn open_at(s: &[u8], at: usize, code: u64) -> usize
     ensures { result ≡ opened_at s.now at code }
 {
-    if code == 0 {
-        return 0;
-    }
-    if byte(s, at) != b'(' {
-        return 0;
-    }
-    let w = word_at(s, at + 1);
-    if w.code != code {
-        return 0;
-    }
-    w.next
+    opening(s, at, code).unwrap_or(0)
 }
 
 // Returns the place after a space, an opening bracket and the word of a code; 0 means that they do not stand at the place.
 pub fn part_at(s: &[u8], at: usize, code: u64) -> usize
     ensures { result ≡ part_at s.now at code }
 {
-    if byte(s, at) != b' ' {
-        return 0;
-    }
-    open_at(s, at + 1, code)
+    part(s, at, code).unwrap_or(0)
 }
 
 // Returns whether a text ends with a closing bracket that stands at a place.
@@ -565,17 +661,41 @@ impl Line {
         Line::DEPTH
     }
 
+    // Returns the place after the first word of a line of a verb.
+    pub fn after(s: &[u8], verb: u64) -> Result<usize, Unread>
+        ensures { result ≡ line_after s.now verb }
+    {
+        if Line::BYTES < s.len() {
+            return Err(Unread::TooLong);
+        }
+        opening(s, 0, verb).ok_or(Unread::Malformed)
+    }
+
     // Returns the place after the first word of a line of a verb; 0 means that it is too long (`long`) or has another.
     pub fn open(s: &[u8], verb: u64) -> Line
         ensures { result ≡ line_open s.now verb }
     {
-        if Line::BYTES < s.len() {
-            return Line { long: true, at: 0 };
+        match Line::after(s, verb) {
+            Ok(at) => Line {
+                long: false,
+                at: at,
+            },
+            Err(e) => Line {
+                long: e.long(),
+                at: 0,
+            },
         }
-        let at = open_at(s, 0, verb);
-        Line {
-            long: false,
-            at: at,
+    }
+}
+
+impl Unread {
+    // Returns whether the text is longer than a line may be.
+    pub fn long(self) -> bool
+        ensures { result ≡ too_long self }
+    {
+        match self {
+            Unread::TooLong => true,
+            Unread::Malformed => false,
         }
     }
 }

@@ -1,24 +1,9 @@
--- `entries_at`: what is read so far, joined to what is read on, is what is read from the first place on.
-use Rattle.items.proofs.EntryLists.{entries_ends}
+-- `entries_at`: by the list.
+use Rattle.items.proofs.Flags.{entries_flag_none, entries_flag_some}
 use Rattle.items.proofs.entries_at.Goals as goal
 
-pub loop-i-init : goal.loop-i-init
-loop-i-init c = search entries_ends
+pub returns-in-None : goal.returns-in-None
+returns-in-None c = entries_flag_none _ _ c.in-None.ensures
 
-pub returns-then-s-i-eq41 : goal.returns-then-s-i-eq41
-returns-then-s-i-eq41 c = search entries_ends
-
-pub returns-then-s-i-ne32 : goal.returns-then-s-i-ne32
-returns-then-s-i-ne32 c = search entries_ends
-
-pub returns-then-not-e : goal.returns-then-not-e
-returns-then-not-e c = search entries_ends
-
-pub loop-i-smaller : goal.loop-i-smaller
-loop-i-smaller c = search entries_ends
-
-pub loop-i-preserved : goal.loop-i-preserved
-loop-i-preserved c = search entries_ends
-
-pub returns : goal.returns
-returns c = search entries_ends
+pub returns-in-Some : goal.returns-in-Some
+returns-in-Some c = entries_flag_some _ _ c.in-Some.ensures

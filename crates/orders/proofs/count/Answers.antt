@@ -1,16 +1,15 @@
 -- `count`: the columns passed from the end and those that are left.
-use borrow.Author.Rules.{rules}
 use Rattle.orders.proofs.Turns.{count_ends}
 use Rattle.orders.proofs.count.Goals as goal
 
 pub loop-n-init : goal.loop-n-init
-loop-n-init c = (search rules, search count_ends)
+loop-n-init c = search count_ends
 
 pub returns-then-m-eq0 : goal.returns-then-m-eq0
 returns-then-m-eq0 c = search count_ends
 
 pub loop-n-preserved : goal.loop-n-preserved
-loop-n-preserved c = (search rules, search count_ends)
+loop-n-preserved c = search count_ends
 
 pub returns : goal.returns
 returns c = search count_ends

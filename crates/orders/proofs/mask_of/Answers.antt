@@ -1,16 +1,15 @@
 -- `mask_of`: the bits of the columns passed from the end, and those of the rest.
-use borrow.Author.Rules.{rules}
 use Rattle.orders.proofs.Turns.{mask_ends}
 use Rattle.orders.proofs.mask_of.Goals as goal
 
 pub loop-n-init : goal.loop-n-init
-loop-n-init c = (search rules, search mask_ends)
+loop-n-init c = search mask_ends
 
 pub returns-then-m-eq0 : goal.returns-then-m-eq0
 returns-then-m-eq0 c = search mask_ends
 
 pub loop-n-preserved : goal.loop-n-preserved
-loop-n-preserved c = (search rules, search mask_ends)
+loop-n-preserved c = search mask_ends
 
 pub returns : goal.returns
 returns c = search mask_ends

@@ -1,16 +1,15 @@
 -- `turned`: the order with the columns passed from the end, and those that are left.
-use borrow.Author.Rules.{rules}
-use Rattle.orders.proofs.Turns.{turned_on, turned_ends}
+use Rattle.orders.proofs.Turns.{turned_ends}
 use Rattle.orders.proofs.turned.Goals as goal
 
 pub loop-n-init : goal.loop-n-init
-loop-n-init c = (search rules, search turned_ends)
+loop-n-init c = search turned_ends
 
 pub returns-then-rest-eq0 : goal.returns-then-rest-eq0
 returns-then-rest-eq0 c = search turned_ends
 
 pub loop-n-preserved : goal.loop-n-preserved
-loop-n-preserved c = (search rules, turned_on _ _ _ _ _ c.loop-n.invariant.1 c.loop-n-test.true c.if-rest-eq0.false c.last.ensures c.with_code-m.ensures)
+loop-n-preserved c = search turned_ends
 
 pub returns : goal.returns
 returns c = search turned_ends

@@ -1,28 +1,10 @@
-use native.Mathlib.Omega.{arith}
-use Rattle.text.proofs.Places.{byte_inside}
-use Rattle.record_lines.proofs.Rows.{row_ends}
+use mathlib.Core.Path.{ap, ◌∙◌}
+use Rattle.record_lines.specs.Lines.{unread_row}
+use Rattle.record_lines.proofs.Rows.{row_unread, row_begun}
 use Rattle.record_lines.proofs.read_row.Goals as goal
 
-pub returns-then-at-eq0 : goal.returns-then-at-eq0
-returns-then-at-eq0 c = search row_ends
+pub returns-in-Ok : goal.returns-in-Ok
+returns-in-Ok c = c.unwrap_or.ensures ∙ rw (c.row_after.ensures, c.unread_row.ensures) (row_begun _ c.in-Ok.ensures)
 
-pub returns-then-byte-ne32 : goal.returns-then-byte-ne32
-returns-then-byte-ne32 c = search row_ends
-
-pub overflow_add-at : goal.overflow_add-at
-overflow_add-at c = let h = byte_inside c.args.s.now c.open-o.result.at c.byte.ensures c.if-byte-ne32.false (omega arith) in omega arith
-
-pub returns-then-not-n : goal.returns-then-not-n
-returns-then-not-n c = search row_ends
-
-pub returns-then-not-vs : goal.returns-then-not-vs
-returns-then-not-vs c = search row_ends
-
-pub returns-then-vs-eq0 : goal.returns-then-vs-eq0
-returns-then-vs-eq0 c = search row_ends
-
-pub returns-then-not-closes_at : goal.returns-then-not-closes_at
-returns-then-not-closes_at c = search row_ends
-
-pub returns : goal.returns
-returns c = search row_ends
+pub returns-in-Err : goal.returns-in-Err
+returns-in-Err c = row_unread _ c.in-Err.ensures (c.unread_row-in-Err.ensures ∙ ap unread_row c.long.ensures)

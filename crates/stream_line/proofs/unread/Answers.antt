@@ -4,4 +4,4 @@ use Rattle.stream_line.proofs.unread.Goals as goal
 
 pub returns : goal.returns
 unfolding unread_line
-returns c = rw c.unread-checks.ensures
+returns c = rw c.unread.ensures

@@ -1,18 +1,9 @@
--- `name_at`: by the first byte and the number of bytes.
-use Rattle.text.proofs.Names.{name_ends}
+-- `name_at`: by the name.
+use Rattle.text.proofs.Flags.{name_flag_none, name_flag_some}
 use Rattle.text.proofs.name_at.Goals as goal
 
-pub returns-then-not-is_letter : goal.returns-then-not-is_letter
-returns-then-not-is_letter c = search name_ends
+pub returns-in-None : goal.returns-in-None
+returns-in-None c = name_flag_none _ _ c.in-None.ensures
 
-pub overflow_sub-n : goal.overflow_sub-n
-overflow_sub-n c = search name_ends
-
-pub packed-code-requires : goal.packed-code-requires
-packed-code-requires c = search name_ends
-
-pub returns-then-n-le-BYTES : goal.returns-then-n-le-BYTES
-returns-then-n-le-BYTES c = search name_ends
-
-pub returns : goal.returns
-returns c = search name_ends
+pub returns-in-Some : goal.returns-in-Some
+returns-in-Some c = name_flag_some _ _ c.in-Some.ensures

@@ -3,21 +3,13 @@ use borrow.Author.Rules.{rules}
 use Rattle.text.specs.Words.{far}
 use Rattle.text.proofs.with_digit.Goals as goal
 
-pub overflow_mul-n : goal.overflow_mul-n
+pub overflow_mul-v : goal.overflow_mul-v
 unfolding far
-overflow_mul-n c = search rules
+overflow_mul-v c = search rules
 
-pub digit_of-requires : goal.digit_of-requires
+pub overflow_add-v : goal.overflow_add-v
 unfolding far
-digit_of-requires c = search rules
-
-pub overflow_add-n : goal.overflow_add-n
-unfolding far
-overflow_add-n c = search rules
-
-pub returns-then-n-lt4294967296 : goal.returns-then-n-lt4294967296
-unfolding far
-returns-then-n-lt4294967296 c = search rules
+overflow_add-v c = search rules
 
 pub returns : goal.returns
 unfolding far

@@ -1,9 +1,10 @@
 -- `Caller::with_line`: one law for each return.
-use Rattle.caller.proofs.Identifying.{identified_ends}
+use borrow.Author.Rules.{rules}
+use Rattle.caller.proofs.Identifying.{line_refused, line_accepted}
 use Rattle.caller.proofs.Caller.with_line.Goals as goal
 
-pub returns-in-Refused : goal.returns-in-Refused
-returns-in-Refused c = search identified_ends
+pub returns-in_err-result : goal.returns-in_err-result
+returns-in_err-result c = line_refused c.args.self _ c.read-l.ensures c.result.ensures c.in_err-result.was (search rules)
 
-pub returns-in-Accepted : goal.returns-in-Accepted
-returns-in-Accepted c = search identified_ends
+pub returns : goal.returns
+returns c = line_accepted c.args.self _ c.read-l.ensures c.result.ensures c.in_ok-result.was

@@ -1,6 +1,22 @@
+use mathlib.Core.Path.{◌≡◌, refl, sym, ◌∙◌}
+use borrow.Author.Rules.{rules}
+use Rattle.refusal.specs.Results.{result_of}
+use Rattle.refusal.specs.Checks.{first, table}
 use Rattle.ledger.specs.Calls.{clock_shown, clocked}
+use Rattle.refusal.proofs.Results.{given_refused, given_accepted}
+use Rattle.text.proofs.Found.{none_is}
 use Rattle.ledger.proofs.Ledger.clock_with.Goals as goal
+
+pub returns-in_err-result : goal.returns-in_err-result
+unfolding clocked clock_shown
+returns-in_err-result c =
+    let e : c.result.result ≡ result_of (first (table (clock_shown c.args.self c.args.t c.args.checks))) = c.result.ensures
+    ∙ rw (c.sound.ensures, none_is _ c.is_none.ensures, c.unwrap_or-time.ensures) refl in
+    given_refused _ _ (sym e ∙ c.in_err-result.was) (search rules)
 
 pub returns : goal.returns
 unfolding clocked clock_shown
-returns c = cc
+returns c =
+    let e : c.result.result ≡ result_of (first (table (clock_shown c.args.self c.args.t c.args.checks))) = c.result.ensures
+    ∙ rw (c.sound.ensures, none_is _ c.is_none.ensures, c.unwrap_or-time.ensures) refl in
+    given_accepted _ _ (sym e ∙ c.in_ok-result.was) (rw c.unwrap_or-time.ensures refl)

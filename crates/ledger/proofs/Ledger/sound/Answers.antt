@@ -17,38 +17,24 @@ four c = search rules
 pub returns-then-self-gt-TOP : goal.returns-then-self-gt-TOP
 returns-then-self-gt-TOP c = sym (sound_high _ c.if-self-gt-TOP.true)
 
-pub loop-s-init : goal.loop-s-init
-loop-s-init c =
+pub loop-n-init : goal.loop-n-init
+loop-n-init c =
     let rows = c.args.self.rows in
-    let l : length rows ≡ 4 = four (goal.at.loop-s-init c).Start in
-    (omega arith, l, every_places (λ n. leb n 128) 0 rows ∙ ap (λ n. every (λ i. leb (get_or rows i 0) 128) (count_from 0 n)) l)
+    every_places (λ n. leb n 128) 0 rows ∙ ap (λ n. every (λ i. leb (get_or rows i 0) 128) (count_from 0 n)) (four (goal.at.loop-n-init c).Start)
 
-pub offset_bounds-rows-s : goal.offset_bounds-rows-s
-offset_bounds-rows-s c = omega arith
-
-pub bounds-rows-s : goal.bounds-rows-s
-bounds-rows-s c = omega arith
-
-pub returns-then-rows-s-gt-ROWS : goal.returns-then-rows-s-gt-ROWS
-returns-then-rows-s-gt-ROWS c =
-    let l = c.loop-s in
+pub returns-then-n-gt-ROWS : goal.returns-then-n-gt-ROWS
+returns-then-n-gt-ROWS c =
+    let l = c.loop-n in
     let self = c.args.self in
-    sym (sound_rows self c.if-self-gt-TOP.false false (l.invariant.2 ∙ every_fails (λ i. leb (get_or self.rows i 0) 128) l.s 4 (omega arith) (lt-leb _ _ c.if-rows-s-gt-ROWS.true)))
+    sym (sound_rows self c.if-self-gt-TOP.false false (l.invariant ∙ every_fails (λ i. leb (get_or self.rows i 0) 128) l.n-index 4 (omega arith) (lt-leb _ _ c.if-n-gt-ROWS.true)))
 
-pub overflow_add-s : goal.overflow_add-s
-overflow_add-s c = omega arith
-
-pub loop-s-smaller : goal.loop-s-smaller
-loop-s-smaller c = omega arith
-
-pub loop-s-preserved : goal.loop-s-preserved
-loop-s-preserved c =
-    let l = c.loop-s in
-    let rows = c.args.self.rows in
-    (omega arith, l.invariant.1, l.invariant.2 ∙ every_past (λ i. leb (get_or rows i 0) 128) l.s 4 (omega arith) (le-leb _ _ c.if-rows-s-gt-ROWS.false))
+pub loop-n-preserved : goal.loop-n-preserved
+loop-n-preserved c =
+    let l = c.loop-n in
+    l.invariant ∙ every_past (λ i. leb (get_or c.args.self.rows i 0) 128) l.n-index 4 (omega arith) (le-leb _ _ c.if-n-gt-ROWS.false)
 
 pub returns : goal.returns
 returns c =
-    let l = c.loop-s in
+    let l = c.loop-n in
     let self = c.args.self in
-    sym (sound_rows self c.if-self-gt-TOP.false true (l.invariant.2 ∙ every_done (λ i. leb (get_or self.rows i 0) 128) l.s 4 (omega arith)))
+    sym (sound_rows self c.if-self-gt-TOP.false true (l.invariant ∙ every_done (λ i. leb (get_or self.rows i 0) 128) l.n-index 4 (omega arith)))

@@ -1,9 +1,9 @@
--- `Line::open`: by the length of the line.
-use Rattle.text.proofs.Keywords.{line_ends}
+-- `Line::open`: by the place.
+use Rattle.text.proofs.Flags.{line_flag_ok, line_flag_err}
 use Rattle.text.proofs.Line.open.Goals as goal
 
-pub returns-then-s-gt-BYTES : goal.returns-then-s-gt-BYTES
-returns-then-s-gt-BYTES c = search line_ends
+pub returns-in-Ok : goal.returns-in-Ok
+returns-in-Ok c = line_flag_ok _ _ c.in-Ok.ensures
 
-pub returns : goal.returns
-returns c = search line_ends
+pub returns-in-Err : goal.returns-in-Err
+returns-in-Err c = line_flag_err _ _ c.in-Err.ensures c.long.ensures
