@@ -263,6 +263,7 @@ pub fn less_rows(a: &[i32], p: u32, s: u32, b: &[i32], q: u32, t: u32, n: u32) -
 }
 
 // ---- the rows of a column and one value
+// As instances of the functions above, with the value in place of the second list, these were tried: they are 100 bytes longer on the chip, and pass places that no value has.
 
 // Returns whether a cell stands so to a value.
 fn value_at<T: Test>(values: &[i32], i: u32, v: Datum) -> bool
