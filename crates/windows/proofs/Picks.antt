@@ -5,6 +5,7 @@ use mathlib.Core.Bool.{Bool, true, false, not, cond}
 use Prim.Native.Nat.{ℕ, suc, ◌+◌, ◌*◌, ◌-◌, ◌≤◌, ◌<◌}
 use native.Mathlib.Omega.{arith}
 use lib.IntN.{ℤ, pos}
+use Rattle.std.specs.Prelude.{None}
 use lib.ListN.{length, set, length-set, length-append}
 use lib.Seq.{sets, length-sets, set_out}
 use borrow.Author.Tests.{not-true, not-false}
@@ -18,12 +19,12 @@ use Rattle.model.specs.Answers.{row_cells}
 use Rattle.figures.specs.declared.Answer.{Answer}
 use Rattle.figures.specs.Figures.{row_of, passing}
 use Rattle.windows.specs.Events.{figure_in, window_tally, events_from}
-use Rattle.windows.specs.Windows.{Timed, Sought, Runs, window_row, run_rows, answers_from, answers}
+use Rattle.windows.specs.Windows.{Timed, Found, Sought, Runs, window_row, run_rows, answers_from, answers}
 use Rattle.windows.specs.Lent.{events_sound, answers_in, passing_row, picked_rows, Behind}
 use Rattle.windows.specs.declared.Event.{Event}
 use Rattle.windows.specs.declared.Windows.{Windows}
 use Rattle.windows.specs.declared.Place.{Place}
-use Rattle.windows.proofs.Skips.{answers_all, sought_run, sought_none_left}
+use Rattle.windows.proofs.Skips.{answers_all, sought_run, skip_all}
 
 -- ---- two cells
 
@@ -197,13 +198,13 @@ module _ (w : Windows) (f : Fn) (ts cs : List ℕ) (ps : List ℤ) (ws ks : List
   unfolding rows_left
   rows_all = ap (picked_rows ws ks) (sym (answers_all w f ts cs ps))
 
-  pub rows_none : (k : ℕ) (p : Place) → Sought w ts k p → p.found ≡ false → rows_left k ≡ []
+  pub rows_none : (k : ℕ) → Sought w ts k None → rows_left k ≡ []
   unfolding rows_left
-  rows_none k p s e = ap (picked_rows ws ks) (sought_none_left w f ts cs ps k p s e) ∙ picked_none ws ks
+  rows_none k s = ap (picked_rows ws ks) (skip_all w f ts cs ps k s) ∙ picked_none ws ks
 
-  pub rows_next : (k : ℕ) (p : Place) → 1 ≤ w.offset → Timed w.clock ts → Sought w ts k p → p.found ≡ true → (n : ℕ) → p.window ≤ n → Runs w ts p.event p.window n → rows_left k ≡ run_left p.event p.window n ++ rows_left n
+  pub rows_next : (k : ℕ) (p : Place) → 1 ≤ w.offset → Timed w.clock ts → Found w ts k p → (n : ℕ) → p.window ≤ n → Runs w ts p.event p.window n → rows_left k ≡ run_left p.event p.window n ++ rows_left n
   unfolding rows_left
-  rows_next k p o t s e n l h = ap (picked_rows ws ks) (sought_run w f ts cs ps k p o t s e n l h) ∙ picked_append ws ks (run_rows w f ts cs ps p.event p.window n) (answers_from w f es n)
+  rows_next k p o t s n l h = ap (picked_rows ws ks) (sought_run w f ts cs ps k p o t s n l h) ∙ picked_append ws ks (run_rows w f ts cs ps p.event p.window n) (answers_from w f es n)
 
 -- ---- events that may be lent
 

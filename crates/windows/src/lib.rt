@@ -6,7 +6,7 @@ ghost use Rattle.std.proofs.lemmas.List.Edits.{sets};
 ghost use Rattle.syntax.specs.Grammar.{Fn, numbered_fn};
 ghost use Rattle.model.specs.Answers.{row_cells};
 ghost use Rattle.figures.specs.Figures.{row_of};
-ghost use Rattle.windows.specs.Events.{with_event, less_event, figure_in, event_at, events_from, window_tally};
+ghost use Rattle.windows.specs.Events.{merge, with_event, less_event, figure_in, event_at, events_from, window_tally};
 ghost use Rattle.windows.specs.Windows.{Bounded, Timed, Before, Ordered, Reached, Sought, Parts, Spans, Kept, Runs, most_events, answers, last_with, run_rows};
 ghost use Rattle.windows.specs.Lent.{events_sound, answers_in, picked_rows, Behind, Written};
 
@@ -24,7 +24,6 @@ pub struct Windows {
 // A window that has ended, with the place of its first event.
 #[derive(Clone, Copy)]
 pub struct Place {
-    pub found: bool,
     pub window: u32,
     pub event: u32,
 }
@@ -76,34 +75,21 @@ fn first_from(times: &[u32], i: u32, start: u32) -> u32
     ensures { Reached times.now i start result }
 {
     let n = times.len() as u32;
-    let mut j = i;
-    while j < n {
+    for j in i..n {
         if start <= times[j as usize] {
             return j;
         }
-        j += 1;
     }
-    j
-}
-
-// No such window.
-fn nowhere() -> Place
-    ensures { result.found ≡ false }
-{
-    Place {
-        found: false,
-        window: 0,
-        event: 0,
-    }
+    n
 }
 
 // The first window from number k on that has ended and holds an event. All events before place i are before window k.
-fn next(w: Windows, times: &[u32], k: u32, i: u32) -> Place
+fn next(w: Windows, times: &[u32], k: u32, i: u32) -> Option<Place>
     requires { Bounded w × Timed w.clock times.now × (length times.now ≤ most_events) × (k * w.offset ≤ w.clock + w.offset) × (i ≤ length times.now) × Before times.now i (k * w.offset) }
     ensures { Sought w times.now k result }
 {
     if w.clock < w.size {
-        return nowhere();
+        return None;
     }
     let mut window = k;
     let mut start = k * w.offset;
@@ -111,20 +97,19 @@ fn next(w: Windows, times: &[u32], k: u32, i: u32) -> Place
     while start <= w.clock - w.size {
         event = first_from(times, event, start);
         if times.len() <= event as usize {
-            return nowhere();
+            return None;
         }
         let t = times[event as usize];
         if t - start < w.size {
-            return Place {
-                found: true,
+            return Some(Place {
                 window: window,
                 event: event,
-            };
+            });
         }
         window = (t - w.size) / w.offset + 1;
         start = window * w.offset;
     }
-    nowhere()
+    None
 }
 
 // The event at place i.
@@ -140,40 +125,27 @@ fn event_at(times: &[u32], counts: &[u16], parts: &[i64], k: u32) -> Event
     }
 }
 
+// The least, the greatest or the sum of two parts, by the number of an aggregate.
+pub fn merged(f: u32, a: i64, b: i64) -> i64
+    requires { (nat_abs a ≤ 2 ^ 53) × (nat_abs b ≤ 2 ^ 45) }
+    ensures { result ≡ merge (numbered_fn f) a b }
+{
+    match f {
+        1 => a.min(b),
+        2 => a.max(b),
+        _ => a + b,
+    }
+}
+
 impl Tally {
     // One event more.
     fn with(self, f: u32, e: Event) -> Tally
         requires { (nat_abs self.part ≤ 2 ^ 53) × (nat_abs e.part ≤ 2 ^ 45) × (self.count ≤ 4194304) × (e.count ≤ 16384) }
         ensures { result ≡ with_event (numbered_fn f) self e }
     {
-        let count = self.count + e.count;
-        if f == 1 {
-            if self.part <= e.part {
-                return Tally {
-                    count: count,
-                    part: self.part,
-                };
-            }
-            return Tally {
-                count: count,
-                part: e.part,
-            };
-        }
-        if f == 2 {
-            if self.part <= e.part {
-                return Tally {
-                    count: count,
-                    part: e.part,
-                };
-            }
-            return Tally {
-                count: count,
-                part: self.part,
-            };
-        }
         Tally {
-            count: count,
-            part: self.part + e.part,
+            count: self.count + e.count,
+            part: merged(f, self.part, e.part),
         }
     }
 
@@ -237,11 +209,9 @@ fn trimmed(f: u32, times: &[u32], counts: &[u16], parts: &[i64], s: Span, i: u32
         return alone(times, counts, parts, i);
     }
     let mut t = s.tally;
-    let mut k = s.from;
-    while k < i {
+    for k in s.from..i {
         let e = event_at(times, counts, parts, k);
         t = t.without(e);
-        k += 1;
     }
     Span {
         from: i,
@@ -258,8 +228,7 @@ fn moved(f: u32, times: &[u32], counts: &[u16], parts: &[i64], s: Span, i: u32, 
     let l = trimmed(f, times, counts, parts, s, i);
     let mut t = l.tally;
     let n = times.len() as u32;
-    let mut j = l.to;
-    while j < n {
+    for j in l.to..n {
         let e = event_at(times, counts, parts, j);
         if end <= e.time {
             return Span {
@@ -269,11 +238,10 @@ fn moved(f: u32, times: &[u32], counts: &[u16], parts: &[i64], s: Span, i: u32, 
             };
         }
         t = t.with(f, e);
-        j += 1;
     }
     Span {
         from: i,
-        to: j,
+        to: n,
         tally: t,
     }
 }
@@ -349,16 +317,15 @@ fn count_windows(w: Windows, times: &[u32], room: u32) -> u32
     ensures { (f : Fn) (cs : List ℕ) (ps : List ℤ) → result ≡ min (length (answers w f (events_from times.now cs ps 0))) (suc room) }
 {
     let mut rows: u32 = 0;
-    let mut p = next(w, times, 0, 0);
-    while p.found {
-        let i = p.event as usize;
-        let last = last_with(w, times[i]);
+    let mut place = next(w, times, 0, 0);
+    while let Some(p) = place {
+        let last = last_with(w, times[p.event as usize]);
         let run = last - p.window + 1;
         if room - rows < run {
             return room + 1;
         }
         rows += run;
-        p = next(w, times, last + 1, p.event);
+        place = next(w, times, last + 1, p.event);
     }
     rows
 }
@@ -402,19 +369,17 @@ fn count_run(
 {
     let mut r = begun.rows;
     let mut span = begun.span;
-    let mut end = run.first * w.offset + w.size;
-    let last_end = run.last * w.offset + w.size;
-    while end <= last_end {
+    for window in run.first..run.last + 1 {
         if room < r {
             return Visited {
                 rows: r,
                 span: span,
             };
         }
+        let end = window * w.offset + w.size;
         span = moved(w.number, times, counts, parts, span, run.event, end);
         let a = answer_of(w.number, span, end);
         r = counted(words, picks, a, r);
-        end += w.offset;
     }
     Visited {
         rows: r,
@@ -436,13 +401,12 @@ fn count_picked(
     ensures { result ≡ min (length (picked_rows words.now picks.now (answers w (numbered_fn w.number) (events_from times.now counts.now parts.now 0)))) (suc room) }
 {
     let mut r = no_rows();
-    let mut p = next(w, times, 0, 0);
-    while p.found {
+    let mut place = next(w, times, 0, 0);
+    while let Some(p) = place {
         if room < r.rows {
             return r.rows;
         }
-        let i = p.event as usize;
-        let last = last_with(w, times[i]);
+        let last = last_with(w, times[p.event as usize]);
         r = count_run(
             w,
             times,
@@ -458,7 +422,7 @@ fn count_picked(
             },
             r,
         );
-        p = next(w, times, last + 1, p.event);
+        place = next(w, times, last + 1, p.event);
     }
     r.rows
 }
@@ -500,13 +464,11 @@ fn put_run(
 {
     let mut r = begun.rows;
     let mut span = begun.span;
-    let mut end = run.first * w.offset + w.size;
-    let last_end = run.last * w.offset + w.size;
-    while end <= last_end {
+    for window in run.first..run.last + 1 {
+        let end = window * w.offset + w.size;
         span = moved(w.number, times, counts, parts, span, run.event, end);
         let a = answer_of(w.number, span, end);
         r = put(words, picks, a, cells, at, r);
-        end += w.offset;
     }
     Visited {
         rows: r,
@@ -529,10 +491,9 @@ fn write_rows(
     ensures { Written (picked_rows words.now picks.now (answers w (numbered_fn w.number) (events_from times.now counts.now parts.now 0))) cells.old at cells.new result }
 {
     let mut r = no_rows();
-    let mut p = next(w, times, 0, 0);
-    while p.found {
-        let i = p.event as usize;
-        let last = last_with(w, times[i]);
+    let mut place = next(w, times, 0, 0);
+    while let Some(p) = place {
+        let last = last_with(w, times[p.event as usize]);
         r = put_run(
             w,
             times,
@@ -549,7 +510,7 @@ fn write_rows(
             },
             r,
         );
-        p = next(w, times, last + 1, p.event);
+        place = next(w, times, last + 1, p.event);
     }
     r.rows
 }

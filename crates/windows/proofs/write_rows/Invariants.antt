@@ -11,12 +11,12 @@ use Rattle.windows.specs.Lent.{picked_rows}
 use Rattle.windows.proofs.Picks.{rows_left}
 use Rattle.windows.proofs.write_rows.Given as goal
 
-abbrev pub invariant-loop-p : goal.invariant-loop-p
-invariant-loop-p l =
-    (k : ℕ) × Sought l.w l.times k l.p × (l.r.rows ≤ k) × (length l.cells ≡ length l.initial.cells)
+abbrev pub invariant-loop-place : goal.invariant-loop-place
+invariant-loop-place l =
+    (k : ℕ) × Sought l.w l.times k l.place × (l.r.rows ≤ k) × (length l.cells ≡ length l.initial.cells)
     × (l.r.rows + length (rows_left l.w (numbered_fn l.w.number) l.times l.counts l.parts l.words l.picks k) ≡ length (picked_rows l.words l.picks (answers l.w (numbered_fn l.w.number) (events_from l.times l.counts l.parts 0))))
     × (sets l.cells (l.at + l.r.rows * 2) (gather row_cells (rows_left l.w (numbered_fn l.w.number) l.times l.counts l.parts l.words l.picks k)) ≡ sets l.initial.cells l.at (gather row_cells (picked_rows l.words l.picks (answers l.w (numbered_fn l.w.number) (events_from l.times l.counts l.parts 0)))))
     × Kept l.w (numbered_fn l.w.number) l.times l.counts l.parts k l.r.span
 
-abbrev pub decreases-loop-p : goal.decreases-loop-p
-decreases-loop-p l = ahead l.w l.p
+abbrev pub decreases-loop-place : goal.decreases-loop-place
+decreases-loop-place l = ahead l.w l.place
