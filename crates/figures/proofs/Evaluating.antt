@@ -181,9 +181,6 @@ module _ (ws : List ℕ) (stop j : ℕ) where
   unfolding first_cond
   lead_made h f = record { within = f.low; first = ap first_cond (f.items h) }
 
-  pub lead_within : {e : ℕ} → Leading ws stop j e → e ≤ j
-  lead_within l = l.within
-
 -- ---- conditions by their heads
 
 pub pass_none : (ws : List ℕ) (k : ℕ) (a : Answer) → k ≡ 0 → true ≡ meets a (cond_of ws k)
