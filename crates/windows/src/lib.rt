@@ -1,14 +1,15 @@
 // Figures of windows over events in order of time: only windows that have ended and hold an event are visited, and the tally moves with them.
 #![tactic(auto)]
 
-ghost use Rattle.std.specs.Prelude.{◌≡◌, true, false, List, ◌∷◌, [], ℕ, suc, ◌+◌, ◌*◌, ◌^◌, ◌≤◌, ◌<◌, min, max, ℤ, nat_abs, length, get_or};
+ghost use Rattle.std.specs.Prelude.{◌≡◌, Bool, true, false, List, ◌∷◌, [], ℕ, ltb, suc, ◌+◌, ◌*◌, ◌^◌, ◌≤◌, ◌<◌, min, max, ℤ, nat_abs, length, get_or};
 ghost use Rattle.std.proofs.lemmas.List.Edits.{sets};
 ghost use Rattle.syntax.specs.Grammar.{Fn, numbered_fn};
+ghost use Rattle.model.specs.Queries.{Row};
 ghost use Rattle.model.specs.Answers.{row_cells};
 ghost use Rattle.figures.specs.Figures.{row_of};
 ghost use Rattle.windows.specs.Events.{merge, with_event, less_event, figure_in, event_at, events_from, window_tally};
 ghost use Rattle.windows.specs.Windows.{Bounded, Timed, Before, Ordered, Reached, Sought, Parts, Spans, Kept, Runs, most_events, answers, last_with, run_rows};
-ghost use Rattle.windows.specs.Lent.{events_sound, answers_in, picked_rows, Behind, Written};
+ghost use Rattle.windows.specs.Lent.{events_sound, answers_in, picked_rows, Counted, Behind, Written, SinkLaws};
 
 use figures::Answer;
 
@@ -275,27 +276,71 @@ fn store(cells: &mut [i64], at: usize, a: Answer)
     cells[at] = a.end as i64;
 }
 
-// An answer row behind those before it, where the conditions hold; how many there are then.
-fn put(words: &[u32], picks: &[u32], a: Answer, cells: &mut [i64], at: u32, rows: u32) -> u32
-    requires { rows < 2 ^ 31 }
-    ensures { Behind (picked_rows words.now picks.now (row_of a ∷ [])) cells.old at rows cells.new result }
-{
-    if !figures::passes_all(words, picks, a) {
-        return rows;
-    }
-    store(cells, at as usize + rows as usize * 2, a);
-    rows + 1
+// Where the answer rows go that pass the conditions that end at some places of words: counted up to a room, or written.
+trait Sink {
+    ghost full: { Self → ℕ → Bool };
+
+    ghost taken: { Self → List Row → List ℤ → ℕ → List ℤ → ℕ → Type 0 };
+
+    // Whether no more rows are wanted behind some.
+    fn full(&self, rows: u32) -> bool
+        ensures { result ≡ full self.now rows };
+
+    // One answer row more behind some, where the conditions hold; how many there are then.
+    fn put(&self, a: Answer, cells: &mut [i64], rows: u32) -> u32
+        requires { (rows < 2 ^ 31) × (full self.now rows ≡ false) }
+        ensures { taken self.now (row_of a ∷ []) cells.old rows cells.new result };
 }
 
-// One answer row more, where the conditions hold.
-fn counted(words: &[u32], picks: &[u32], a: Answer, rows: u32) -> u32
-    requires { rows < 2 ^ 31 }
-    ensures { result ≡ rows + length (picked_rows words.now picks.now (row_of a ∷ [])) }
-{
-    if !figures::passes_all(words, picks, a) {
-        return rows;
+// Rows that are counted until they are more than a room.
+#[derive(Clone, Copy)]
+struct Counter<'a> {
+    words: &'a [u32],
+    picks: &'a [u32],
+    room: u32,
+}
+
+impl<'a> Sink for Counter<'a> {
+    ghost full = { λ s n. ltb s.room n };
+
+    ghost taken = { λ s xs c n c' r. Counted (picked_rows s.words.now s.picks.now xs) s.room c n c' r };
+
+    fn full(&self, rows: u32) -> bool {
+        self.room < rows
     }
-    rows + 1
+
+    fn put(&self, a: Answer, cells: &mut [i64], rows: u32) -> u32 {
+        if !figures::passes_all(self.words, self.picks, a) {
+            return rows;
+        }
+        rows + 1
+    }
+}
+
+// Rows that are written behind one another, from a place on.
+#[derive(Clone, Copy)]
+struct Writer<'a> {
+    words: &'a [u32],
+    picks: &'a [u32],
+    at: u32,
+}
+
+impl<'a> Sink for Writer<'a> {
+    ghost full = { λ s n. false };
+
+    ghost taken = { λ s xs c n c' r. Behind (picked_rows s.words.now s.picks.now xs) c s.at n c' r };
+
+    fn full(&self, _rows: u32) -> bool {
+        false
+    }
+
+    fn put(&self, a: Answer, cells: &mut [i64], rows: u32) -> u32 {
+        if !figures::passes_all(self.words, self.picks, a) {
+            return rows;
+        }
+        store(cells, self.at as usize + rows as usize * 2, a);
+        rows + 1
+    }
 }
 
 // The last window that has ended and begins by a time.
@@ -352,25 +397,24 @@ struct Stretch {
     last: u32,
 }
 
-// How many answer rows pass with those of a run of windows; one more than the room where they are more.
-fn count_run(
+// The answer rows of a run of windows, behind those before them; how many there are then.
+fn visit_run<S: Sink>(
     w: Windows,
     times: &[u32],
     counts: &[u16],
     parts: &[i64],
-    words: &[u32],
-    picks: &[u32],
-    room: u32,
+    sink: &S,
+    cells: &mut [i64],
     run: Stretch,
     begun: Visited,
 ) -> Visited
-    requires { Bounded w × Timed w.clock times.now × Parts times.now counts.now parts.now × (begun.rows ≤ room) × (begun.rows ≤ run.first) × (run.first ≤ run.last) × Runs w times.now run.event run.first (run.last + 1) × Kept w (numbered_fn w.number) times.now counts.now parts.now run.first begun.span }
-    ensures { (result.rows ≡ min (begun.rows + length (picked_rows words.entry.now picks.entry.now (run_rows w (numbered_fn w.number) times.entry.now counts.entry.now parts.entry.now run.event run.first (run.last + 1)))) (suc room)) × Kept w (numbered_fn w.number) times.entry.now counts.entry.now parts.entry.now (run.last + 1) result.span }
+    requires { Bounded w × Timed w.clock times.now × Parts times.now counts.now parts.now × (begun.rows ≤ run.first) × (run.first ≤ run.last) × Runs w times.now run.event run.first (run.last + 1) × Kept w (numbered_fn w.number) times.now counts.now parts.now run.first begun.span × SinkLaws S.full S.taken }
+    ensures { S.taken sink.now (run_rows w (numbered_fn w.number) times.entry.now counts.entry.now parts.entry.now run.event run.first (run.last + 1)) cells.entry.now begun.rows cells.exit.now result.rows × Kept w (numbered_fn w.number) times.entry.now counts.entry.now parts.entry.now (run.last + 1) result.span }
 {
     let mut r = begun.rows;
     let mut span = begun.span;
     for window in run.first..run.last + 1 {
-        if room < r {
+        if sink.full(r) {
             return Visited {
                 rows: r,
                 span: span,
@@ -379,7 +423,7 @@ fn count_run(
         let end = window * w.offset + w.size;
         span = moved(w.number, times, counts, parts, span, run.event, end);
         let a = answer_of(w.number, span, end);
-        r = counted(words, picks, a, r);
+        r = sink.put(a, cells, r);
     }
     Visited {
         rows: r,
@@ -387,41 +431,31 @@ fn count_run(
     }
 }
 
-// How many of them pass; one more than the room where they are more.
-fn count_picked(
+// The answer rows of all windows; how many there are.
+fn visit<S: Sink>(
     w: Windows,
     times: &[u32],
     counts: &[u16],
     parts: &[i64],
-    words: &[u32],
-    picks: &[u32],
-    room: u32,
+    sink: &S,
+    cells: &mut [i64],
 ) -> u32
-    requires { Bounded w × Timed w.clock times.now × Parts times.now counts.now parts.now }
-    ensures { result ≡ min (length (picked_rows words.now picks.now (answers w (numbered_fn w.number) (events_from times.now counts.now parts.now 0)))) (suc room) }
+    requires { Bounded w × Timed w.clock times.now × Parts times.now counts.now parts.now × SinkLaws S.full S.taken }
+    ensures { S.taken sink.now (answers w (numbered_fn w.number) (events_from times.now counts.now parts.now 0)) cells.old 0 cells.new result }
 {
     let mut r = no_rows();
     let mut place = next(w, times, 0, 0);
     while let Some(p) = place {
-        if room < r.rows {
+        if sink.full(r.rows) {
             return r.rows;
         }
         let last = last_with(w, times[p.event as usize]);
-        r = count_run(
-            w,
-            times,
-            counts,
-            parts,
-            words,
-            picks,
-            room,
-            Stretch {
-                event: p.event,
-                first: p.window,
-                last: last,
-            },
-            r,
-        );
+        let run = Stretch {
+            event: p.event,
+            first: p.window,
+            last: last,
+        };
+        r = visit_run(w, times, counts, parts, sink, cells, run, r);
         place = next(w, times, last + 1, p.event);
     }
     r.rows
@@ -443,76 +477,12 @@ pub fn count(
     if picks.len() == 0 {
         return count_windows(w, times, room);
     }
-    count_picked(w, times, counts, parts, words, picks, room)
-}
-
-// The answer rows that pass of a run of windows, behind those before them; how many there are then.
-fn put_run(
-    w: Windows,
-    times: &[u32],
-    counts: &[u16],
-    parts: &[i64],
-    words: &[u32],
-    picks: &[u32],
-    cells: &mut [i64],
-    at: u32,
-    run: Stretch,
-    begun: Visited,
-) -> Visited
-    requires { Bounded w × Timed w.clock times.now × Parts times.now counts.now parts.now × (begun.rows ≤ run.first) × (run.first ≤ run.last) × Runs w times.now run.event run.first (run.last + 1) × Kept w (numbered_fn w.number) times.now counts.now parts.now run.first begun.span }
-    ensures { Behind (picked_rows words.entry.now picks.entry.now (run_rows w (numbered_fn w.number) times.entry.now counts.entry.now parts.entry.now run.event run.first (run.last + 1))) cells.entry.now at begun.rows cells.exit.now result.rows × Kept w (numbered_fn w.number) times.entry.now counts.entry.now parts.entry.now (run.last + 1) result.span }
-{
-    let mut r = begun.rows;
-    let mut span = begun.span;
-    for window in run.first..run.last + 1 {
-        let end = window * w.offset + w.size;
-        span = moved(w.number, times, counts, parts, span, run.event, end);
-        let a = answer_of(w.number, span, end);
-        r = put(words, picks, a, cells, at, r);
-    }
-    Visited {
-        rows: r,
-        span: span,
-    }
-}
-
-// The cells of those that pass.
-fn write_rows(
-    w: Windows,
-    times: &[u32],
-    counts: &[u16],
-    parts: &[i64],
-    words: &[u32],
-    picks: &[u32],
-    cells: &mut [i64],
-    at: u32,
-) -> u32
-    requires { Bounded w × Timed w.clock times.now × Parts times.now counts.now parts.now }
-    ensures { Written (picked_rows words.now picks.now (answers w (numbered_fn w.number) (events_from times.now counts.now parts.now 0))) cells.old at cells.new result }
-{
-    let mut r = no_rows();
-    let mut place = next(w, times, 0, 0);
-    while let Some(p) = place {
-        let last = last_with(w, times[p.event as usize]);
-        r = put_run(
-            w,
-            times,
-            counts,
-            parts,
-            words,
-            picks,
-            cells,
-            at,
-            Stretch {
-                event: p.event,
-                first: p.window,
-                last: last,
-            },
-            r,
-        );
-        place = next(w, times, last + 1, p.event);
-    }
-    r.rows
+    let counter = Counter {
+        words: words,
+        picks: picks,
+        room: room,
+    };
+    visit(w, times, counts, parts, &counter, &mut [])
 }
 
 // Returns how many answer rows pass the conditions that end at some places of the words.
@@ -530,5 +500,10 @@ pub fn write(
     requires { events_sound w times.now counts.now parts.now ≡ true }
     ensures { Written (picked_rows words.now picks.now (answers_in (numbered_fn w.number) w times.now counts.now parts.now)) cells.old at cells.new result }
 {
-    write_rows(w, times, counts, parts, words, picks, cells, at)
+    let writer = Writer {
+        words: words,
+        picks: picks,
+        at: at,
+    };
+    visit(w, times, counts, parts, &writer, cells)
 }
