@@ -127,6 +127,7 @@ fn event_at(times: &[u32], counts: &[u16], parts: &[i64], k: u32) -> Event
 }
 
 // The least, the greatest or the sum of two parts, by the number of an aggregate.
+// The number is tested here and is no type of its own: each aggregate would have a copy of all walks that call this, which is no plainer.
 pub fn merged(f: u32, a: i64, b: i64) -> i64
     requires { (nat_abs a ≤ 2 ^ 53) × (nat_abs b ≤ 2 ^ 45) }
     ensures { result ≡ merge (numbered_fn f) a b }
