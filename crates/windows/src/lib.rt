@@ -70,6 +70,22 @@ pub struct Visited {
     pub span: Span,
 }
 
+// Where the answer rows go that pass the conditions that end at some places of words: counted up to a room, or written.
+trait Sink {
+    ghost full: { Self → ℕ → Bool };
+
+    ghost taken: { Self → List Row → List ℤ → ℕ → List ℤ → ℕ → Type 0 };
+
+    // Whether no more rows are wanted behind some.
+    fn full(&self, rows: u32) -> bool
+        ensures { result ≡ full self.now rows };
+
+    // One answer row more behind some, where the conditions hold; how many there are then.
+    fn put(&self, a: Answer, cells: &mut [i64], rows: u32) -> u32
+        requires { (rows < 2 ^ 31) × (full self.now rows ≡ false) }
+        ensures { taken self.now (row_of a ∷ []) cells.old rows cells.new result };
+}
+
 // The first place from i on whose time is not below `start`.
 fn first_from(times: &[u32], i: u32, start: u32) -> u32
     requires { (i ≤ length times.now) × (length times.now ≤ most_events) }
@@ -275,22 +291,6 @@ fn store(cells: &mut [i64], at: usize, a: Answer)
         return;
     }
     cells[at] = a.end as i64;
-}
-
-// Where the answer rows go that pass the conditions that end at some places of words: counted up to a room, or written.
-trait Sink {
-    ghost full: { Self → ℕ → Bool };
-
-    ghost taken: { Self → List Row → List ℤ → ℕ → List ℤ → ℕ → Type 0 };
-
-    // Whether no more rows are wanted behind some.
-    fn full(&self, rows: u32) -> bool
-        ensures { result ≡ full self.now rows };
-
-    // One answer row more behind some, where the conditions hold; how many there are then.
-    fn put(&self, a: Answer, cells: &mut [i64], rows: u32) -> u32
-        requires { (rows < 2 ^ 31) × (full self.now rows ≡ false) }
-        ensures { taken self.now (row_of a ∷ []) cells.old rows cells.new result };
 }
 
 // Rows that are counted until they are more than a room.
