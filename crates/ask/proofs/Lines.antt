@@ -6,15 +6,15 @@ use mathlib.Core.Option.{none, some}
 use Prim.Native.Nat.{ℕ, zero, suc, ◌-◌, ◌≤◌, ◌<◌}
 use native.Mathlib.Omega.{arith}
 use lib.IntN.{ℤ, pos, negsuc, nat_abs}
-use lib.Signed.{lt_z, non_neg}
-use lib.Dec.{T, leb}
+use lib.Dec.{leb}
 use lib.ListN.{length}
 use mir.Syntax.{w64}
-use mir.Val.{Fits, SFits, to_z, of_z}
-use mir.Facts.{Fits-nat_abs}
+use mir.Val.{SFits, to_z, of_z}
 use mir.ValLaws.{to_z-of_z}
-use borrow.Author.Rules.{sfits_of}
-use borrow.Author.Tests.{lt-ltb, le-ltb, leb-true, leb-false, ltb-true, not-true, not-false}
+use Rattle.std.specs.Prelude.{Result, Ok, Err}
+use Rattle.std.specs.Result.{OkIff, result_unwrap_or}
+use Rattle.std.specs.Int.{FitsUnsignedBits}
+use borrow.Author.Tests.{lt-ltb, le-ltb, leb-true, leb-false, not-true, not-false}
 use Rattle.refusal.specs.Checks.{refuse, first}
 use Rattle.refusal.specs.declared.Refusal.{Refusal}
 use Rattle.refusal.specs.declared.Refusal.TheVariants.{NoRoute, ManyRoutes, NoRoom}
@@ -43,37 +43,16 @@ use Rattle.ask.specs.Lines.{place_of, text_at, print_checks, print_reply, Printa
 
 -- ---- a number that is not below 0
 
-module _ (z : ℤ) (fits : SFits w64 z) where
-  back : to_z w64 (of_z w64 z) ≡ z
-  back = to_z-of_z w64 z fits
+pub natural_of : {E : Type 0} (z : ℤ) → SFits w64 z → (r : Result ℕ E) → OkIff r (FitsUnsignedBits 64 z) (nat_abs z) → result_unwrap_or r 0 ≡ natural z
+unfolding natural
+natural_of (pos n) f (Ok x) h = h.1
+natural_of (pos n) f (Err e) h = absurd (h (let s = f.sfits in omega arith))
+natural_of (negsuc n) f (Ok x) h = absurd h.0
+natural_of (negsuc n) f (Err e) h = refl
 
-  low : (z : ℤ) → lt_z z (pos 0) ≡ true → 0 ≡ natural z
-  unfolding natural
-  low (pos n) e = absurd (let h = ltb-true n 0 e in omega arith)
-  low (negsuc n) e = refl
-
-  high : (z : ℤ) → lt_z z (pos 0) ≡ false → T (non_neg z) × (nat_abs z ≡ natural z)
-  unfolding natural
-  high (pos n) e = (tt, refl)
-  high (negsuc n) e = absurd (let k : ◌≡◌ {A = ℕ} 0 1 = cc in omega arith)
-
-  pub natural_low : lt_z (to_z w64 (of_z w64 z)) (pos 0) ≡ true → 0 ≡ natural z
-  natural_low e = low z (rw back at e)
-
-  pub natural_sign : lt_z (to_z w64 (of_z w64 z)) (pos 0) ≡ false → T (non_neg (to_z w64 (of_z w64 z)))
-  natural_sign e = (high (to_z w64 (of_z w64 z)) e).0
-
-  pub natural_fits : Fits w64 (nat_abs (to_z w64 (of_z w64 z)))
-  natural_fits = rw back (Fits-nat_abs tt fits)
-
-  -- of a number that was handed on
-  pub natural_read : {v : ℕ} → v ≡ natural (to_z w64 (of_z w64 z)) → v ≡ natural z
-  natural_read e = e ∙ ap natural back
-
-  pub natural_here : lt_z (to_z w64 (of_z w64 z)) (pos 0) ≡ false → nat_abs (to_z w64 (of_z w64 z)) ≡ natural z
-  natural_here e = rw back (high z (rw back at e)).1
-
-pub ruleset natural_ends = (natural_low, natural_sign, natural_fits, natural_here, sfits_of)
+-- of a number that was handed on
+pub natural_read : (z : ℤ) → SFits w64 z → {v : ℕ} → v ≡ natural (to_z w64 (of_z w64 z)) → v ≡ natural z
+natural_read z fits e = e ∙ ap natural (to_z-of_z w64 z fits)
 
 -- ---- the place of a number
 
