@@ -207,23 +207,16 @@ module _ (ok : Node → Bool) (ws : List ℕ) where
           let z : node_sound ok ws k (node_at ws k) ≡ false = ap (node_sound ok ws k) (sym e) ∙ sym p ∙ not-true x f in
           sym (inv ∙ all_step k k h ∙ ap (λ b. b && all_sound k ok ws (k - node_words (node_at ws k))) z)
 
-      module _ (f : not x ≡ false) {size : ℕ} (d : size ≡ node_words m) where
-        on : left_sound n ≡ left_sound (k - size)
-        on =
+      module _ {size j : ℕ} (d : size ≡ node_words m) (l : j ≡ k - size) where
+        pub all_on : not x ≡ false → left_sound n ≡ left_sound j
+        all_on f =
             let z : node_sound ok ws k (node_at ws k) ≡ true = ap (node_sound ok ws k) (sym e) ∙ sym p ∙ not-false x f in
-            let y : node_words (node_at ws k) ≡ size = ap node_words (sym e) ∙ sym d in
-            inv ∙ all_before k h z ∙ ap (λ w. left_sound (k - w)) y
+            inv ∙ all_before k h z ∙ ap left_sound (ap (λ w. k - w) (ap node_words (sym e) ∙ sym d) ∙ sym l)
 
-        pub all_front : k < size → true ≡ left_sound n
-        all_front l = sym (on ∙ all_none (suc (k - size)) (k - size) (omega arith))
-
-        pub all_on : size ≤ k → left_sound n ≡ left_sound (k - size)
-        all_on l = on
-
-        pub all_falls : k - size < k
+        pub all_falls : j < k
         all_falls = omega (arith, words_some m)
 
-pub ruleset all_ends = (all_end, all_stop, all_front, all_falls, all_on)
+pub ruleset all_ends = (all_end, all_stop, all_falls, all_on)
 
 module _ (mask : ℕ) (ws : List ℕ) (n : ℕ) {x : Bool} (p : x ≡ all_sound (suc n) (terms_sound mask) ws n) where
   pub nodes_stop : not x ≡ true → false ≡ nodes_sound mask ws n

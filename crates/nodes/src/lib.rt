@@ -241,11 +241,7 @@ fn all_sound(words: &[u32], n: usize, mask: u32) -> bool
         if !node_sound(words, k, node, mask) {
             return false;
         }
-        let size = node_words(node);
-        if k < size {
-            return true;
-        }
-        k = k - size;
+        k = k.saturating_sub(node_words(node));
     }
     true
 }
