@@ -1,19 +1,22 @@
 -- What stands for a side of a comparison: a column of either row, the time, a number or a profile entry.
 use mathlib.Core.Path.{◌≡◌, refl, sym, ap, ◌∙◌}
-use mathlib.Core.List.{List, ◌++◌, map}
+use mathlib.Core.List.{List, [], ◌++◌, map}
 use mathlib.Core.Bool.{Bool, true, false, ◌&&◌, cond}
 use Prim.Native.Nat.{ℕ, zero, suc, ◌+◌, ◌*◌, ◌-◌, ◌/◌, ◌%◌, ◌<◌, ◌≤◌, min, max}
 use native.Mathlib.Omega.{arith}
 use lib.IntN.{ℤ, pos, negsuc, ◌-ℤ◌}
 use lib.Dec.{ltb, eqb, ltb→lt, eqb→eq}
-use lib.ListN.{length, get_or}
+use lib.ListN.{length, get_or, drop, drop_of_length-le}
+use lib.Seq.{drop-cons}
+use native.Mathlib.Numerals.{add-one}
+use Rattle.std.specs.Simd.{first_chunks}
+use Rattle.nodes.proofs.Profiles.{entry_of, profile_pairs}
 use mir.Syntax.{w32}
 use mir.Val.{of_z, to_z, Fits, SFits}
 use mir.ValLaws.{to_z-of_z, to_z_pos}
 use borrow.Author.Tests.{eq-eqb, ne_eqb, lt-ltb, le-ltb, le-leb, lt-leb}
 use Rattle.lists.specs.Lists.{count_from, same_list}
 use Rattle.lists.proofs.Laws.{T_true, true_T, same_list_refl, parts}
-use Rattle.lists.proofs.Counting.{count_left, count_done}
 use Rattle.syntax.specs.Grammar.{Entry}
 use Rattle.syntax.specs.Limits.{max_streams, max_columns, max_rows, top}
 use Rattle.model.specs.Queries.{Col, col, figure, same_col, Term, column, Row}
@@ -26,7 +29,7 @@ use Rattle.nodes.specs.Nodes.{unbiased, coded_term}
 use Rattle.cells.proofs.Shown.{value_left, value_own}
 use Rattle.selection.specs.declared.Origin.{Origin}
 use Rattle.selection.specs.declared.Scope.{Scope}
-use Rattle.selection.specs.Scopes.{columns_in, row_at, paired, scope_columns, scope_row, entry_at, profile_in}
+use Rattle.selection.specs.Scopes.{columns_in, row_at, paired, scope_columns, scope_row, profile_in}
 use Rattle.selection.specs.Evaluating.{left_time, time_at, side_value, Stands, left_named}
 
 -- ---- the value of what is no column among columns numbered from a on, with others after them
@@ -204,28 +207,27 @@ pub ruleset number_ends = (negative_fits, number_negative, number_positive)
 
 -- ---- profile entries
 
-module _ (ps : List ℕ) (n v : ℕ) where
-  -- the value by the entries from number i on
-  abbrev pub value_from : ℕ → ℤ
-  value_from i = entry_value (map (entry_at ps) (count_from i (n - i))) (name_of v)
+-- the value of a name among pairs of numbers
+abbrev pub value_of : ℕ → List (List ℕ) → ℤ
+value_of v es = entry_value (map entry_of es) (name_of v)
 
-  pub entry_start : n ≡ length ps / 2 → entry_value (profile_in ps) (name_of v) ≡ value_from 0
-  unfolding profile_in
-  entry_start h = let e : length ps / 2 ≡ n - 0 = omega arith in ap (λ (k : ℕ). entry_value (map (entry_at ps) (count_from 0 k)) (name_of v)) e
+pub entry_start : (ps : List ℕ) (v : ℕ) {es : List (List ℕ)} → es ≡ first_chunks 2 (length ps / 2) ps → entry_value (profile_in ps) (name_of v) ≡ value_of v es
+entry_start ps v e = ap (λ p. entry_value p (name_of v)) (profile_pairs ps) ∙ ap (value_of v) (sym e)
 
-  step : (i : ℕ) → i < n → value_from i ≡ cond (same_list (name_of (get_or ps (i * 2) 0)) (name_of v)) (unbiased (get_or ps (i * 2 + 1) 0 % 4294967296)) (value_from (i + 1))
-  unfolding entry_value entry_at
-  step i h = ap (λ l. entry_value (map (entry_at ps) l) (name_of v)) (count_left i n h)
-
-  pub entry_found : (i : ℕ) {x : ℤ} {z : ℤ} → z ≡ value_from i → i < n → get_or ps (i * 2) 0 ≡ v → x ≡ unbiased (get_or ps (i * 2 + 1) 0 % 4294967296) → x ≡ z
-  entry_found i e h f g = g ∙ sym (e ∙ step i h ∙ (rw (f, T_true (same_list (name_of v) (name_of v)) (same_list_refl (name_of v)))))
-
-  pub entry_on : (i : ℕ) {z : ℤ} → z ≡ value_from i → i < n → get_or ps (i * 2) 0 < 18446744073709551616 → v < 18446744073709551616 → (get_or ps (i * 2) 0 ≡ v → ⊥) → z ≡ value_from (i + 1)
-  entry_on i e h f g k = e ∙ step i h ∙ (rw (name_one (get_or ps (i * 2) 0) v f g, ne_eqb (get_or ps (i * 2) 0) v k))
-
-  pub entry_none : (i : ℕ) {z : ℤ} → z ≡ value_from i → n ≤ i → pos 0 ≡ z
+module _ (es : List (List ℕ)) (v i : ℕ) {z : ℤ} (inv : z ≡ value_of v (drop i es)) where
+  here : i < length es → z ≡ cond (same_list (name_of (get_or (get_or es i []) 0 0)) (name_of v)) (unbiased (get_or (get_or es i []) 1 0 % 4294967296)) (value_of v (drop (suc i) es))
   unfolding entry_value
-  entry_none i e h = sym (e ∙ ap (λ l. entry_value (map (entry_at ps) l) (name_of v)) (count_done i n h))
+  here h = inv ∙ ap (value_of v) (drop-cons es i [] h)
+
+  pub entry_found : {x : ℤ} → i < length es → get_or (get_or es i []) 0 0 ≡ v → x ≡ unbiased (get_or (get_or es i []) 1 0 % 4294967296) → x ≡ z
+  entry_found h f g = g ∙ sym (here h ∙ (rw (f, T_true (same_list (name_of v) (name_of v)) (same_list_refl (name_of v)))))
+
+  pub entry_on : i < length es → get_or (get_or es i []) 0 0 < 18446744073709551616 → v < 18446744073709551616 → (get_or (get_or es i []) 0 0 ≡ v → ⊥) → z ≡ value_of v (drop (i + 1) es)
+  entry_on h f g k = here h ∙ rw (name_one (get_or (get_or es i []) 0 0) v f g, ne_eqb (get_or (get_or es i []) 0 0) v k, add-one i)
+
+  pub entry_none : length es ≤ i → pos 0 ≡ z
+  unfolding entry_value
+  entry_none h = sym (inv ∙ ap (value_of v) (drop_of_length-le es {i = i} h))
 
 pub ruleset entry_ends = (entry_start, entry_found, entry_on, entry_none)
 

@@ -386,13 +386,11 @@ fn number_side(value: u64) -> Origin
 fn entry_side(value: u64, profile: &[u64]) -> Origin
     ensures { (result.kind ≡ 0) × (result.at ≡ 0) × (result.value ≡ entry_value (profile_in profile.now) (name_of value)) }
 {
-    let n = profile.len() / 2;
-    let mut i: usize = 0;
-    while i < n {
-        if profile[i * 2] == value {
-            return number_side(profile[i * 2 + 1] % 4294967296);
+    let (entries, _) = profile.as_chunks::<2>();
+    for e in entries {
+        if e[0] == value {
+            return number_side(e[1] % 4294967296);
         }
-        i += 1;
     }
     Origin {
         kind: Origin::VALUE,
@@ -454,16 +452,6 @@ fn compare_node(n: Node, sc: Scope, profile: &[u64], times: &[u32], values: &[i3
 
 // ---- nodes
 
-// Some places before another, or the first.
-fn back(k: u32, d: u32) -> u32
-    ensures { result ≡ k - d }
-{
-    if k < d {
-        return 0;
-    }
-    k - d
-}
-
 // The node that ends at a place, whatever is lent.
 fn node_of(words: &[u32], k: u32) -> Node
     ensures { Taken words.now k result }
@@ -474,14 +462,14 @@ fn node_of(words: &[u32], k: u32) -> Node
     let w = places::word_at(words, k - 1);
     let right = w / 65536 % 256;
     if right == Term::NUMBER {
-        return nodes::unpacked(w, places::word_at(words, back(k, 2)) as u64);
+        return nodes::unpacked(w, places::word_at(words, k.saturating_sub(2)) as u64);
     }
     if right == Term::ENTRY {
         return nodes::unpacked(
             w,
             nodes::joined(
-                places::word_at(words, back(k, 3)),
-                places::word_at(words, back(k, 2)),
+                places::word_at(words, k.saturating_sub(3)),
+                places::word_at(words, k.saturating_sub(2)),
             ),
         );
     }
@@ -502,14 +490,8 @@ fn head_of(words: &[u32], k: u32) -> u32
 fn link_at(words: &[u32], k: u32) -> u32
     ensures { result ≡ link words.now k }
 {
-    if k == 0 {
-        return 0;
-    }
-    let b = places::word_at(words, k - 1) / 16777216;
-    if k - 1 < b {
-        return k - 1;
-    }
-    b
+    let last = k.saturating_sub(1);
+    (places::word_at(words, last) / 16777216).min(last)
 }
 
 // Where the first condition ends of those that end at place j and before it, down to a stop; 0 where there is none.

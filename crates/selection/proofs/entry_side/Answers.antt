@@ -1,17 +1,17 @@
+-- `entry_side`: the value is that of the entries that are left.
 use borrow.Author.Rules.{rules}
-use Prim.Native.Nat.{◌*◌}
 use native.Mathlib.Omega.{arith}
 use Rattle.selection.proofs.Sides.{entry_on, entry_ends}
 use Rattle.selection.proofs.entry_side.Goals as goal
 
-pub loop-i-init : goal.loop-i-init
-loop-i-init c = search (entry_ends, rules)
+pub loop-e-init : goal.loop-e-init
+loop-e-init c = search entry_ends
 
-pub returns-then-profile-i : goal.returns-then-profile-i
-returns-then-profile-i c = search (entry_ends, rules)
+pub loop-e-preserved : goal.loop-e-preserved
+loop-e-preserved c = entry_on c.as_chunks.result.0.now c.args.value c.loop-e.e-index c.loop-e.invariant (omega arith) (omega arith) (omega arith) c.if-e-value.false
 
-pub loop-i-preserved : goal.loop-i-preserved
-loop-i-preserved c = let a = c.args in let l = c.loop-i in (entry_on a.profile.now _ a.value l.i l.invariant.0 (omega arith) (omega (arith, c.shared_slice_known-in-loop-i-1.given (l.i * 2))) (omega arith) c.if-profile-i.false, l.invariant.1)
+pub returns-then-e-value : goal.returns-then-e-value
+returns-then-e-value c = search (entry_ends, rules)
 
 pub returns : goal.returns
 returns c = search (entry_ends, rules)
