@@ -28,6 +28,7 @@ use Rattle.ledger.specs.Records.{row_in, places_size, values_size}
 use Rattle.nodes.specs.Nodes.{unbiased, coded_term}
 use Rattle.cells.proofs.Shown.{value_left, value_own}
 use Rattle.selection.specs.declared.Origin.{Origin}
+use Rattle.selection.specs.declared.Origin.TheVariants.{Value, Column, Time}
 use Rattle.selection.specs.declared.Scope.{Scope}
 use Rattle.selection.specs.Scopes.{columns_in, row_at, paired, scope_columns, scope_row, profile_in}
 use Rattle.selection.specs.Evaluating.{left_time, time_at, side_value, Stands, left_named}
@@ -118,25 +119,25 @@ module _ (sc : Scope) (vs : List ℤ) (s c : ℕ) where
     pub left_inside : b ≡ true → c < max_columns → values_size ≤ length vs → sc.fixed * max_columns + c < length vs
     left_inside t k l = let h = left_place (sym e ∙ t) in omega arith
 
-    pub column_left : b ≡ true → {v : ℤ} → v ≡ get_or vs (sc.fixed * max_columns + c) (pos 0) → Stands sc vs place (record { kind = 0; at = 0; value = v })
+    pub column_left : b ≡ true → {v : ℤ} → v ≡ get_or vs (sc.fixed * max_columns + c) (pos 0) → Stands sc vs place (Value v)
     unfolding side_value
-    column_left t f = record { near = omega arith; value = λ ts i. f ∙ sym (found_left (sym e ∙ t) ts i) }
+    column_left t f = record { near = tt; value = λ ts i. f ∙ sym (found_left (sym e ∙ t) ts i) }
 
-    pub column_other : b ≡ false → (s ≡ sc.stream → ⊥) → Stands sc vs place (record { kind = 0; at = 0; value = pos 0 })
+    pub column_other : b ≡ false → (s ≡ sc.stream → ⊥) → Stands sc vs place (Value (pos 0))
     unfolding side_value same_col
     column_other t n =
-        record { near = omega arith; value = λ ts i. sym (found_right (sym e ∙ t) ts i ∙ value_none sc.stream (cells (sc.stream * max_rows + i)) (col s c) sc.width 0 (λ j k l. rw (ne_eqb s sc.stream n))) }
+        record { near = tt; value = λ ts i. sym (found_right (sym e ∙ t) ts i ∙ value_none sc.stream (cells (sc.stream * max_rows + i)) (col s c) sc.width 0 (λ j k l. rw (ne_eqb s sc.stream n))) }
 
-    pub column_past : b ≡ false → sc.width ≤ c → Stands sc vs place (record { kind = 0; at = 0; value = pos 0 })
+    pub column_past : b ≡ false → sc.width ≤ c → Stands sc vs place (Value (pos 0))
     unfolding side_value same_col
     column_past t n =
-        record { near = omega arith; value = λ ts i. sym (found_right (sym e ∙ t) ts i ∙ value_none sc.stream (cells (sc.stream * max_rows + i)) (col s c) sc.width 0 (λ j k l. rw (ne_eqb c j (λ z. omega arith)) (and_none (eqb s sc.stream)))) }
+        record { near = tt; value = λ ts i. sym (found_right (sym e ∙ t) ts i ∙ value_none sc.stream (cells (sc.stream * max_rows + i)) (col s c) sc.width 0 (λ j k l. rw (ne_eqb c j (λ z. omega arith)) (and_none (eqb s sc.stream)))) }
       where
         and_none : (d : Bool) → (d && false) ≡ false
         and_none true = refl
         and_none false = refl
 
-    pub column_here : b ≡ false → s ≡ sc.stream → c < sc.width → c < max_columns → sc.stream < max_streams → {v : ℤ} → Stands sc vs place (record { kind = 1; at = sc.stream * max_rows * max_columns + c; value = v })
+    pub column_here : b ≡ false → s ≡ sc.stream → c < sc.width → c < max_columns → sc.stream < max_streams → Stands sc vs place (Column (sc.stream * max_rows * max_columns + c))
     unfolding side_value
     column_here t f l m n =
         record {
@@ -241,23 +242,23 @@ module _ (sc : Scope) (vs : List ℤ) (p : List Entry) (code v : ℕ) where
   unfolding coded_term fill_term
   side_column_term h s = rw (lt-ltb code 24 h) s
 
-  pub side_time_term : code ≡ 24 → Stands sc vs filled_term (record { kind = 2; at = 0; value = pos 0 })
+  pub side_time_term : code ≡ 24 → Stands sc vs filled_term Time
   unfolding coded_term fill_term term_value side_value
-  side_time_term e = rw e (record { near = omega arith; value = λ ts i. ap pos (sym (row_time sc vs ts i)) })
+  side_time_term e = rw e (record { near = tt; value = λ ts i. ap pos (sym (row_time sc vs ts i)) })
 
-  pub side_figure_term : code ≡ 25 → Stands sc vs filled_term (record { kind = 0; at = 0; value = pos 0 })
+  pub side_figure_term : code ≡ 25 → Stands sc vs filled_term (Value (pos 0))
   unfolding coded_term fill_term term_value side_value
-  side_figure_term e = rw e (record { near = omega arith; value = λ ts i. sym (row_figure sc vs ts i) })
+  side_figure_term e = rw e (record { near = tt; value = λ ts i. sym (row_figure sc vs ts i) })
 
-  fixed : {r : Origin} (z : ℤ) → ((ds : List Col) (x : Row) → term_value ds x filled_term ≡ z) → r.kind ≡ 0 → r.at ≡ 0 → r.value ≡ z → Stands sc vs filled_term r
+  fixed : (z : ℤ) → ((ds : List Col) (x : Row) → term_value ds x filled_term ≡ z) → {y : ℤ} → y ≡ z → Stands sc vs filled_term (Value y)
   unfolding side_value
-  fixed {r} z f k c e = record { near = omega arith; value = λ ts i. rw k (e ∙ sym (f (scope_columns sc) (scope_row sc ts vs i))) }
+  fixed z f e = record { near = tt; value = λ ts i. e ∙ sym (f (scope_columns sc) (scope_row sc ts vs i)) }
 
-  pub side_number_term : {r : Origin} → code ≡ 26 → r.kind ≡ 0 → r.at ≡ 0 → r.value ≡ unbiased v → Stands sc vs filled_term r
+  pub side_number_term : code ≡ 26 → {y : ℤ} → y ≡ unbiased v → Stands sc vs filled_term (Value y)
   unfolding coded_term fill_term term_value
   side_number_term e = fixed (unbiased v) (λ ds x. rw e)
 
-  pub side_entry_term : {r : Origin} → 24 ≤ code → (code ≡ 24 → ⊥) → (code ≡ 25 → ⊥) → (code ≡ 26 → ⊥) → r.kind ≡ 0 → r.at ≡ 0 → r.value ≡ entry_value p (name_of v) → Stands sc vs filled_term r
+  pub side_entry_term : 24 ≤ code → (code ≡ 24 → ⊥) → (code ≡ 25 → ⊥) → (code ≡ 26 → ⊥) → {y : ℤ} → y ≡ entry_value p (name_of v) → Stands sc vs filled_term (Value y)
   unfolding coded_term fill_term term_value
   side_entry_term a b c d = fixed (entry_value p (name_of v)) (λ ds x. rw (le-ltb code 24 a, ne_eqb code 24 b, ne_eqb code 25 c, ne_eqb code 26 d))
 

@@ -14,7 +14,7 @@ ghost use Rattle.rows.specs.Masks.{rows_of};
 ghost use Rattle.column_masks.specs.Columns.{strip, strip_lent};
 ghost use Rattle.selection.specs.Scopes.{times_fit, scope_fits, profile_in, cond_at, selected, selected_all, timely};
 ghost use Rattle.time_masks.specs.Times.{column_end, clocked};
-ghost use Rattle.selection.specs.Evaluating.{relate, left_time, side_value, Stands, Lent, left_named, wide, narrow, Taken, Leads, passing, list_passing, list_at, start_of, joined_of, past, low_of, high_of, in_limits, time_at, clock_at, bare, parted, lists, Carried};
+ghost use Rattle.selection.specs.Evaluating.{relate, left_time, side_value, Stands, Lent, left_named, wide, narrow, Taken, Leads, passing, list_passing, list_at, start_of, joined_of, past, low_of, high_of, in_limits, time_at, clock_at, bare, Near, lists, Carried};
 
 use cells::Datum;
 use grant::Grant;
@@ -51,12 +51,12 @@ impl Scope {
     const PLACES: u32 = Ledger::PLACES as u32;
 }
 
-// Where a side of a comparison takes its values from: a column that begins at a place of the values, the time, or a value.
+// Where a side of a comparison takes its values from: one value, a column that begins at a place of the values, or the time.
 #[derive(Clone, Copy)]
-struct Origin {
-    kind: u32,
-    at: u32,
-    value: i32,
+enum Origin {
+    Value(i32),
+    Column(u32),
+    Time,
 }
 
 // Rows so far, and the place of the next condition.
@@ -64,14 +64,6 @@ struct Origin {
 struct Reached {
     rows: Rows,
     at: u32,
-}
-
-impl Origin {
-    const VALUE: u32 = 0;
-
-    const COLUMN: u32 = 1;
-
-    const TIME: u32 = 2;
 }
 
 // ---- two numbers for each row
@@ -242,20 +234,18 @@ fn by_time(head: u32, v: Datum, sc: Scope, times: &[u32]) -> Rows
 }
 
 // The rows whose time compares so with a side; with itself it does as any value.
-// The side and the scope are handed over in parts, which no other comparison then leaves in memory.
+// The scope is handed over in parts, which no other comparison then leaves in memory.
 fn by_times(
     head: u32,
-    kind: u32,
-    at: u32,
-    v: Datum,
+    r: Origin,
     stream: u32,
     n: u32,
     fixed: u32,
     times: &[u32],
     values: &[i32],
 ) -> Rows
-    requires { (stream < max_streams) × (n ≤ max_rows) × (places_size ≤ length times.now) × (values_size ≤ length values.now) × (at < column_end) }
-    ensures { result ≡ rows_of (relate head (clock_at (bare stream n fixed) times.now) (side_value (parted kind at v.v) (bare stream n fixed) times.now values.now)) 0 n }
+    requires { (stream < max_streams) × (n ≤ max_rows) × (places_size ≤ length times.now) × (values_size ≤ length values.now) × Near r }
+    ensures { result ≡ rows_of (relate head (clock_at (bare stream n fixed) times.now) (side_value r (bare stream n fixed) times.now values.now)) 0 n }
 {
     let sc = Scope {
         stream: stream,
@@ -265,51 +255,40 @@ fn by_times(
         other: 0,
         breadth: 0,
     };
-    if kind == Origin::COLUMN {
-        let low = time_masks::clock(Datum { v: 0 }, left_time(sc, times));
-        return by_clock(head, low, times, stream * Scope::ROWS, values, at, n);
+    match r {
+        Origin::Value(v) => by_time(head, Datum { v: v }, sc, times),
+        Origin::Column(at) => {
+            let low = time_masks::clock(Datum { v: 0 }, left_time(sc, times));
+            by_clock(head, low, times, stream * Scope::ROWS, values, at, n)
+        }
+        Origin::Time => settled(head, Datum { v: 0 }, Datum { v: 0 }, n),
     }
-    if kind == Origin::TIME {
-        return settled(head, Datum { v: 0 }, Datum { v: 0 }, n);
-    }
-    by_time(head, v, sc, times)
 }
 
 // The rows where two sides compare so.
 fn compared(head: u32, l: Origin, r: Origin, sc: Scope, times: &[u32], values: &[i32]) -> Rows
-    requires { Lent sc times.now values.now × (l.at < column_end) × (r.at < column_end) }
+    requires { Lent sc times.now values.now × Near l × Near r }
     ensures { result ≡ rows_of (relate head (side_value l sc times.now values.now) (side_value r sc times.now values.now)) 0 sc.rows }
 {
-    if l.kind == Origin::TIME {
-        let v = Datum { v: r.value };
-        return by_times(
-            head, r.kind, r.at, v, sc.stream, sc.rows, sc.fixed, times, values,
-        );
-    }
-    if r.kind == Origin::TIME {
-        let v = Datum { v: l.value };
-        return by_times(
+    match (l, r) {
+        (Origin::Time, _) => by_times(head, r, sc.stream, sc.rows, sc.fixed, times, values),
+        (_, Origin::Time) => by_times(turned(head), l, sc.stream, sc.rows, sc.fixed, times, values),
+        (Origin::Column(p), Origin::Column(q)) => related(head, values, p, q, sc.rows),
+        (Origin::Column(p), Origin::Value(v)) => by_value(head, values, p, Datum { v: v }, sc.rows),
+        (Origin::Value(v), Origin::Column(p)) => by_value(
             turned(head),
-            l.kind,
-            l.at,
-            v,
-            sc.stream,
-            sc.rows,
-            sc.fixed,
-            times,
             values,
-        );
+            p,
+            Datum { v: v },
+            sc.rows,
+        ),
+        (Origin::Value(v), Origin::Value(w)) => settled(
+            head,
+            Datum { v: v },
+            Datum { v: w },
+            sc.rows,
+        ),
     }
-    if l.kind == Origin::COLUMN {
-        if r.kind == Origin::COLUMN {
-            return related(head, values, l.at, r.at, sc.rows);
-        }
-        return by_value(head, values, l.at, Datum { v: r.value }, sc.rows);
-    }
-    if r.kind == Origin::COLUMN {
-        return by_value(turned(head), values, r.at, Datum { v: l.value }, sc.rows);
-    }
-    settled(head, Datum { v: l.value }, Datum { v: r.value }, sc.rows)
 }
 
 // ---- the sides of a comparison
@@ -336,67 +315,39 @@ fn column_side(code: u32, sc: Scope, values: &[i32]) -> Origin
     let c = code % Scope::COLUMNS;
     if left_names(sc, s, c) {
         let x = cells::value(values, sc.fixed * Scope::COLUMNS + c);
-        return Origin {
-            kind: Origin::VALUE,
-            at: 0,
-            value: x.v,
-        };
+        return Origin::Value(x.v);
     }
     if s != sc.stream {
-        return Origin {
-            kind: Origin::VALUE,
-            at: 0,
-            value: 0,
-        };
+        return Origin::Value(0);
     }
     if sc.width <= c {
-        return Origin {
-            kind: Origin::VALUE,
-            at: 0,
-            value: 0,
-        };
+        return Origin::Value(0);
     }
-    Origin {
-        kind: Origin::COLUMN,
-        at: sc.stream * Scope::ROWS * Scope::COLUMNS + c,
-        value: 0,
-    }
+    Origin::Column(sc.stream * Scope::ROWS * Scope::COLUMNS + c)
 }
 
 // A number, of which the lowest is stored as 0.
-fn number_side(value: u64) -> Origin
+fn number_value(value: u64) -> i32
     requires { value < 4294967296 }
-    ensures { (result.kind ≡ 0) × (result.at ≡ 0) × (result.value ≡ unbiased value) }
+    ensures { result ≡ unbiased value }
 {
     if value < 2147483648 {
-        return Origin {
-            kind: Origin::VALUE,
-            at: 0,
-            value: -1 - ((2147483647 - value) as i32),
-        };
+        return -1 - ((2147483647 - value) as i32);
     }
-    Origin {
-        kind: Origin::VALUE,
-        at: 0,
-        value: (value - 2147483648) as i32,
-    }
+    (value - 2147483648) as i32
 }
 
 // The value of a profile entry, or 0 where there is none of that name.
-fn entry_side(value: u64, profile: &[u64]) -> Origin
-    ensures { (result.kind ≡ 0) × (result.at ≡ 0) × (result.value ≡ entry_value (profile_in profile.now) (name_of value)) }
+fn entry_value(value: u64, profile: &[u64]) -> i32
+    ensures { result ≡ entry_value (profile_in profile.now) (name_of value) }
 {
     let (entries, _) = profile.as_chunks::<2>();
     for e in entries {
         if e[0] == value {
-            return number_side(e[1] % 4294967296);
+            return number_value(e[1] % 4294967296);
         }
     }
-    Origin {
-        kind: Origin::VALUE,
-        at: 0,
-        value: 0,
-    }
+    0
 }
 
 // What stands for a side by its code, and by the node's value where the code is that of a number or of a profile entry.
@@ -408,23 +359,15 @@ fn side_of(code: u32, value: u64, sc: Scope, profile: &[u64], values: &[i32]) ->
         return column_side(code, sc, values);
     }
     if code == Term::TIME {
-        return Origin {
-            kind: Origin::TIME,
-            at: 0,
-            value: 0,
-        };
+        return Origin::Time;
     }
     if code == Term::FIGURE {
-        return Origin {
-            kind: Origin::VALUE,
-            at: 0,
-            value: 0,
-        };
+        return Origin::Value(0);
     }
     if code == Term::NUMBER {
-        return number_side(value);
+        return Origin::Value(number_value(value));
     }
-    entry_side(value, profile)
+    Origin::Value(entry_value(value, profile))
 }
 
 // The number on a comparison's left is one of more than 32 bits: then a profile entry is on its right.

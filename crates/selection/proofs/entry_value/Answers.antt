@@ -1,8 +1,8 @@
--- `entry_side`: the value is that of the entries that are left.
+-- `entry_value`: the value is that of the entries that are left.
 use borrow.Author.Rules.{rules}
 use native.Mathlib.Omega.{arith}
 use Rattle.selection.proofs.Sides.{entry_on, entry_ends}
-use Rattle.selection.proofs.entry_side.Goals as goal
+use Rattle.selection.proofs.entry_value.Goals as goal
 
 pub loop-e-init : goal.loop-e-init
 loop-e-init c = search entry_ends
