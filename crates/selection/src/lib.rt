@@ -1,8 +1,8 @@
 // The rows that conditions select, for all rows of a stream at once.
 #![tactic(auto)]
 
-ghost use Rattle.std.specs.Prelude.{◌≡◌, map, true, false, ◌≤◌, ◌<◌, ◌-◌, ◌/◌, ◌%◌, T, ℤ, length};
-ghost use Rattle.syntax.specs.Grammar.{test};
+ghost use Rattle.std.specs.Prelude.{◌≡◌, ℕ, map, true, false, ◌≤◌, ◌<◌, ◌-◌, ◌/◌, ◌%◌, T, ℤ, length};
+ghost use Rattle.syntax.specs.Grammar.{test, eq, lt};
 ghost use Rattle.syntax.specs.Limits.{max_streams, max_columns, max_rows};
 ghost use Rattle.model.specs.Queries.{column, col};
 ghost use Rattle.model.specs.Meaning.{compares};
@@ -11,7 +11,7 @@ ghost use Rattle.text.specs.Words.{name_of};
 ghost use Rattle.ledger.specs.Records.{places_size, values_size};
 ghost use Rattle.nodes.specs.Nodes.{unbiased, coded_term, numbered_op, node_at, node_compare, link, conditions_of};
 ghost use Rattle.rows.specs.Masks.{rows_of};
-ghost use Rattle.column_masks.specs.Columns.{strip, strip_lent};
+ghost use Rattle.column_masks.specs.Columns.{strip, strip_lent, compared_at};
 ghost use Rattle.selection.specs.Scopes.{times_fit, scope_fits, profile_in, cond_at, selected, selected_all, timely};
 ghost use Rattle.time_masks.specs.Times.{column_end, clocked};
 ghost use Rattle.selection.specs.Evaluating.{relate, left_time, side_value, Stands, Lent, left_named, wide, narrow, Taken, Leads, passing, list_passing, list_at, start_of, joined_of, past, low_of, high_of, in_limits, time_at, clock_at, bare, Near, lists, Carried};
@@ -68,28 +68,42 @@ struct Reached {
 
 // ---- two numbers for each row
 
-// The rows where two columns, which begin at places of the values, compare so; 1 to 5 are `=` `/=` `<` `<=` `>`, any other is `>=`.
+// The rows where two numbers compare so, by those where they are the same, where the first is below and where it is above;
+// 1 to 5 are `=` `/=` `<` `<=` `>`, any other is `>=`.
+fn by_head<S: Fn() -> Rows, B: Fn() -> Rows, A: Fn() -> Rows>(
+    head: u32,
+    n: u32,
+    same: S,
+    below: B,
+    above: A,
+) -> Rows
+    requires { S.IsAlwaysCallable same × B.IsAlwaysCallable below × A.IsAlwaysCallable above }
+    ensures { (f g : ℕ → ℤ) → ((r : _) → S.post same r → r ≡ rows_of (compared_at eq f g) 0 n) → ((r : _) → B.post below r → r ≡ rows_of (compared_at lt f g) 0 n)
+        → ((r : _) → A.post above r → r ≡ rows_of (compared_at lt g f) 0 n) → result ≡ rows_of (relate head f g) 0 n }
+{
+    match head {
+        1 => same(),
+        2 => Rows::first(n).flip(same()),
+        3 => below(),
+        4 => Rows::first(n).flip(above()),
+        5 => above(),
+        _ => Rows::first(n).flip(below()),
+    }
+}
+
+// The rows where two columns, which begin at places of the values, compare so.
 fn related(head: u32, values: &[i32], p: u32, q: u32, n: u32) -> Rows
     requires { (strip_lent (length values.now) p max_columns n ≡ true) × (strip_lent (length values.now) q max_columns n ≡ true) }
     ensures { result ≡ rows_of (relate head (strip values.now p max_columns) (strip values.now q max_columns)) 0 n }
 {
     let s = Scope::COLUMNS;
-    if head == 1 {
-        return column_masks::same_rows(values, p, s, values, q, s, n);
-    }
-    if head == 2 {
-        return Rows::first(n).flip(column_masks::same_rows(values, p, s, values, q, s, n));
-    }
-    if head == 3 {
-        return column_masks::less_rows(values, p, s, values, q, s, n);
-    }
-    if head == 4 {
-        return Rows::first(n).flip(column_masks::less_rows(values, q, s, values, p, s, n));
-    }
-    if head == 5 {
-        return column_masks::less_rows(values, q, s, values, p, s, n);
-    }
-    Rows::first(n).flip(column_masks::less_rows(values, p, s, values, q, s, n))
+    by_head(
+        head,
+        n,
+        || column_masks::same_rows(values, p, s, values, q, s, n),
+        || column_masks::less_rows(values, p, s, values, q, s, n),
+        || column_masks::less_rows(values, q, s, values, p, s, n),
+    )
 }
 
 // The rows where a column, which begins at a place of the values, compares so with a value.
@@ -97,22 +111,13 @@ fn by_value(head: u32, values: &[i32], p: u32, v: Datum, n: u32) -> Rows
     requires { strip_lent (length values.now) p max_columns n ≡ true }
     ensures { result ≡ rows_of (relate head (strip values.now p max_columns) (λ i. v.v)) 0 n }
 {
-    if head == 1 {
-        return column_masks::matched(Datum::SAME, values, p, v, n);
-    }
-    if head == 2 {
-        return Rows::first(n).flip(column_masks::matched(Datum::SAME, values, p, v, n));
-    }
-    if head == 3 {
-        return column_masks::matched(Datum::BELOW, values, p, v, n);
-    }
-    if head == 4 {
-        return Rows::first(n).flip(column_masks::matched(Datum::ABOVE, values, p, v, n));
-    }
-    if head == 5 {
-        return column_masks::matched(Datum::ABOVE, values, p, v, n);
-    }
-    Rows::first(n).flip(column_masks::matched(Datum::BELOW, values, p, v, n))
+    by_head(
+        head,
+        n,
+        || column_masks::matched(Datum::SAME, values, p, v, n),
+        || column_masks::matched(Datum::BELOW, values, p, v, n),
+        || column_masks::matched(Datum::ABOVE, values, p, v, n),
+    )
 }
 
 // The head of a comparison whose sides are turned.
@@ -188,25 +193,16 @@ fn by_clock(head: u32, low: Datum, times: &[u32], from: u32, values: &[i32], p: 
     requires { (from ≤ 384) × (places_size ≤ length times.now) × (p < column_end) × (values_size ≤ length values.now) }
     ensures { result ≡ rows_of (relate head (clocked low.v times.now from) (strip values.now p max_columns)) 0 n }
 {
-    if head == 5 {
-        return time_masks::above_times(low, times, from, values, p, n);
-    }
-    if head == 3 {
-        return time_masks::below_times(low, times, from, values, p, n);
-    }
-    if head == 1 {
-        return time_masks::same_times(low, times, from, values, p, n);
-    }
-    if head == 2 {
-        return Rows::first(n).flip(time_masks::same_times(low, times, from, values, p, n));
-    }
-    if head == 4 {
-        return Rows::first(n).flip(time_masks::above_times(low, times, from, values, p, n));
-    }
-    Rows::first(n).flip(time_masks::below_times(low, times, from, values, p, n))
+    by_head(
+        head,
+        n,
+        || time_masks::same_times(low, times, from, values, p, n),
+        || time_masks::below_times(low, times, from, values, p, n),
+        || time_masks::above_times(low, times, from, values, p, n),
+    )
 }
 
-// The rows whose time compares so with a value.
+// The rows whose time compares so with a value. Limits include their times, so that here `<=` and `>=` are at hand and not `<` and `>`.
 fn by_time(head: u32, v: Datum, sc: Scope, times: &[u32]) -> Rows
     requires { (sc.stream < max_streams) × (sc.rows ≤ max_rows) × (places_size ≤ length times.now) }
     ensures { result ≡ rows_of (relate head (clock_at sc times.now) (λ i. v.v)) 0 sc.rows }
