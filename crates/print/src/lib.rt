@@ -215,8 +215,10 @@ pub fn put_nat(out: &mut [u8], p: u32, n: u32) -> u32
     put_digits(out, p, n)
 }
 
-// A natural number of any size. Beside `put_digits`, since one function of 64 bits would divide those for each digit, a routine's call on the chip, and one of both types needs a trait.
-fn put_wide(out: &mut [u8], p: u32, n: u64) -> u32
+// Returns the place after a natural number of 64 bits.
+// Leaves its digits at their places where there are such, and all else as it was.
+// Beside `put_digits`, since one function of 64 bits would divide those for each digit, a routine's call on the chip, and one of both types needs a trait.
+pub fn put_wide(out: &mut [u8], p: u32, n: u64) -> u32
     ensures { Put (put_nat n) out.old p out.new result }
 {
     if n < 4294967296 {
