@@ -1,5 +1,5 @@
 -- Parts of the input, one behind the other.
-use Rattle.std.proofs.Common.{◌≡◌, ℕ, zero, suc, ◌+◌, ◌-◌, ◌*◌, ◌%◌, ◌^◌, ◌<◌, ◌≤◌, min, Bool, true, cond, eqb, List, [], ◌∷◌, ◌++◌, map, length, take, drop, ℤ, sym, refl, ap, ◌∙◌, subst, ap₂, append_assoc, arith, length-drop, take_all, take-add, ne_eqb}
+use Rattle.std.proofs.Common.{◌≡◌, ℕ, zero, suc, ◌+◌, ◌-◌, ◌%◌, ◌^◌, ◌<◌, ◌≤◌, min, Bool, true, cond, List, [], ◌∷◌, ◌++◌, map, length, take, drop, ℤ, sym, refl, ap, ◌∙◌, subst, ap₂, append_assoc, arith, length-drop, take_all, take-add}
 use mathlib.Core.List.{map-append}
 use lib.Seq.{take-nil}
 use Rattle.lists.proofs.Laws.{append_nil}
@@ -12,11 +12,11 @@ use Rattle.report.specs.Outcomes.{outcome_of, outcome_text}
 use Rattle.report.proofs.Printed.{take_min}
 use Rattle.history.specs.Fixtures.{Store}
 use Rattle.console.specs.Lines.{line_end, Ends, Keeps, ended, begun}
-use Rattle.console.specs.Output.{most_text, Writes, refuses, Adds}
+use Rattle.console.specs.Output.{Writes, refuses}
 use Rattle.console.proofs.Lines.{ended_append, begun_append, ended_line, begun_line, ended_none, begun_none}
 use Rattle.script.specs.Steps.{Does}
 use Rattle.lines.specs.declared.Run.{Run}
-use Rattle.lines.specs.Runs.{Point, outcome_at, Runs, stop, then, text_room, texts, Follows, Done, lines_after, is_refusal, refused_after, Counts, Sized, Advances, Known, Part, Block}
+use Rattle.lines.specs.Runs.{Point, outcome_at, Runs, stop, then, texts, Done, lines_after, is_refusal, refused_after, Advances, Known, Part}
 
 -- ---- runs, texts and counts of two parts
 
