@@ -1,4 +1,4 @@
 pub mod Lines
-pub mod Keeping
 pub mod Rooms
 pub mod Printing
+pub mod Keeping

@@ -10,7 +10,7 @@ use Rattle.syntax.specs.Grammar.{Bytes}
 use Rattle.report.specs.Written.{Written}
 use Rattle.console.specs.Output.{most_text, Room, Tells, Adds}
 
-take_more : (a b : Bytes) (n : ℕ) → n ≡ length a + length b → (c : Bytes) → take n (a ++ (b ++ c)) ≡ a ++ b
+pub take_more : (a b : Bytes) (n : ℕ) → n ≡ length a + length b → (c : Bytes) → take n (a ++ (b ++ c)) ≡ a ++ b
 take_more a b n e c = ap (λ (w : Bytes). take n w) (sym (append_assoc a b c)) ∙ ap (λ (j : ℕ). take j ((a ++ b) ++ c)) (e ∙ sym (length-append a b)) ∙ take-append_seam (a ++ b) c
 
 module _ (t : Bytes) (most used : ℕ) (m : Bytes) {at : ℕ} (x : Room m used at) where

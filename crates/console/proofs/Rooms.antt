@@ -1,13 +1,14 @@
 -- Output that is kept or written, and what is read.
 use mathlib.Core.Path.{◌≡◌, refl, sym, ap, ◌∙◌}
 use mathlib.Core.List.{[], ◌∷◌, ◌++◌}
-use mathlib.Core.Bool.{Bool, true, false, not, cond, true≢false}
+use mathlib.Core.Bool.{Bool, false, not, true≢false}
 use Prim.Native.Nat.{ℕ, zero, suc, ◌-◌, ◌≤◌, ◌<◌, min}
 use native.Mathlib.Omega.{arith}
 use lib.ListN.{length, take, set, length-set}
 use Rattle.lists.proofs.Laws.{append_nil}
 use Rattle.syntax.specs.Grammar.{Bytes}
 use Rattle.report.proofs.Printed.{take_min}
+use Rattle.console.specs.declared.Reading.TheVariants.{Open, Ended, Failed}
 use Rattle.console.specs.Lines.{closer, Closes, Reads}
 use Rattle.console.specs.Output.{Writes, Lasts, Room, Tells}
 
@@ -41,14 +42,6 @@ pub ruleset tell_ends = (tells_nothing, tells_behind)
 pub not_lost : {a b : Bool} → a ≡ false → Lasts a b
 not_lost e h = absurd (true≢false (sym h ∙ e))
 
--- ---- what holds unless something else does
-
-pub or_so : {a x y : Bool} → a ≡ false → x ≡ y → x ≡ cond a true y
-or_so e f = f ∙ rw e refl
-
-pub rounds_so : {a : Bool} {x y : ℕ} → a ≡ false → x ≡ y → x ≡ cond a 0 y
-rounds_so e f = f ∙ rw e refl
-
 -- ---- what is read
 
 pub none_kept : (m : Bytes) (kept : ℕ) → kept ≡ 0 → Closes kept m 0
@@ -74,13 +67,13 @@ line_closed m kept k h = record { inside = let l = length-set m 0 10 in some (le
 
 pub ruleset close_ends = (none_kept, no_place, line_closed)
 
-pub more_read : (kept : ℕ) (m : Bytes) (n : ℕ) → n ≤ length m → 0 < n → Reads kept m (record { count = n; ended = false; failed = false })
-more_read kept m n h k = record { inside = h; more = λ e. omega arith; end = λ e. absurd (true≢false (sym e)); none = λ e. absurd (true≢false (sym e)) }
+pub more_read : (kept : ℕ) (m : Bytes) (n : ℕ) → n ≤ length m → 0 < n → Reads kept m (record { count = n; reading = Open })
+more_read kept m n h k = record { inside = h; more = λ e. omega arith; end = λ e. absurd (cc); none = λ e. absurd (cc) }
 
-pub none_read : (kept : ℕ) (m : Bytes) → Reads kept m (record { count = 0; ended = true; failed = true })
-none_read kept m = record { inside = omega arith; more = λ e. absurd (true≢false e); end = λ e f. absurd (true≢false f); none = λ e. refl }
+pub none_read : (kept : ℕ) (m : Bytes) → Reads kept m (record { count = 0; reading = Failed })
+none_read kept m = record { inside = omega arith; more = λ e. absurd (cc); end = λ e. absurd (cc); none = λ e. refl }
 
-pub end_read : (kept : ℕ) (m : Bytes) (n : ℕ) → Closes kept m n → Reads kept m (record { count = n; ended = true; failed = false })
-end_read kept m n x = record { inside = x.inside; more = λ e. absurd (true≢false e); end = λ e f. x.bytes; none = λ e. absurd (true≢false (sym e)) }
+pub end_read : (kept : ℕ) (m : Bytes) (n : ℕ) → Closes kept m n → Reads kept m (record { count = n; reading = Ended })
+end_read kept m n x = record { inside = x.inside; more = λ e. absurd (cc); end = λ e. x.bytes; none = λ e. absurd (cc) }
 
 pub ruleset read_ends = (more_read, none_read, end_read)

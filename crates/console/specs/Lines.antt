@@ -1,7 +1,9 @@
 -- The lines of a script, and how much is kept of one.
-use Rattle.std.specs.Prelude.{◌≡◌, List, [], ◌∷◌, ◌++◌, true, false, cond, ℕ, zero, suc, ◌+◌, ◌≤◌, eqb, length, take, drop}
+use Rattle.std.specs.Prelude.{◌≡◌, List, [], ◌∷◌, ◌++◌, Bool, true, false, cond, ℕ, zero, suc, ◌+◌, ◌≤◌, eqb, length, take, drop}
 use Rattle.syntax.specs.Grammar.{Bytes}
 use Rattle.console.specs.declared.Got.{Got}
+use Rattle.console.specs.declared.Reading.{Reading}
+use Rattle.console.specs.declared.Reading.TheVariants.{Open, Ended, Failed}
 
 -- a byte in front of the first line
 unfoldable pub in_front : ℕ → List Bytes → List Bytes
@@ -58,6 +60,17 @@ pub record Closes (kept : ℕ) (m : Bytes) (r : ℕ) : Type 0 where
 -- What was read stands at the start of m: something, while the input goes on; at its end a line feed for a line that has none; nothing where it could not be read.
 pub record Reads (kept : ℕ) (m : Bytes) (g : Got) : Type 0 where
   pub inside : g.count ≤ length m
-  pub more : g.ended ≡ false → 1 ≤ g.count
-  pub end : g.ended ≡ true → g.failed ≡ false → 1 ≤ length m → take g.count m ≡ closer kept
-  pub none : g.failed ≡ true → g.count ≡ 0
+  pub more : g.reading ≡ Open → 1 ≤ g.count
+  pub end : g.reading ≡ Ended → 1 ≤ length m → take g.count m ≡ closer kept
+  pub none : g.reading ≡ Failed → g.count ≡ 0
+
+abbrev pub fails : Reading → Bool
+fails Open = false
+fails Ended = false
+fails Failed = true
+
+-- a run is over where reading does not go on, or output is lost
+abbrev pub is_over : Reading → Bool → Bool
+is_over Open lost = lost
+is_over Ended lost = true
+is_over Failed lost = true

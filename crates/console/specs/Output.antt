@@ -1,6 +1,8 @@
 -- Output that is kept until it is written.
 use Rattle.std.specs.Prelude.{◌≡◌, ◌++◌, Bool, true, false, ℕ, ◌+◌, ◌≤◌, length, take}
 use Rattle.syntax.specs.Grammar.{Bytes}
+use Rattle.report.specs.declared.Message.{Message}
+use Rattle.report.specs.declared.Message.TheVariants.{Quiet, Refusal, Cells, Text}
 
 -- how many bytes any text takes at most
 abbrev pub most_text : ℕ
@@ -21,6 +23,12 @@ pub record Room (m : Bytes) (used r : ℕ) : Type 0 where
   pub rest : Writes (take used m) (take r m)
   pub kept : used + most_text ≤ length m → r ≡ used
   pub room : most_text ≤ length m → r + most_text ≤ length m
+
+abbrev pub refuses : Message → Bool
+refuses Quiet = false
+refuses (Refusal n) = true
+refuses (Cells n) = false
+refuses (Text n) = false
 
 -- Of the bytes kept in m, r stay: all of them where nothing is to be explained.
 pub record Tells (m : Bytes) (used : ℕ) (explains : Bool) (r : ℕ) : Type 0 where

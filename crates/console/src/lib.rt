@@ -3,9 +3,10 @@
 
 ghost use Rattle.std.specs.Prelude.{◌≡◌, true, false, cond, ◌+◌, ◌*◌, ◌-◌, ◌≤◌, min, eqb, length};
 ghost use Rattle.report.specs.Outcomes.{outcome_of, outcome_text};
-ghost use Rattle.console.specs.Lines.{Ends, Keeps, Closes, Reads};
-ghost use Rattle.console.specs.Output.{Lasts, Room, Tells, Adds};
+ghost use Rattle.console.specs.Lines.{Ends, Keeps, Closes, is_over, fails, Reads};
+ghost use Rattle.console.specs.Output.{Lasts, Room, refuses, Tells, Adds};
 
+use report::Message;
 use std::alloc::Alloc;
 use std::io;
 use std::io::Read;
@@ -16,18 +17,26 @@ use std::rt::Env;
 const MOST: usize = 131072;
 
 // Where the output stands: how many bytes of it are kept until they are written, and whether some could not be written.
+// Two facts, and no Option: texts go behind what is kept even where some was lost.
 #[derive(Clone, Copy)]
 pub struct Output {
     pub used: usize,
     pub lost: bool,
 }
 
-// What was read: how many bytes of the block, whether the input ended, and whether that is because it could not be read.
+// How reading the input stands: it goes on, it came to the input's end, or the input could not be read.
+#[derive(Clone, Copy)]
+pub enum Reading {
+    Open,
+    Ended,
+    Failed,
+}
+
+// What was read: how many bytes of the block, and how reading stands then.
 #[derive(Clone, Copy)]
 pub struct Got {
     pub count: usize,
-    pub ended: bool,
-    pub failed: bool,
+    pub reading: Reading,
 }
 
 // ---- lines
@@ -37,14 +46,12 @@ pub fn line_end(s: &[u8], at: usize) -> usize
     requires { at ≤ length s.now }
     ensures { Ends s.now at result }
 {
-    let mut i = at;
-    while i < s.len() {
+    for i in at..s.len() {
         if s[i] == b'\n' {
             return i;
         }
-        i += 1;
     }
-    i
+    s.len()
 }
 
 // The place after a line feed, or the end.
@@ -61,17 +68,10 @@ pub fn after(s: &[u8], e: usize) -> usize
 pub fn keep(line: &mut [u8], kept: usize, part: &[u8]) -> usize
     ensures { Keeps line.old kept part.now line.new result }
 {
-    let mut k = report::least(kept, line.len());
-    let mut i: usize = 0;
-    while i < part.len() {
-        if line.len() <= k {
-            return k;
-        }
-        line[k] = part[i];
-        k += 1;
-        i += 1;
-    }
-    k
+    let k = kept.min(line.len());
+    let n = (line.len() - k).min(part.len());
+    line[k..k + n].copy_from_slice(&part[..n]);
+    k + n
 }
 
 // ---- output
@@ -110,7 +110,7 @@ fn write_out(rt: &(impl Print + Eprint + Alloc), part: &[u8]) -> bool {
 pub fn flush(rt: &(impl Print + Eprint + Alloc), out: &[u8], o: Output) -> Output
     ensures { (result.used ≡ 0) × Lasts o.lost result.lost }
 {
-    let n = report::least(o.used, out.len());
+    let n = o.used.min(out.len());
     if o.lost {
         return Output {
             used: 0,
@@ -127,7 +127,7 @@ pub fn flush(rt: &(impl Print + Eprint + Alloc), out: &[u8], o: Output) -> Outpu
 fn made_room(rt: &(impl Print + Eprint + Alloc), out: &[u8], o: Output) -> Output
     ensures { Room out.now o.used result.used × Lasts o.lost result.lost }
 {
-    let n = report::least(o.used, out.len());
+    let n = o.used.min(out.len());
     if out.len() - n < MOST {
         return flush(rt, out, o);
     }
@@ -142,41 +142,32 @@ pub fn add(
     rt: &(impl Print + Eprint + Alloc),
     out: &mut [u8],
     o: Output,
-    kind: u32,
-    number: u32,
+    says: Message,
     cells: &[i64],
     bytes: &[u8],
 ) -> Output
-    ensures { Adds (outcome_text (outcome_of kind number cells.now bytes.now)) (28 * length cells.now + length bytes.now + 20) false out.old o.used out.new result.used × Lasts o.lost result.lost }
+    ensures { Adds (outcome_text (outcome_of says cells.now bytes.now)) (28 * length cells.now + length bytes.now + 20) false out.old o.used out.new result.used × Lasts o.lost result.lost }
 {
     let room = made_room(rt, out, o);
     let at = room.used;
-    let n = report::write_outcome(&mut out[at..], kind, number, cells, bytes);
+    let n = report::write_outcome(&mut out[at..], says, cells, bytes);
     Output {
-        used: at + report::least(n, out.len() - at),
+        used: at + n.min(out.len() - at),
         lost: room.lost,
     }
 }
 
 // ---- refusals
 
-// A refusal in words: a line's form, names and numbers.
-fn say_first(rt: &impl Eprint, number: u32) {
-    let words = match number {
+// A refusal in words.
+fn words_of(number: u32) -> &'static str {
+    match number {
         1 => "not a line of a known form",
         2 => "a stream or column that is not declared",
         3 => "too long, too many, too deep, or a number out of its range",
         4 => "a part, a column or a number of values that does not fit its place",
         5 => "a window's size or offset is below 1, or its size above 64 offsets",
         6 => "a name is there twice",
-        _ => "",
-    };
-    let _ = rt.eprint(words);
-}
-
-// And: what is there, and what there is room for.
-fn say_last(rt: &impl Eprint, number: u32) {
-    let words = match number {
         7 => "the time is before the clock",
         8 => "the stream has all its rows",
         9 => "no grant opens this for the caller, or no route has that number",
@@ -184,16 +175,13 @@ fn say_last(rt: &impl Eprint, number: u32) {
         11 => "the answer or line is longer than the room for it",
         12 => "what was lent is not what calls made",
         _ => "",
-    };
-    let _ = rt.eprint(words);
+    }
 }
 
 // `line N: refused R: WORDS`
 fn explain(rt: &impl Eprint, line: u64, number: u32) {
-    let _ = eprint!(rt; "line {line}: refused {number}: ");
-    say_first(rt, number);
-    say_last(rt, number);
-    let _ = eprintln!(rt);
+    let words = words_of(number);
+    let _ = eprintln!(rt; "line {line}: refused {number}: {words}");
 }
 
 // Explains a refusal where that is asked for, once the output up to it is written.
@@ -203,30 +191,28 @@ pub fn tell(
     o: Output,
     explains: bool,
     line: u64,
-    kind: u32,
-    number: u32,
+    says: Message,
 ) -> Output
     ensures { Tells out.now o.used explains result.used × Lasts o.lost result.lost }
 {
     if !explains {
         return o;
     }
-    if kind == report::REFUSAL {
-        let r = flush(rt, out, o);
-        explain(rt, line, number);
-        return r;
+    match says {
+        Message::Refusal(number) => {
+            let r = flush(rt, out, o);
+            explain(rt, line, number);
+            r
+        }
+        _ => o,
     }
-    o
 }
 
 // Whether a line was refused so far.
-pub fn refused_by(refused: bool, kind: u32) -> bool
-    ensures { result ≡ cond refused true (eqb kind 1) }
+pub fn refused_by(refused: bool, says: Message) -> bool
+    ensures { result ≡ cond refused true (refuses says) }
 {
-    if refused {
-        return true;
-    }
-    kind == report::REFUSAL
+    refused || matches!(says, Message::Refusal(_))
 }
 
 // ---- input
@@ -238,20 +224,17 @@ pub fn read_some(rt: &(impl Input + Eprint + Alloc), block: &mut [u8], kept: usi
     match rt.reader().read(block) {
         Ok(0) => Got {
             count: end_line(block, kept),
-            ended: true,
-            failed: false,
+            reading: Reading::Ended,
         },
         Ok(count) => Got {
             count,
-            ended: false,
-            failed: false,
+            reading: Reading::Open,
         },
         Err(error) => {
             say_failed(rt, "standard input", error);
             Got {
                 count: 0,
-                ended: true,
-                failed: true,
+                reading: Reading::Failed,
             }
         }
     }
@@ -272,26 +255,10 @@ fn end_line(block: &mut [u8], kept: usize) -> usize
 }
 
 // A run ends with its input, or where output is lost.
-pub fn is_over(ended: bool, lost: bool) -> bool
-    ensures { result ≡ cond ended true lost }
+pub fn is_over(reading: Reading, lost: bool) -> bool
+    ensures { result ≡ is_over reading lost }
 {
-    if ended {
-        return true;
-    }
-    lost
-}
-
-// One round less, none where the run ended.
-pub fn rounds_left(rounds: u64, ended: bool) -> u64
-    ensures { result ≡ cond ended 0 (rounds - 1) }
-{
-    if ended {
-        return 0;
-    }
-    if rounds == 0 {
-        return 0;
-    }
-    rounds - 1
+    lost || !matches!(reading, Reading::Open)
 }
 
 // ---- arguments and status
@@ -311,10 +278,10 @@ pub fn is_given(rt: &impl Env, word: &[u8]) -> bool {
 }
 
 // How a run ended, as a number: 0, 1 where a line was refused, 3 where output could not be written or input not read.
-pub fn status(failed: bool, lost: bool, refused: bool) -> u8
-    ensures { result ≡ cond failed 3 (cond lost 3 (cond refused 1 0)) }
+pub fn status(reading: Reading, lost: bool, refused: bool) -> u8
+    ensures { result ≡ cond (fails reading) 3 (cond lost 3 (cond refused 1 0)) }
 {
-    if failed || lost {
+    if matches!(reading, Reading::Failed) || lost {
         3
     } else if refused {
         1
@@ -324,9 +291,9 @@ pub fn status(failed: bool, lost: bool, refused: bool) -> u8
 }
 
 // With the argument `--status`, the exit status that says how the run ended; without it, 0.
-pub fn say_status(rt: &impl Env, failed: bool, lost: bool, refused: bool) -> ExitCode {
+pub fn say_status(rt: &impl Env, reading: Reading, lost: bool, refused: bool) -> ExitCode {
     if !is_given(rt, b"--status") {
         return ExitCode::SUCCESS;
     }
-    ExitCode::from(status(failed, lost, refused))
+    ExitCode::from(status(reading, lost, refused))
 }

@@ -1,21 +1,22 @@
 -- Parts of the input, one behind the other.
-use Rattle.std.proofs.Common.{◌≡◌, ℕ, zero, suc, ◌+◌, ◌-◌, ◌*◌, ◌%◌, ◌^◌, ◌<◌, ◌≤◌, min, Bool, true, cond, eqb, List, [], ◌∷◌, ◌++◌, map, length, take, drop, ℤ, sym, refl, ap, ◌∙◌, subst, ap₂, append_assoc, arith, length-drop, take_all, take-add, ne_eqb}
+use Rattle.std.proofs.Common.{◌≡◌, ℕ, zero, suc, ◌+◌, ◌-◌, ◌%◌, ◌^◌, ◌<◌, ◌≤◌, min, Bool, true, cond, List, [], ◌∷◌, ◌++◌, map, length, take, drop, ℤ, sym, refl, ap, ◌∙◌, subst, ap₂, append_assoc, arith, length-drop, take_all, take-add}
 use mathlib.Core.List.{map-append}
 use lib.Seq.{take-nil}
 use Rattle.lists.proofs.Laws.{append_nil}
 use Rattle.syntax.specs.Grammar.{Bytes}
 use Rattle.syntax.specs.Readers.{verb_of}
 use Rattle.calls.specs.Scripts.{Outcome}
+use Rattle.report.specs.declared.Message.{Message}
+use Rattle.report.specs.declared.Message.TheVariants.{Quiet, Refusal, Cells, Text}
 use Rattle.report.specs.Outcomes.{outcome_of, outcome_text}
 use Rattle.report.proofs.Printed.{take_min}
 use Rattle.history.specs.Fixtures.{Store}
 use Rattle.console.specs.Lines.{line_end, Ends, Keeps, ended, begun}
-use Rattle.console.specs.Output.{most_text, Writes, Adds}
+use Rattle.console.specs.Output.{Writes, refuses}
 use Rattle.console.proofs.Lines.{ended_append, begun_append, ended_line, begun_line, ended_none, begun_none}
-use Rattle.script.specs.States.{Saying}
 use Rattle.script.specs.Steps.{Does}
 use Rattle.lines.specs.declared.Run.{Run}
-use Rattle.lines.specs.Runs.{Point, outcome_at, Runs, stop, then, text_room, texts, Follows, Done, lines_after, is_refusal, refused_after, Counts, Sized, Advances, Known, Part, Block}
+use Rattle.lines.specs.Runs.{Point, outcome_at, Runs, stop, then, texts, Done, lines_after, is_refusal, refused_after, Advances, Known, Part}
 
 -- ---- runs, texts and counts of two parts
 
@@ -69,7 +70,7 @@ advances_then {w} {a} {b} {run} {r} {s} {p} {q} {t} {l} {l₁} {l₂} {m} {m₁}
 -- ---- a line
 
 -- a step by the kept part of a line
-pub step_kept : {zs zs' : List ℤ} {ys ys' : Bytes} {s t : Store} {y : Saying} (l : Bytes) (kept n : ℕ) → n ≡ min kept (length l) → Does (take (n - 0) l) zs ys (verb_of (take (n - 0) l)) s t zs' ys' y
+pub step_kept : {zs zs' : List ℤ} {ys ys' : Bytes} {s t : Store} {y : Message} (l : Bytes) (kept n : ℕ) → n ≡ min kept (length l) → Does (take (n - 0) l) zs ys (verb_of (take (n - 0) l)) s t zs' ys' y
     → Does (take kept l) zs ys (verb_of (take kept l)) s t zs' ys' y
 step_kept {zs} {zs'} {ys} {ys'} {s} {t} {y} l kept n e d = let g : n - 0 ≡ n = omega arith in subst (λ (w : Bytes). Does w zs ys (verb_of w) s t zs' ys' y) (ap (λ (j : ℕ). take j l) (g ∙ e) ∙ take_min l kept) d
 
@@ -84,12 +85,12 @@ one_text : (o : Outcome) → outcome_text o ≡ texts (o ∷ [])
 unfolding texts
 one_text o = sym (append_nil (outcome_text o))
 
-same_refusal : (k n : ℕ) (q : Point) → eqb k 1 ≡ is_refusal (outcome_of k n q.cells q.bytes)
+same_refusal : (y : Message) (q : Point) → refuses y ≡ is_refusal (outcome_of y q.cells q.bytes)
 unfolding outcome_of is_refusal
-same_refusal zero n q = refl
-same_refusal (suc zero) n q = refl
-same_refusal (suc (suc zero)) n q = refl
-same_refusal (suc (suc (suc k))) n q = ne_eqb (suc (suc (suc k))) 1 (λ e. absurd (omega arith))
+same_refusal Quiet q = refl
+same_refusal (Refusal n) q = refl
+same_refusal (Cells n) q = refl
+same_refusal (Text n) q = refl
 
 module _ (s : Bytes) (run mid : Run) {e : ℕ} {l l' : Bytes} (x : Ends s run.at e) (y : Keeps l run.kept (take (e - run.at) (drop run.at s)) l' mid.kept) (wide : length l' ≡ length l) where
   abbrev d : Bytes
@@ -105,15 +106,14 @@ module _ (s : Bytes) (run mid : Run) {e : ℕ} {l l' : Bytes} (x : Ends s run.at
       y.bytes ∙ ap (λ (v : Bytes). take (length l) (v ++ take (e - run.at) d)) k ∙ take_front (length l) w (take (e - run.at) d) ∙ ap (λ (n : ℕ). take (length l) (w ++ take n d)) f
 
   module _ (at : mid.at ≡ min (e + 1) (length s)) (lines : mid.lines ≡ run.lines) (refused : mid.refused ≡ run.refused) (explains : mid.explains ≡ run.explains) (used : mid.output.used ≡ run.output.used)
-      (lost : mid.output.lost ≡ run.output.lost) (failed : mid.failed ≡ run.failed) (over : mid.ended ≡ run.ended) where
+      (lost : mid.output.lost ≡ run.output.lost) (reading : mid.reading ≡ run.reading) where
     -- no line ends
     pub part_kept : {p : Point} {m : Bytes} → length s ≤ e → Part s run mid p p l l' m m
     part_kept {p} {m} h =
         record {
           more = λ k. omega arith;
           inside = omega arith;
-          failed = failed;
-          ended = over;
+          reading = reading;
           advances = λ w k. record {
             outcomes = [];
             runs = subst (λ (v : List Bytes). Runs p (map (take (length l)) v) [] p) (sym (ap (ended w) whole ∙ ended_none w d far)) stop;
@@ -138,8 +138,7 @@ module _ (s : Bytes) (run mid : Run) {e : ℕ} {l l' : Bytes} (x : Ends s run.at
         record {
           more = λ k. let a = x.place in omega arith;
           inside = omega arith;
-          failed = z.follows.failed ∙ failed;
-          ended = z.follows.ended ∙ over;
+          reading = z.follows.reading ∙ reading;
           advances = λ w k. record {
             outcomes = outcome_at q z.said ∷ [];
             runs = subst (λ (v : List Bytes). Runs p (map (take (length l)) v) (outcome_at q z.said ∷ []) q) (sym (ap (ended w) piece ∙ ended_line w d near))
@@ -147,7 +146,7 @@ module _ (s : Bytes) (run mid : Run) {e : ℕ} {l l' : Bytes} (x : Ends s run.at
             rest = ap (λ (n : ℕ). take n l') z.follows.kept ∙ sym (take-nil (length l)) ∙ ap (λ (v : Bytes). take (length l) v) (sym (ap (begun w) piece ∙ begun_line w d near));
             output = λ i j. subst (λ (n : ℕ). Writes (take n m ++ texts (outcome_at q z.said ∷ [])) (take r.output.used m')) used
                 (subst (λ (v : Bytes). Writes (take mid.output.used m ++ v) (take r.output.used m')) (one_text (outcome_at q z.said)) (z.adds.rest (omega arith) (omega arith)));
-            counts = record { lines = z.follows.lines ∙ ap (λ (n : ℕ). (n + 1) % 2 ^ 64) lines ∙ (unfold lines_after in refl); refused = z.follows.refused ∙ ap₂ (λ (a b : Bool). cond a true b) refused (same_refusal z.said.kind z.said.number q) ∙ (unfold refused_after in refl); explains = z.follows.explains ∙ explains; lost = λ h. z.follows.lost (lost ∙ h) };
+            counts = record { lines = z.follows.lines ∙ ap (λ (n : ℕ). (n + 1) % 2 ^ 64) lines ∙ (unfold lines_after in refl); refused = z.follows.refused ∙ ap₂ (λ (a b : Bool). cond a true b) refused (same_refusal z.said q) ∙ (unfold refused_after in refl); explains = z.follows.explains ∙ explains; lost = λ h. z.follows.lost (lost ∙ h) };
             sized = record { cells = cs; bytes = bs; line = wide; out = os };
           };
         }

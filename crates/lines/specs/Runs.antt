@@ -1,13 +1,13 @@
 -- A run of lines: what each of them does, and what of it is printed.
-use Rattle.std.specs.Prelude.{◌≡◌, ℕ, ◌+◌, ◌-◌, ◌*◌, ◌%◌, ◌^◌, ◌<◌, ◌≤◌, Bool, true, false, cond, List, [], ◌∷◌, ◌++◌, map, length, take, drop, ℤ, ◌==◌}
+use Rattle.std.specs.Prelude.{◌≡◌, ℕ, ◌+◌, ◌-◌, ◌*◌, ◌%◌, ◌^◌, ◌<◌, ◌≤◌, Bool, true, false, cond, List, [], ◌∷◌, ◌++◌, map, length, take, drop, ℤ}
 use Rattle.syntax.specs.Grammar.{Bytes}
 use Rattle.syntax.specs.Readers.{verb_of}
 use Rattle.calls.specs.Scripts.{Outcome, quiet, refusal, cells, text}
+use Rattle.report.specs.declared.Message.{Message}
 use Rattle.report.specs.Outcomes.{outcome_of, outcome_text}
 use Rattle.console.specs.Lines.{ended, begun}
-use Rattle.console.specs.Output.{most_text, Writes, Lasts, Adds}
+use Rattle.console.specs.Output.{most_text, Writes, Lasts, refuses, Adds}
 use Rattle.script.specs.declared.State.{State}
-use Rattle.script.specs.States.{Saying}
 use Rattle.script.specs.Steps.{Does}
 use Rattle.script.specs.Runs.{Held, store}
 use Rattle.lines.specs.declared.Run.{Run}
@@ -23,17 +23,17 @@ abbrev pub point : State → List ℕ → List ℕ → List ℤ → List ℕ →
 point s ns ts vs ws zs ys = record { held = record { state = s; names = ns; times = ts; values = vs; words = ws }; cells = zs; bytes = ys }
 
 -- what a line that says y prints, by the cells and bytes that it left
-abbrev pub outcome_at : Point → Saying → Outcome
-outcome_at q y = outcome_of y.kind y.number q.cells q.bytes
+abbrev pub outcome_at : Point → Message → Outcome
+outcome_at q y = outcome_of y q.cells q.bytes
 
 -- a step of the script by a line, which says y
-abbrev pub Steps : Bytes → Point → Point → Saying → Type 0
+abbrev pub Steps : Bytes → Point → Point → Message → Type 0
 Steps bs p q y = Does bs p.cells p.bytes (verb_of bs) (store p.held) (store q.held) q.cells q.bytes y
 
 -- lines one after the other, what each of them prints, and where they lead
 pub data Runs : Point → List Bytes → List Outcome → Point → Type 0 where
   stop : {p : Point} → Runs p [] [] p
-  then : {p q t : Point} {l : Bytes} {ls : List Bytes} {os : List Outcome} {y : Saying} → Steps l p q y → Runs q ls os t
+  then : {p q t : Point} {l : Bytes} {ls : List Bytes} {os : List Outcome} {y : Message} → Steps l p q y → Runs q ls os t
       → Runs p (l ∷ ls) (outcome_at q y ∷ os) t
 
 -- the bytes that any text of a line takes at most
@@ -46,26 +46,25 @@ texts [] = []
 texts (o ∷ os) = outcome_text o ++ texts os
 
 -- after a line that says y and left these cells and bytes: one line more is counted, and the text of its outcome goes behind the output
-pub record Says (explains : Bool) (y : Saying) (zs : List ℤ) (ys : Bytes) (s r : Said) (m m' : Bytes) : Type 0 where
+pub record Says (explains : Bool) (y : Message) (zs : List ℤ) (ys : Bytes) (s r : Said) (m m' : Bytes) : Type 0 where
   pub lines : r.lines ≡ (s.lines + 1) % 2 ^ 64
-  pub refused : r.refused ≡ cond s.refused true (y.kind == 1)
-  pub adds : Adds (outcome_text (outcome_of y.kind y.number zs ys)) (28 * length zs + length ys + 20) explains m s.output.used m' r.output.used
+  pub refused : r.refused ≡ cond s.refused true (refuses y)
+  pub adds : Adds (outcome_text (outcome_of y zs ys)) (28 * length zs + length ys + 20) explains m s.output.used m' r.output.used
   pub lost : Lasts s.output.lost r.output.lost
 
 -- what goes on as it was, and one line more is counted
-pub record Follows (run r : Run) (y : Saying) : Type 0 where
+pub record Follows (run r : Run) (y : Message) : Type 0 where
   pub lines : r.lines ≡ (run.lines + 1) % 2 ^ 64
   pub kept : r.kept ≡ 0
   pub at : r.at ≡ run.at
   pub explains : r.explains ≡ run.explains
-  pub refused : r.refused ≡ cond run.refused true (y.kind == 1)
-  pub failed : r.failed ≡ run.failed
-  pub ended : r.ended ≡ run.ended
+  pub refused : r.refused ≡ cond run.refused true (refuses y)
+  pub reading : r.reading ≡ run.reading
   pub lost : Lasts run.output.lost r.output.lost
 
 -- A line is done by what the script's step does of its text, and the text of its outcome goes behind the output.
 pub record Done (bs : Bytes) (run r : Run) (p q : Point) (m m' : Bytes) : Type 0 where
-  pub said : Saying
+  pub said : Message
   pub does : Steps bs p q said
   pub adds : Adds (outcome_text (outcome_at q said)) (text_room q) run.explains m run.output.used m' r.output.used
   pub follows : Follows run r said
@@ -118,12 +117,10 @@ Known w run l = take run.kept l ≡ take (length l) w
 pub record Part (s : Bytes) (run r : Run) (p q : Point) (l l' m m' : Bytes) : Type 0 where
   pub more : run.at < length s → run.at < r.at
   pub inside : r.at ≤ length s
-  pub failed : r.failed ≡ run.failed
-  pub ended : r.ended ≡ run.ended
+  pub reading : r.reading ≡ run.reading
   pub advances : (w : Bytes) → Known w run l → Advances w (take (r.at - run.at) (drop run.at s)) run r p q l l' m m'
 
 -- A block is done.
 pub record Block (s : Bytes) (run r : Run) (p q : Point) (l l' m m' : Bytes) : Type 0 where
-  pub failed : r.failed ≡ run.failed
-  pub ended : r.ended ≡ run.ended
+  pub reading : r.reading ≡ run.reading
   pub advances : (w : Bytes) → Known w run l → Advances w s run r p q l l' m m'

@@ -4,16 +4,17 @@
 ghost use Rattle.std.specs.Prelude.{◌≤◌, length, take};
 ghost use Rattle.lines.specs.Runs.{point, Says, Done, Part, Block};
 
-use console::Output;
+use console::{Output, Reading};
+use report::Message;
 use std::alloc::Alloc;
 // Named since a State holds one: the checker knows the types of the crates that are named here alone.
 use caller::Caller;
 use grant::Grant;
 use ledger::Ledger;
 use schema::Stream;
-use script::{State, Stepped};
+use script::State;
 
-// What goes from line to line: the state of the script, how many lines were done, how many bytes of the next one are kept, how far the block is done, where the output stands, whether refusals are explained, and whether a line was refused, input could not be read, and the input ended.
+// What goes from line to line: the state of the script, how many lines were done, how many bytes of the next one are kept, how far the block is done, where the output stands, whether refusals are explained, whether a line was refused, and how reading the input stands.
 #[derive(Clone, Copy)]
 pub struct Run {
     pub state: State,
@@ -23,8 +24,7 @@ pub struct Run {
     pub output: Output,
     pub explains: bool,
     pub refused: bool,
-    pub failed: bool,
-    pub ended: bool,
+    pub reading: Reading,
 }
 
 // What a line leaves beside the state: how many lines were done, where the output stands, and whether one was refused.
@@ -40,22 +40,20 @@ fn say(
     rt: &(impl Print + Eprint + Alloc),
     before: Said,
     explains: bool,
-    r: &Stepped,
+    says: Message,
     cells: &[i64],
     bytes: &[u8],
     out: &mut [u8],
 ) -> Said
-    ensures { Says explains (record { kind = r.now.kind; number = r.now.number }) cells.now bytes.now before result out.old out.new }
+    ensures { Says explains says cells.now bytes.now before result out.old out.new }
 {
-    let kind = r.kind;
-    let number = r.number;
     let lines = std::num::wrapping_add_u64(before.lines, 1);
-    let added = console::add(rt, out, before.output, kind, number, cells, bytes);
-    let told = console::tell(rt, out, added, explains, lines, kind, number);
+    let added = console::add(rt, out, before.output, says, cells, bytes);
+    let told = console::tell(rt, out, added, explains, lines, says);
     Said {
         lines: lines,
         output: told,
-        refused: console::refused_by(before.refused, kind),
+        refused: console::refused_by(before.refused, says),
     }
 }
 
@@ -74,7 +72,7 @@ fn do_line(
 ) -> Run
     ensures { Done (take run.kept line.now) run result (point run.state names.old times.old values.old words.old cells.old bytes.old) (point result.state names.new times.new values.new words.new cells.new bytes.new) out.old out.new }
 {
-    let n = report::least(run.kept, line.len());
+    let n = run.kept.min(line.len());
     let r = script::step(
         run.state,
         names,
@@ -85,25 +83,19 @@ fn do_line(
         cells,
         bytes,
     );
-    let output = run.output;
     let before = Said {
         lines: run.lines,
-        output: output,
+        output: run.output,
         refused: run.refused,
     };
-    let said = say(rt, before, run.explains, &r, cells, bytes, out);
-    let state = r.state;
-    let told = said.output;
+    let said = say(rt, before, run.explains, r.says, cells, bytes, out);
     Run {
-        state: state,
+        state: r.state,
         lines: said.lines,
         kept: 0,
-        at: run.at,
-        output: told,
-        explains: run.explains,
+        output: said.output,
         refused: said.refused,
-        failed: run.failed,
-        ended: run.ended,
+        ..run
     }
 }
 

@@ -1,8 +1,7 @@
 -- What is read at once, and how many times.
 use mathlib.Core.Path.{◌≡◌, ap, ◌∙◌, subst}
 use mathlib.Core.List.{◌++◌}
-use mathlib.Core.Bool.{Bool, true, false, cond}
-use Prim.Native.Nat.{ℕ, ◌-◌, ◌<◌}
+use Prim.Native.Nat.{ℕ, ◌-◌}
 use native.Mathlib.Omega.{arith}
 use lib.ListN.{take, drop}
 use Rattle.lists.proofs.Laws.{append_nil}
@@ -14,22 +13,15 @@ use Rattle.lines.specs.declared.Run.{Run}
 use Rattle.lines.specs.Runs.{Point, Advances, Block}
 use Rattle.program.specs.Rounds.{Round}
 
--- ---- rounds
-
-pub rounds_less : (b : Bool) {n t : ℕ} → n ≡ cond b 0 (t - 1) → 0 < t → n < t
-rounds_less true e h = omega arith
-rounds_less false e h = omega arith
-
 -- ---- a part of the input that is read
 
 pub round_done : (s : Bytes) (run b r : Run) (got : Got) {p q : Point} {l l' m m' : Bytes} → Reads run.kept s got → Block (take (got.count - 0) (drop 0 s)) run b p q l l' m m' → r.kept ≡ b.kept → r.lines ≡ b.lines
-    → r.refused ≡ b.refused → r.explains ≡ b.explains → (r.output.used ≡ 0) × Lasts b.output.lost r.output.lost → r.failed ≡ got.failed → r.ended ≡ cond got.ended true r.output.lost → Round s run r p q l l' m m'
-round_done s run b r got {p} {q} {l} {l'} {m} {m'} x y kept lines refused explains used failed over =
+    → r.refused ≡ b.refused → r.explains ≡ b.explains → (r.output.used ≡ 0) × Lasts b.output.lost r.output.lost → r.reading ≡ got.reading → Round s run r p q l l' m m'
+round_done s run b r got {p} {q} {l} {l'} {m} {m'} x y kept lines refused explains used reading =
     record {
       got = got;
       reads = x;
-      failed = failed;
-      ended = over;
+      reading = reading;
       written = used.0;
       advances = λ w k. subst (λ (v : Bytes). Advances w v run r p q l l' m m') (ap (λ (n : ℕ). take n s) (all_of got.count)) (flushed w (y.advances w k));
     }

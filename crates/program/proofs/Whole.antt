@@ -1,8 +1,8 @@
 -- All of the input, round by round.
 use mathlib.Core.Path.{◌≡◌, refl, sym, ap, ap₂, ◌∙◌, subst}
 use mathlib.Core.List.{List, [], ◌∷◌, ◌++◌, map, append_assoc}
-use mathlib.Core.Bool.{Bool, true, false, cond, true≢false}
-use Prim.Native.Nat.{ℕ, zero, suc, ◌+◌, ◌-◌, ◌^◌, ◌≤◌, ◌<◌}
+use mathlib.Core.Bool.{Bool, true, false, true≢false}
+use Prim.Native.Nat.{ℕ, zero, suc, ◌+◌, ◌-◌, ◌^◌, ◌≤◌}
 use native.Mathlib.Omega.{arith}
 use lib.IntN.{ℤ, pos}
 use lib.Dec.{lit≤}
@@ -13,7 +13,9 @@ use Rattle.lists.proofs.Laws.{append_nil}
 use Rattle.syntax.specs.Grammar.{Bytes}
 use Rattle.calls.specs.Scripts.{Outcome, script}
 use Rattle.history.specs.States as M
-use Rattle.console.specs.Lines.{lines_of, ended, begun, closing, closer}
+use Rattle.console.specs.declared.Reading.{Reading}
+use Rattle.console.specs.declared.Reading.TheVariants.{Open, Ended}
+use Rattle.console.specs.Lines.{lines_of, ended, begun, closing, closer, is_over}
 use Rattle.console.specs.Output.{Writes}
 use Rattle.console.proofs.Lines.{lines_whole}
 use Rattle.script.specs.declared.State.{State}
@@ -50,23 +52,17 @@ wide h e = omega arith
 pub wide_line : {a b : ℕ} → a ≡ 513 → b ≡ a → 1 ≤ b
 wide_line h e = omega arith
 
--- after some rounds, with t of them left
+-- after t rounds
 pub record Rounds (run r : Run) (p q : Point) (l l' m m' : Bytes) (t : ℕ) : Type 0 where
   pub done : Blocks run r p q l l' m m'
-  pub left : r.ended ≡ false → length done.blocks + t ≡ 2 ^ 64 - 1
-  pub none : r.ended ≡ true → t ≡ 0
+  pub count : length done.blocks ≡ t
 
-pub rounds_start : (run : Run) {p : Point} {l m : Bytes} {t : ℕ} → run.ended ≡ false → t ≡ 2 ^ 64 - 1 → Rounds run run p p l l m m t
-rounds_start run {p} {l} {m} e f =
+pub rounds_start : (run : Run) {p : Point} {l m : Bytes} → run.reading ≡ Open → Rounds run run p p l l m m 0
+rounds_start run {p} {l} {m} e =
     record {
-      done = record { blocks = []; advances = λ w k. unfold joined in advances_none run w k; written = λ u. u; closed = λ x. absurd (true≢false (sym x ∙ e)) };
-      left = λ x. omega (arith, f);
-      none = λ x. absurd (true≢false (sym x ∙ e));
+      done = record { blocks = []; advances = λ w k. unfold joined in advances_none run w k; written = λ u. u; closed = λ x. absurd (cc) };
+      count = refl;
     }
-
-over_ended : (a b : Bool) {c : Bool} → c ≡ cond a true b → c ≡ true → b ≡ false → a ≡ true
-over_ended true b e f g = refl
-over_ended false b e f g = absurd (true≢false (sym f ∙ e ∙ g))
 
 module _ {run r r' : Run} {p q u : Point} {l l₁ l₂ m m₁ m₂ s : Bytes} (x : Blocks run r p q l l₁ m m₁) (y : Round s r r' q u l₁ l₂ m₁ m₂) (i : 1 ≤ length s) (j : 1 ≤ length l₁) where
   abbrev read : Bytes
@@ -82,24 +78,15 @@ module _ {run r r' : Run} {p q u : Point} {l l₁ l₂ m m₁ m₂ s : Bytes} (x
         blocks = x.blocks ++ (read ∷ []);
         advances = λ w k. subst (λ (v : Bytes). Advances w v run r' p u l l₂ m m₂) (sym (joined_one x.blocks read)) (advances_then (x.advances w k) (y.advances (begun w (joined x.blocks)) (known w k)));
         written = λ v. y.written;
-        closed = λ e f g w k. record {
+        closed = λ e f w k. record {
           input = joined x.blocks;
-          same = joined_one x.blocks read ∙ ap (λ (v : Bytes). joined x.blocks ++ v) (y.reads.end (over_ended y.got.ended r'.output.lost y.ended e g) (sym y.failed ∙ f) i ∙ closer_same r.kept l₁ (begun w (joined x.blocks)) j (known w k));
+          same = joined_one x.blocks read ∙ ap (λ (v : Bytes). joined x.blocks ++ v) (y.reads.end (sym y.reading ∙ e) i ∙ closer_same r.kept l₁ (begun w (joined x.blocks)) j (known w k));
         };
       }
 
-pub rounds_more : {run r r' : Run} {p q u : Point} {l l₁ l₂ m m₁ m₂ s : Bytes} {t t' : ℕ} → Rounds run r p q l l₁ m m₁ t → Round s r r' q u l₁ l₂ m₁ m₂ → 0 < t → t' ≡ cond r'.ended 0 (t - 1) → 1 ≤ length s → 1 ≤ length l₁ → Rounds run r' p u l l₂ m m₂ t'
+pub rounds_more : {run r r' : Run} {p q u : Point} {l l₁ l₂ m m₁ m₂ s : Bytes} {t : ℕ} → Rounds run r p q l l₁ m m₁ t → Round s r r' q u l₁ l₂ m₁ m₂ → 1 ≤ length s → 1 ≤ length l₁ → Rounds run r' p u l l₂ m m₂ (t + 1)
 unfolding blocks_more
-rounds_more {run} {r} {r'} {p} {q} {u} {l} {l₁} {l₂} {m} {m₁} {m₂} {s} {t} {t'} x y h d i j =
-    record {
-      done = blocks_more x.done y i j;
-      left = λ e. let a = x.left (goes r.ended refl) in let c = d ∙ ap (λ (z : Bool). cond z 0 (t - 1)) e in let n = length-append x.done.blocks (take y.got.count s ∷ []) in omega arith;
-      none = λ e. d ∙ ap (λ (z : Bool). cond z 0 (t - 1)) e;
-    }
-  where
-    goes : (z : Bool) → r.ended ≡ z → r.ended ≡ false
-    goes true e = absurd (let a = x.none e in omega arith)
-    goes false e = e
+rounds_more {s = s} x y i j = record { done = blocks_more x.done y i j; count = let n = length-append x.done.blocks (take y.got.count s ∷ []) in let c = x.count in omega arith }
 
 -- ---- what a run prints
 
@@ -115,8 +102,8 @@ module _ {run r : Run} {p q : Point} {b l l' m m' : Bytes} (lent : Lent run p b 
   a = x.advances [] known_none
 
   -- A run that ends with its input prints what the script of the input's lines prints.
-  pub run_prints : r.ended ≡ true → r.failed ≡ false → r.output.lost ≡ false → Prints (joined x.blocks) p.cells p.bytes r.refused
-  run_prints e f g =
+  pub run_prints : r.reading ≡ Ended → r.output.lost ≡ false → Prints (joined x.blocks) p.cells p.bytes r.refused
+  run_prints e g =
       record {
         input = c.input;
         read = c.same;
@@ -125,7 +112,7 @@ module _ {run r : Run} {p q : Point} {b l l' m m' : Bytes} (lent : Lent run p b 
       }
     where
       c : Closed [] (joined x.blocks)
-      c = x.closed e f g [] known_none
+      c = x.closed e g [] known_none
 
       cut : map (take (length l)) (ended [] (joined x.blocks)) ≡ map (take 513) (lines_of c.input)
       cut = ap₂ (λ (n : ℕ) (ls : List Bytes). map (take n) ls) lent.line (ap (ended []) c.same ∙ sym (lines_whole c.input))
@@ -136,8 +123,13 @@ module _ {run r : Run} {p q : Point} {b l l' m m' : Bytes} (lent : Lent run p b 
       output : Writes (texts a.outcomes) []
       output = let w = a.output lent.texts lent.out in record { written = w.written; all = ap (λ (n : ℕ). w.written ++ take n m') (sym (x.written lent.used)) ∙ w.all ∙ ap (λ (n : ℕ). take n m ++ texts a.outcomes) lent.used }
 
-pub rounds_end : {run r : Run} {p q : Point} {b l l' m m' : Bytes} {t : ℕ} → Lent run p b l m → Rounds run r p q l l' m m' t → t ≤ 0 → All run r p q l l' m m'
-rounds_end k x h = record { done = x.done; over = λ e. let a = x.left e in omega arith; prints = run_prints k x.done }
+-- every round was done
+pub rounds_end : {run r : Run} {p q : Point} {b l l' m m' : Bytes} {t : ℕ} → Lent run p b l m → Rounds run r p q l l' m m' t → t ≡ 2 ^ 64 - 1 → All run r p q l l' m m'
+rounds_end k x h = record { done = x.done; over = λ e f. x.count ∙ h; prints = run_prints k x.done }
+
+-- or the run is over before
+pub rounds_over : {run r : Run} {p q : Point} {b l l' m m' : Bytes} {t : ℕ} → Lent run p b l m → Rounds run r p q l l' m m' t → {z : Bool} → z ≡ is_over r.reading r.output.lost → z ≡ true → All run r p q l l' m m'
+rounds_over {r = r} k x e f = record { done = x.done; over = λ g h. absurd (true≢false (sym f ∙ e ∙ ap (λ (o : Reading). is_over o r.output.lost) g ∙ h)); prints = run_prints k x.done }
 
 -- ---- the program
 
@@ -147,7 +139,7 @@ unfolding every new_state
 new_memory e = record { begins = ap (λ (s : State). s.ledger) e; zero = tt; long = lit≤ tt; places = lit≤ tt; room = lit≤ tt }
 
 -- what the program lends is what a run must be lent
-pub lent_main : {run : Run} {s : State} {b : Bytes} → s ≡ new_state → 65536 ≡ length b → run.kept ≡ 0 → run.output.used ≡ 0 → run.refused ≡ false → run.ended ≡ false
+pub lent_main : {run : Run} {s : State} {b : Bytes} → s ≡ new_state → 65536 ≡ length b → run.kept ≡ 0 → run.output.used ≡ 0 → run.refused ≡ false → run.reading ≡ Open
     → Lent run (point s (replicate 28 0) (replicate 512 0) (replicate 3072 (pos 0)) (replicate 2280 0) (replicate 4096 (pos 0)) (replicate 4096 0)) b (replicate 513 0) (replicate 262144 0)
 lent_main {s = s} n e k u o f =
     record {

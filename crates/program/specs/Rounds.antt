@@ -1,21 +1,21 @@
 -- A run of the program: what it reads at once, all of its input, and what that prints.
-use Rattle.std.specs.Prelude.{◌≡◌, List, [], ◌∷◌, ◌++◌, Bool, true, false, cond, ◌-◌, ◌^◌, ◌≤◌, ℤ, length, take}
+use Rattle.std.specs.Prelude.{◌≡◌, List, [], ◌∷◌, ◌++◌, Bool, false, ◌-◌, ◌^◌, ◌≤◌, ℤ, length, take}
 use Rattle.syntax.specs.Grammar.{Bytes}
 use Rattle.calls.specs.Scripts.{script}
 use Rattle.history.specs.Fixtures.{Fresh}
 use Rattle.console.specs.declared.Got.{Got}
+use Rattle.console.specs.declared.Reading.TheVariants.{Open, Ended}
 use Rattle.console.specs.Lines.{lines_of, begun, closing, Reads}
 use Rattle.console.specs.Output.{most_text, Writes}
 use Rattle.script.specs.Runs.{store}
 use Rattle.lines.specs.declared.Run.{Run}
 use Rattle.lines.specs.Runs.{Point, text_room, texts, refused_after, Advances, Known}
 
--- A part of the input is read, and stands at the start of s; it is done, and all that its lines print is written. The run is over where the input ended or output is lost.
+-- A part of the input is read, and stands at the start of s; it is done, and all that its lines print is written.
 pub record Round (s : Bytes) (run r : Run) (p q : Point) (l l' m m' : Bytes) : Type 0 where
   pub got : Got
   pub reads : Reads run.kept s got
-  pub failed : r.failed ≡ got.failed
-  pub ended : r.ended ≡ cond got.ended true r.output.lost
+  pub reading : r.reading ≡ got.reading
   pub written : r.output.used ≡ 0
   pub advances : (w : Bytes) → Known w run l → Advances w (take got.count s) run r p q l l' m m'
 
@@ -39,14 +39,14 @@ pub record Lent (run : Run) (p : Point) (b l m : Bytes) : Type 0 where
   pub line : length l ≡ 513
   pub texts : text_room p ≤ most_text
   pub out : most_text ≤ length m
-  pub goes : run.ended ≡ false
+  pub goes : run.reading ≡ Open
 
 -- Blocks of the input are done, and all that their lines print is written. Where the input ended, with all of it read and all output written, the blocks are all of it.
 pub record Blocks (run r : Run) (p q : Point) (l l' m m' : Bytes) : Type 0 where
   pub blocks : List Bytes
   pub advances : (w : Bytes) → Known w run l → Advances w (joined blocks) run r p q l l' m m'
   pub written : run.output.used ≡ 0 → r.output.used ≡ 0
-  pub closed : r.ended ≡ true → r.failed ≡ false → r.output.lost ≡ false → (w : Bytes) → Known w run l → Closed w (joined blocks)
+  pub closed : r.reading ≡ Ended → r.output.lost ≡ false → (w : Bytes) → Known w run l → Closed w (joined blocks)
 
 -- What was read, b, is the input, and a line feed where its last line has none; what was written is what the script of the input's lines prints, all of it; and a line was refused where the script refuses one.
 pub record Prints (b : Bytes) (zs : List ℤ) (ys : Bytes) (refused : Bool) : Type 0 where
@@ -58,5 +58,5 @@ pub record Prints (b : Bytes) (zs : List ℤ) (ys : Bytes) (refused : Bool) : Ty
 -- The input is done, block by block, to its end; unless it could not be read, output was lost, or 2 ^ 64 - 1 blocks were read.
 pub record All (run r : Run) (p q : Point) (l l' m m' : Bytes) : Type 0 where
   pub done : Blocks run r p q l l' m m'
-  pub over : r.ended ≡ false → length done.blocks ≡ 2 ^ 64 - 1
-  pub prints : r.ended ≡ true → r.failed ≡ false → r.output.lost ≡ false → Prints (joined done.blocks) p.cells p.bytes r.refused
+  pub over : r.reading ≡ Open → r.output.lost ≡ false → length done.blocks ≡ 2 ^ 64 - 1
+  pub prints : r.reading ≡ Ended → r.output.lost ≡ false → Prints (joined done.blocks) p.cells p.bytes r.refused

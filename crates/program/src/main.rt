@@ -6,7 +6,7 @@ ghost use Rattle.lines.specs.Runs.{point};
 ghost use Rattle.program.specs.Rounds.{Round, Lent, All};
 // Named since a State holds one: the checker knows the types of the crates that are named here alone.
 use caller::Caller;
-use console::{Got, Output};
+use console::{Got, Output, Reading};
 use grant::Grant;
 use ledger::Ledger;
 use lines::Run;
@@ -62,12 +62,11 @@ fn do_some(
         out,
     );
     r.output = console::flush(rt, out, r.output);
-    r.failed = got.failed;
-    r.ended = console::is_over(got.ended, r.output.lost);
+    r.reading = got.reading;
     r
 }
 
-// Does the lines of standard input to its end. A proved loop has to end, and nothing says that the input does: the loop counts its rounds down, from a number that no run uses up.
+// Does the lines of standard input to its end. A proved loop has to end, and nothing says that the input does: the loop has more rounds than any run uses up.
 fn do_all(
     rt: &(impl Input + Print + Eprint + Alloc),
     run: Run,
@@ -85,12 +84,13 @@ fn do_all(
     ensures { All run result (point run.state names.old times.old values.old words.old cells.old bytes.old) (point result.state names.new times.new values.new words.new cells.new bytes.new) line.old line.new out.old out.new }
 {
     let mut r = run;
-    let mut rounds = u64::MAX;
-    while 0 < rounds {
+    'rounds: for _ in 0..u64::MAX {
         r = do_some(
             rt, r, block, names, times, values, words, line, cells, bytes, out,
         );
-        rounds = console::rounds_left(rounds, r.ended);
+        if console::is_over(r.reading, r.output.lost) {
+            return r;
+        }
     }
     r
 }
@@ -116,8 +116,7 @@ fn main(rt: HostRuntime) -> ExitCode {
         },
         explains: console::is_given(&rt, b"--explain"),
         refused: false,
-        failed: false,
-        ended: false,
+        reading: Reading::Open,
     };
     let r = do_all(
         &rt,
@@ -132,5 +131,5 @@ fn main(rt: HostRuntime) -> ExitCode {
         &mut bytes,
         &mut out,
     );
-    console::say_status(&rt, r.failed, r.output.lost, r.refused)
+    console::say_status(&rt, r.reading, r.output.lost, r.refused)
 }

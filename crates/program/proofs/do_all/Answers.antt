@@ -1,16 +1,15 @@
-use Rattle.std.proofs.Common.{refl, ◌∙◌}
-use Rattle.program.proofs.Rounds.{rounds_less}
-use Rattle.program.proofs.Whole.{rounds_start, rounds_more, rounds_end, wide, wide_line}
+use Rattle.std.proofs.Common.{◌∙◌, arith}
+use Rattle.program.proofs.Whole.{rounds_start, rounds_more, rounds_end, rounds_over, wide, wide_line}
 use Rattle.program.proofs.do_all.Goals as goal
 
-pub loop-rounds-init : goal.loop-rounds-init
-loop-rounds-init g c = rounds_start _ c.requires.goes refl
+pub rounds-init : goal.rounds-init
+rounds-init g c = rounds_start _ c.requires.goes
 
-pub loop-rounds-smaller : goal.loop-rounds-smaller
-loop-rounds-smaller g c = rounds_less c.do_some-r.result.ended c.rounds_left-rounds.ensures c.loop-rounds-test.true
+pub returns-then-is_over : goal.returns-then-is_over
+returns-then-is_over g c = rounds_over c.requires (rounds_more c.rounds.invariant c.do_some-r.ensures (wide c.requires.block (c.do_some-r.auto.block ∙ c.rounds.auto.block)) (wide_line c.requires.line c.rounds.auto.line)) c.is_over.ensures c.if-is_over.true
 
-pub loop-rounds-preserved : goal.loop-rounds-preserved
-loop-rounds-preserved g c = rounds_more c.loop-rounds.invariant c.do_some-r.ensures c.loop-rounds-test.true c.rounds_left-rounds.ensures (wide c.requires.block (c.do_some-r.auto.block ∙ c.loop-rounds.auto.block)) (wide_line c.requires.line c.loop-rounds.auto.line)
+pub rounds-preserved : goal.rounds-preserved
+rounds-preserved g c = rounds_more c.rounds.invariant c.do_some-r.ensures (wide c.requires.block (c.do_some-r.auto.block ∙ c.rounds.auto.block)) (wide_line c.requires.line c.rounds.auto.line)
 
 pub returns : goal.returns
-returns g c = rounds_end c.requires c.loop-rounds.invariant c.loop-rounds-test.false
+returns g c = rounds_end c.requires c.rounds.invariant (omega (arith, c.rounds.auto.counter-end, c.rounds-test.false))
