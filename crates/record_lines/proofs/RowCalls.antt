@@ -9,7 +9,7 @@ use lib.IntN.{ℤ, pos}
 use lib.Dec.{T, leb, ltb, eqb}
 use lib.ListN.{length, take, drop}
 use borrow.Author.Tests.{ltb-true, ltb-false, ne_eqb}
-use Rattle.std.specs.Prelude.{Ok, Err}
+use Rattle.std.specs.Prelude.{Ok}
 use Rattle.refusal.specs.Results.{Said, result_of}
 use Rattle.refusal.specs.Checks.{refuse, first, table, no_fault}
 use Rattle.refusal.specs.declared.Refusal.{Refusal}
