@@ -1,7 +1,7 @@
 // Lists of names, numbers and profile entries in a line: each item after one space, up to a closing bracket.
 #![tactic(auto)]
 
-ghost use Rattle.std.specs.Prelude.{◌≡◌, eqb, min};
+ghost use Rattle.std.specs.Prelude.{◌≡◌, ◌<◌, ◌-◌, ◌^◌, suc, eqb, min, set};
 ghost use Rattle.lists.specs.Lists.{distinct};
 ghost use Rattle.syntax.specs.Limits.{max_columns, max_entries};
 ghost use Rattle.items.specs.Items.{name_more, names_found, names_at, value_more, values_found, values_at, entry_found, entry_more, entries_found, entries_at, once};
@@ -104,19 +104,27 @@ impl Entries {
     }
 }
 
+// Keeps an item of a list where it is among the first. Returns the count with it, at most one more than are kept.
+fn keep<T: Copy, const N: usize>(items: &mut [T; N], count: u32, item: T) -> u32
+    requires { N < 2 ^ 32 - 1 }
+    ensures items { items.new ≡ set items.old count item }
+    ensures count { result ≡ min (suc count) (suc N) }
+{
+    let at = count as usize;
+    if N <= at {
+        return N as u32 + 1;
+    }
+    items[at] = item;
+    count + 1
+}
+
 impl NamesAt {
     // Counts one name more, and keeps it where it is among the first.
     fn add(&mut self, n: NameAt)
         ensures { self.new ≡ name_more self.old n }
     {
         self.long |= n.long;
-        let at = self.count as usize;
-        if Names::MOST <= at {
-            self.count = Names::OVER;
-            return;
-        }
-        self.codes[at] = n.code;
-        self.count += 1;
+        self.count = keep(&mut self.codes, self.count, n.code);
     }
 }
 
@@ -171,13 +179,7 @@ impl ValuesAt {
         ensures { self.new ≡ value_more self.old v }
     {
         self.wide |= v.is_none();
-        let place = self.count as usize;
-        if Names::MOST <= place {
-            self.count = Names::OVER;
-            return;
-        }
-        self.values[place] = v.unwrap_or(0);
-        self.count += 1;
+        self.count = keep(&mut self.values, self.count, v.unwrap_or(0));
     }
 }
 
@@ -249,14 +251,8 @@ impl EntriesAt {
         ensures { self.new ≡ entry_more self.old e }
     {
         self.over |= e.over;
-        let at = self.count as usize;
-        if Entries::MOST <= at {
-            self.count = Entries::OVER;
-            return;
-        }
-        self.names[at] = e.name;
-        self.values[at] = e.value;
-        self.count += 1;
+        keep(&mut self.names, self.count, e.name);
+        self.count = keep(&mut self.values, self.count, e.value);
     }
 }
 

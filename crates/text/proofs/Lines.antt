@@ -1,4 +1,4 @@
--- A line of a verb by its first word, what follows it and its end; and a query.
+-- A line of a verb by its first word, what follows it and its end.
 use mathlib.Core.Path.{◌≡◌, refl, sym, ap, ◌∙◌}
 use mathlib.Core.Bool.{Bool, true, false, cond}
 use mathlib.Core.Option.{Option, none, some}
@@ -6,12 +6,12 @@ use Prim.Native.Nat.{ℕ, ◌<◌}
 use lib.Dec.{ltb}
 use lib.ListN.{length, drop}
 use borrow.Author.Tests.{ltb-true}
-use Rattle.syntax.specs.Grammar.{Bytes, Verb, Body, Form, verb_word}
+use Rattle.syntax.specs.Grammar.{Bytes, Verb, Body, verb_word}
 use Rattle.syntax.specs.Limits.{max_line}
-use Rattle.syntax.specs.Readers.{Read, bind, ◌>>=◌, ◌>>◌, give, byte, read_body, read_as, parse, parse_as, parse_query}
+use Rattle.syntax.specs.Readers.{Read, bind, ◌>>=◌, ◌>>◌, give, byte, read_body, read_as, parse, parse_as}
 use Rattle.text.specs.declared.Line.{Line}
 use Rattle.text.specs.Keywords.{opened_at, line_open}
-use Rattle.text.specs.Readings.{any_form, whole, closed}
+use Rattle.text.specs.Readings.{whole, closed}
 use Rattle.text.proofs.Places.{Spells, open_not, open_is}
 
 -- a line after its first word
@@ -68,16 +68,3 @@ module _ (v : Verb) (s : Bytes) {c : ℕ} (k : Spells c (verb_word v)) {o : Line
 
     pub line_opened : (o.at ≡ 0 → ⊥) → cond (ltb max_line (length s)) (unread true) (made (parse_as v s)) ≡ made (closed (read_body v (length s) (drop o.at s)))
     line_opened n = rw (opened_short n, as_opened n)
-
--- ---- a query's text has no line around it
-
-pub query_whole : (s : Bytes) → parse_query s ≡ whole (any_form (drop 0 s))
-unfolding parse_query parse whole any_form
-query_whole s = refl
-
-pub query_none : (s : Bytes) → any_form (drop 0 s) ≡ none → parse_query s ≡ none
-unfolding whole bind
-query_none s e = query_whole s ∙ rw e
-
-pub query_some : (s : Bytes) (q : Form) (e : ℕ) → any_form (drop 0 s) ≡ some (record { what = q; left = drop e s }) → parse_query s ≡ whole (some (record { what = q; left = drop e s }))
-query_some s q e f = query_whole s ∙ ap whole f

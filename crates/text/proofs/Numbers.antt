@@ -47,44 +47,52 @@ module _ (s : Bytes) (at : ℕ) {e : ℕ} (q : e ≡ run_end Digit s at) where
   unfolding run_end class_of
   count_is f = q ∙ rw f
 
-  end_is : {r : Bytes} → run digit (drop at s) ≡ r → numeral_end s at ≡ cond (numeral r) e at
+  end_is : {r : Bytes} → run digit (drop at s) ≡ r → numeral_end s at ≡ cond (numeral r) (Some e) None
   unfolding numeral_end
   end_is f = rw (f, q)
 
-  module _ {b : ℕ} (p : b ≡ get_or s at 0) where
+  pub digits_none : e ≡ at → None ≡ numeral_end s at
+  unfolding numeral
+  digits_none z = go (run digit (drop at s)) refl
+    where
+      go : (r : Bytes) → run digit (drop at s) ≡ r → None ≡ numeral_end s at
+      go [] f = sym (end_is f)
+      go (d ∷ ds) f = let h = count_is f in absurd (omega arith)
+
+  module _ (k : e ≡ at → ⊥) {b : ℕ} (p : b ≡ get_or s at 0) where
     head_is : {d : ℕ} {ds : Bytes} → run digit (drop at s) ≡ d ∷ ds → d ≡ b
     head_is f = run_head digit (drop at s) f ∙ first_byte s at ∙ sym p
 
-    -- fewer than two digits are a numeral, or none
-    few : ((d c : ℕ) (cs : Bytes) → run digit (drop at s) ≡ d ∷ (c ∷ cs) → e ≡ numeral_end s at) → e ≡ numeral_end s at
+    -- one digit is a numeral
+    few : ((d c : ℕ) (cs : Bytes) → run digit (drop at s) ≡ d ∷ (c ∷ cs) → Some e ≡ numeral_end s at) → Some e ≡ numeral_end s at
     unfolding numeral
-    few k = go (run digit (drop at s)) refl
+    few more = go (run digit (drop at s)) refl
       where
-        go : (r : Bytes) → run digit (drop at s) ≡ r → e ≡ numeral_end s at
-        go [] f = let h = count_is f in rw (end_is f) (omega arith)
+        go : (r : Bytes) → run digit (drop at s) ≡ r → Some e ≡ numeral_end s at
+        go [] f = let h = count_is f in absurd (k (omega arith))
         go (d ∷ []) f = sym (end_is f)
-        go (d ∷ (c ∷ cs)) f = k d c cs f
+        go (d ∷ (c ∷ cs)) f = more d c cs f
 
-    pub digits_other : (b ≡ 48 → ⊥) → e ≡ numeral_end s at
+    pub digits_other : (b ≡ 48 → ⊥) → Some e ≡ numeral_end s at
     unfolding numeral
     digits_other n = few (λ d c cs f. sym (end_is f ∙ rw (head_is f, ne_eqb b 48 n)))
 
-    pub digits_needless : b ≡ 48 → 1 < e - at → at ≡ numeral_end s at
+    pub digits_needless : b ≡ 48 → 1 < e - at → None ≡ numeral_end s at
     unfolding numeral
     digits_needless z n = go (run digit (drop at s)) refl
       where
-        go : (r : Bytes) → run digit (drop at s) ≡ r → at ≡ numeral_end s at
+        go : (r : Bytes) → run digit (drop at s) ≡ r → None ≡ numeral_end s at
         go [] f = let h = count_is f in absurd (omega arith)
         go (d ∷ []) f = let h = count_is f in absurd (omega arith)
         go (d ∷ (c ∷ cs)) f = sym (end_is f ∙ rw (head_is f, z))
 
-    pub digits_zero : b ≡ 48 → e - at ≤ 1 → e ≡ numeral_end s at
+    pub digits_zero : b ≡ 48 → e - at ≤ 1 → Some e ≡ numeral_end s at
     digits_zero z n = few (λ d c cs f. let h = count_is f in absurd (omega arith))
 
   pub digits_from : at ≤ e
   digits_from = run_from Digit s at q
 
-pub ruleset numeral_ends = (digits_other, digits_needless, digits_zero, digits_from)
+pub ruleset numeral_ends = (digits_none, digits_other, digits_needless, digits_zero, digits_from)
 
 -- ---- numbers
 
@@ -97,40 +105,38 @@ module _ (v x : ℕ) (h : v ≡ min x far) where
   cast_is : to_z w64 v ≡ pos v
   cast_is = to_z_pos w64 v cast_fits.sfits
 
--- what follows a numeral's end
-module _ (s : Bytes) (at : ℕ) {e : ℕ} (q : e ≡ numeral_end s at) where
-  numeral_none : e ≡ at → numeral (run digit (drop at s)) ≡ false
-  unfolding numeral_end run_end class_of numeral
-  numeral_none z = go (run digit (drop at s)) refl (numeral (run digit (drop at s))) refl
+-- a numeral at a place, and none
+module _ (s : Bytes) (at : ℕ) where
+  pub natural_none : None ≡ numeral_end s at → None ≡ natural_found s at
+  unfolding natural_found numeral_end read_natural read_nat ensure bind seen
+  natural_none z = go (numeral (run digit (drop at s))) refl z
     where
-      go : (r : Bytes) → run digit (drop at s) ≡ r → (b : Bool) → numeral (run digit (drop at s)) ≡ b → b ≡ false
-      go r f false g = refl
-      go [] f true g = sym g ∙ rw f
-      go (d ∷ ds) f true g = let w : e ≡ at + suc (length ds) = q ∙ rw (g, f) in absurd (omega arith)
+      go : (b : Bool) → numeral (run digit (drop at s)) ≡ b → None ≡ cond b (Some (run_end Digit s at)) None → None ≡ natural_found s at
+      go true f z = absurd (no_some z)
+      go false f z = rw f
 
-  pub natural_none : e ≡ at → None ≡ natural_found s at
-  unfolding natural_found read_natural read_nat ensure bind seen
-  natural_none z = rw (numeral_none z)
-
-  module _ (n : e ≡ at → ⊥) where
-    numeral_some : numeral (run digit (drop at s)) ≡ true
+  module _ {e : ℕ} (q : Some e ≡ numeral_end s at) where
+    numeral_some : (numeral (run digit (drop at s)) ≡ true) × (e ≡ run_end Digit s at)
     unfolding numeral_end
-    numeral_some = go (numeral (run digit (drop at s))) refl
+    numeral_some = go (numeral (run digit (drop at s))) q
       where
-        go : (b : Bool) → numeral (run digit (drop at s)) ≡ b → b ≡ true
-        go true f = refl
-        go false f = absurd (n (q ∙ rw f))
+        go : (b : Bool) → Some e ≡ cond b (Some (run_end Digit s at)) None → (b ≡ true) × (e ≡ run_end Digit s at)
+        go true z = (refl, cc)
+        go false z = absurd (no_some (sym z))
 
     end_here : e ≡ run_end Digit s at
-    unfolding numeral_end
-    end_here = q ∙ rw numeral_some
+    end_here = numeral_some.1
 
     here : at ≤ length s
-    unfolding run_end class_of
-    here =
-        let w = end_here in
-        let l = ap length (run_past digit (drop at s)) in
-        omega (arith, length-append (run digit (drop at s)) (past digit (drop at s)), length-drop at s)
+    unfolding numeral
+    here = go (run digit (drop at s)) refl
+      where
+        go : (r : Bytes) → run digit (drop at s) ≡ r → at ≤ length s
+        go [] f = let z : true ≡ false = sym numeral_some.0 ∙ ap numeral f in let k : ◌≡◌ {A = ℕ} 0 1 = cc in absurd (omega arith)
+        go (d ∷ ds) f =
+            let m = ap length f in
+            let l = ap length (run_past digit (drop at s)) in
+            omega (arith, length-append (run digit (drop at s)) (past digit (drop at s)), length-drop at s)
 
     pub number_from : at ≤ e
     number_from = run_from Digit s at end_here
@@ -148,7 +154,7 @@ module _ (s : Bytes) (at : ℕ) {e : ℕ} (q : e ≡ numeral_end s at) where
 
     nat_is : read_nat (drop at s) ≡ some (record { what = value_from 0 (take (e - at) (drop at s)); left = past digit (drop at s) })
     unfolding read_nat ensure
-    nat_is = rw (numeral_some, word_is)
+    nat_is = rw (numeral_some.0, word_is)
 
     pub natural_some : {v : ℕ} → v ≡ min (value_from 0 (take (e - at) (drop at s))) far → Some (record { value = to_z w64 v; next = e }) ≡ natural_found s at
     unfolding natural_found read_natural bind seen number_seen left_at clamp

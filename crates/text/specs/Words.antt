@@ -101,9 +101,9 @@ number_read s (some r) = record { ok = true; value = clamp r.what; next = length
 unfoldable pub number_at : Bytes → ℕ → Number
 number_at s at = number_read s (read_int (drop at s))
 
--- where digits with no needless zero end that begin at a place, or the place itself where there are none
-unfoldable pub numeral_end : Bytes → ℕ → ℕ
-numeral_end s at = cond (numeral (run digit (drop at s))) (run_end Digit s at) at
+-- where digits with no needless zero end that begin at a place
+unfoldable pub numeral_end : Bytes → ℕ → Found ℕ
+numeral_end s at = cond (numeral (run digit (drop at s))) (Some (run_end Digit s at)) None
 
 -- a value within the 32 bits
 unfoldable pub value_given : ℤ → Found ℤ

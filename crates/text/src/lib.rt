@@ -423,28 +423,28 @@ fn value(digits: &[u8]) -> u64
     v
 }
 
-// Where digits with no needless zero end that begin at a place, or the place itself where there are none.
-fn numeral_end(s: &[u8], at: usize) -> usize
+// Where digits with no needless zero end that begin at a place.
+fn numeral_end(s: &[u8], at: usize) -> Option<usize>
     ensures { result ≡ numeral_end s.now at }
 {
     let end = run_end(s, at, Class::Digit);
-    if byte(s, at) != b'0' {
-        return end;
-    }
-    if end - at <= 1 {
-        return end;
-    }
-    at
-}
-
-// The value of the digits at a place, with no needless zero, and the place after them.
-fn natural(s: &[u8], at: usize) -> Option<NumberAt>
-    ensures { result ≡ natural_found s.now at }
-{
-    let end = numeral_end(s, at);
     if end == at {
         return None;
     }
+    if byte(s, at) != b'0' {
+        return Some(end);
+    }
+    if end - at <= 1 {
+        return Some(end);
+    }
+    None
+}
+
+// The number of the digits at a place, with no needless zero.
+fn natural(s: &[u8], at: usize) -> Option<NumberAt>
+    ensures { result ≡ natural_found s.now at }
+{
+    let end = numeral_end(s, at)?;
     Some(NumberAt {
         value: value(&s[at..end]) as i64,
         next: end,

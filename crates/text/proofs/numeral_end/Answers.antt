@@ -2,6 +2,9 @@
 use Rattle.text.proofs.Numbers.{numeral_ends}
 use Rattle.text.proofs.numeral_end.Goals as goal
 
+pub returns-then-end-at : goal.returns-then-end-at
+returns-then-end-at c = search numeral_ends
+
 pub returns-then-byte-ne48 : goal.returns-then-byte-ne48
 returns-then-byte-ne48 c = search numeral_ends
 

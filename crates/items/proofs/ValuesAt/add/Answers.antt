@@ -1,12 +1,9 @@
--- `ValuesAt::add`: by whether there is a place.
+-- `ValuesAt::add`: by its fields.
 use borrow.Author.Rules.{rules}
-use native.Mathlib.Omega.{arith}
 use Rattle.text.proofs.Found.{none_is}
-use Rattle.items.proofs.ValueLists.{value_full, value_room}
+use Rattle.items.specs.Items.{value_more}
 use Rattle.items.proofs.ValuesAt.add.Goals as goal
 
-pub returns-then-place-ge-MOST : goal.returns-then-place-ge-MOST
-returns-then-place-ge-MOST c = value_full _ _ (none_is _ c.is_none.ensures) (search rules) (omega arith)
-
 pub returns : goal.returns
-returns c = value_room _ _ (none_is _ c.is_none.ensures) (search rules) (omega arith)
+unfolding value_more
+returns c = let k = none_is c.args.v c.is_none.ensures in search rules
