@@ -7,19 +7,18 @@ use Prim.Native.Nat.{ℕ, suc, ◌+◌, ◌-◌, ◌≤◌, ◌<◌, ◌^◌, mi
 use native.Mathlib.Omega.{arith}
 use lib.Bits.{bit_or, or_zero_r}
 use lib.Dec.{eqb}
-use lib.ListN.{length, drop, get_or, set, length-map}
+use lib.ListN.{length, drop, set, length-map}
 use lib.Seq.{set_out}
 use borrow.Author.Tests.{lt-ltb}
 use Rattle.lists.specs.Lists.{every, some?, distinct, count_from}
 use Rattle.syntax.specs.Grammar.{Bytes}
-use Rattle.syntax.specs.Readers.{Read, bind, closes, read_name}
+use Rattle.syntax.specs.Readers.{Read, bind, byte, closes, read_name}
 use Rattle.syntax.specs.Limits.{short}
 use Rattle.syntax.proofs.Leaving.{name_leaves}
-use Rattle.text.specs.declared.Name.{Name}
-use Rattle.text.specs.Words as W
-use Rattle.text.specs.Words.{name_at}
+use Rattle.text.specs.declared.NameAt.{NameAt}
+use Rattle.text.specs.Words.{Found, Some, None, seen, left_at, read_end, name_seen, name_found}
 use Rattle.text.specs.Readings.{any_items}
-use Rattle.text.proofs.Views.{View, name_view}
+use Rattle.text.proofs.Views.{Reading, name_reading}
 use Rattle.text.proofs.Fuel.{no_close, any_items_leaves}
 use Rattle.items.specs.Items.{first_of, code_short}
 use Rattle.items.proofs.Lists.{more}
@@ -29,7 +28,7 @@ use Rattle.masks.proofs.Lists.{bit_mask, mask_append}
 use Rattle.terms.specs.Terms.{stream_found}
 use Rattle.terms.proofs.Codes.{stream_most}
 use Rattle.columns.specs.declared.Streams.{Streams}
-use Rattle.columns.specs.Columns.{stream_place, no_streams, streams_read, streams_at, stream_added, streams_ended, ends_by}
+use Rattle.columns.specs.Columns.{stream_place, no_streams, streams_seen, streams_at, stream_added, streams_ended, ends_by}
 use Rattle.columns.proofs.Closing.{ends_none}
 use Rattle.columns.proofs.Loops.{Walk, on, walk_falls, walk_over, walk_end, walk_other, walk_stuck, walk_more, end_place}
 
@@ -86,7 +85,6 @@ so_far ns ws =
     record {
       read =
           record {
-            ok = false;
             next = 0;
             over = not (every short ws);
             unknown = some? (λ n. eqb (stream_place ns n) 4) ws;
@@ -98,8 +96,8 @@ so_far ns ws =
     }
 
 alike : {o p u v r t : Bool} {c d : ℕ} {x y : List ℕ} {m n : ℕ} → o ≡ p → u ≡ v → r ≡ t → c ≡ d → x ≡ y → m ≡ n
-    → ◌≡◌ {A = Seen} (record { read = record { ok = false; next = 0; over = o; unknown = u; repeated = r; count = c; places = x }; mask = m })
-    (record { read = record { ok = false; next = 0; over = p; unknown = v; repeated = t; count = d; places = y }; mask = n })
+    → ◌≡◌ {A = Seen} (record { read = record { next = 0; over = o; unknown = u; repeated = r; count = c; places = x }; mask = m })
+    (record { read = record { next = 0; over = p; unknown = v; repeated = t; count = d; places = y }; mask = n })
 alike e f g h i j = rw (e, f, g, h, i, j)
 
 one_more : (ns : List ℕ) (ws : List Bytes) (w : Bytes) → seen_step ns (so_far ns ws) w ≡ so_far ns (ws ++ (w ∷ []))
@@ -121,28 +119,28 @@ one_more ns ws w =
 
 -- ---- the list
 
-unfoldable pub streams_answer : List ℕ → Bytes → Seen → Option (Read (List Bytes)) → Streams
-streams_answer ns s r none = no_streams
-streams_answer ns s r (some x) = streams_ended (fold (seen_step ns) r x.what).read (length s - length x.left)
+unfoldable pub streams_answer : List ℕ → Bytes → Seen → Option (Read (List Bytes)) → Found Streams
+streams_answer ns s r none = None
+streams_answer ns s r (some x) = Some (streams_ended (fold (seen_step ns) r x.what).read (length s - length x.left))
 
 pub answer_more : (ns : List ℕ) (s : Bytes) (r : Seen) (x : Bytes) (o : Option (Read (List Bytes))) → streams_answer ns s r (more x o) ≡ streams_answer ns s (seen_step ns r x) o
 unfolding streams_answer more bind fold
 answer_more ns s r x none = refl
 answer_more ns s r x (some xs) = refl
 
-unfoldable pub streams_walk : (ns : List ℕ) (s : Bytes) → Walk Bytes Name Seen Streams s
+unfoldable pub streams_walk : (ns : List ℕ) (s : Bytes) → Walk Bytes NameAt Seen (Found Streams) s
 streams_walk ns s =
     record {
       ends = ends_by false;
       unended = ends_none false;
-      view = name_view s;
+      reading = name_reading s;
       answer = streams_answer ns s;
       step = seen_step ns;
       stepped = answer_more ns s;
     }
 
 -- what is read so far, joined to what is read on from a place
-unfoldable pub streams_on : List ℕ → Bytes → Streams → ℕ → ℕ → Streams
+unfoldable pub streams_on : List ℕ → Bytes → Streams → ℕ → ℕ → Found Streams
 streams_on ns s r seen i = on (streams_walk ns s) (record { read = r; mask = seen }) i
 
 nothing_yet : (ns : List ℕ) → ◌≡◌ {A = Seen} (record { read = no_streams; mask = 0 }) (so_far ns [])
@@ -151,13 +149,13 @@ nothing_yet ns = refl
 
 -- at first nothing is read
 pub streams_start : (ns : List ℕ) (s : Bytes) (at : ℕ) {r : Streams} → r ≡ no_streams → streams_at ns s at ≡ streams_on ns s r 0 at
-unfolding streams_walk name_view streams_on on streams_at ends_by streams_read streams_answer streams_ended so_far
+unfolding streams_walk name_reading streams_on on streams_at seen left_at ends_by streams_seen streams_answer streams_ended so_far
 streams_start ns s at e = rw e (go (any_items closes read_name (drop at s)))
   where
-    go : (o : Option (Read (List Bytes))) → streams_read ns s o ≡ streams_answer ns s (record { read = no_streams; mask = 0 }) o
+    go : (o : Option (Read (List Bytes))) → seen (streams_seen ns s) o ≡ streams_answer ns s (record { read = no_streams; mask = 0 }) o
     go none = refl
     go (some x) =
-        sym (ap (λ r. streams_ended r.read (length s - length x.left))
+        sym (ap (λ r. Some (streams_ended r.read (length s - length x.left)))
         (ap (λ r. fold (seen_step ns) r x.what) (nothing_yet ns) ∙ fold_from (seen_step ns) (so_far ns) (one_more ns) [] x.what))
 
 -- ---- each end, and the way on
@@ -165,37 +163,37 @@ streams_start ns s at e = rw e (go (any_items closes read_name (drop at s)))
 abbrev both : Streams → ℕ → Seen
 both r seen = record { read = r; mask = seen }
 
-pub streams_less : (ns : List ℕ) (s : Bytes) (i : ℕ) {n : Name} → i < length s → n ≡ name_at s (i + 1) → not n.ok ≡ false → length s - n.next < length s - i
-unfolding streams_walk name_view name_at
-streams_less ns s i h p q = walk_falls (streams_walk ns s) i h p q
+pub streams_less : (ns : List ℕ) (s : Bytes) (i p : ℕ) {n : NameAt} → i < length s → Some p ≡ read_end s (byte 32 (drop i s)) → Some n ≡ name_found s p → length s - n.next < length s - i
+unfolding streams_walk name_reading name_found
+streams_less ns s i p h b q = walk_falls (streams_walk ns s) i p h b q
 
-module _ (ns : List ℕ) (s : Bytes) (at i : ℕ) (r : Streams) (seen : ℕ) (inv : streams_at ns s at ≡ streams_on ns s r seen i) {x : Streams} where
-  pub streams_over : length s ≤ i → x ≡ no_streams → x ≡ streams_at ns s at
+module _ (ns : List ℕ) (s : Bytes) (at i : ℕ) (r : Streams) (seen : ℕ) (inv : streams_at ns s at ≡ streams_on ns s r seen i) where
+  pub streams_over : length s ≤ i → None ≡ streams_at ns s at
   unfolding streams_on streams_walk streams_answer
-  streams_over h e = e ∙ sym (walk_over (streams_walk ns s) (both r seen) i inv h)
+  streams_over h = sym (walk_over (streams_walk ns s) (both r seen) i inv h)
 
   module _ (h : i < length s) {t : Bool} (u : t ≡ ends_by false (drop i s)) where
-    pub streams_close : t ≡ true → x ≡ streams_ended r i → x ≡ streams_at ns s at
+    pub streams_close : {x : Streams} → t ≡ true → x ≡ streams_ended r i → Some x ≡ streams_at ns s at
     unfolding streams_on streams_walk streams_answer fold
-    streams_close d e = e ∙ sym (walk_end (streams_walk ns s) (both r seen) i inv u d ∙ ap (streams_ended r) (end_place s i h))
+    streams_close d e = ap Some e ∙ sym (walk_end (streams_walk ns s) (both r seen) i inv u d ∙ ap (λ j. Some (streams_ended r j)) (end_place s i h))
 
     module _ (d : t ≡ false) where
-      pub streams_other : (get_or s i 0 ≡ 32 → ⊥) → x ≡ no_streams → x ≡ streams_at ns s at
+      pub streams_other : {x : Found Streams} → None ≡ read_end s (byte 32 (drop i s)) → x ≡ None → x ≡ streams_at ns s at
       unfolding streams_on streams_walk streams_answer
-      streams_other f e = e ∙ sym (walk_other (streams_walk ns s) (both r seen) i inv u h d f)
+      streams_other f e = e ∙ sym (walk_other (streams_walk ns s) (both r seen) i inv u d f)
 
-      module _ {n : Name} (b : get_or s i 0 ≡ 32) (p : n ≡ name_at s (i + 1)) where
-        pub streams_stuck : not n.ok ≡ true → x ≡ no_streams → x ≡ streams_at ns s at
-        unfolding streams_on streams_walk streams_answer name_view name_at
-        streams_stuck q e = e ∙ sym (walk_stuck (streams_walk ns s) (both r seen) i inv u h d b p q)
+      module _ {p : ℕ} (b : Some p ≡ read_end s (byte 32 (drop i s))) where
+        pub streams_stuck : {x : Found Streams} → None ≡ name_found s p → x ≡ None → x ≡ streams_at ns s at
+        unfolding streams_on streams_walk streams_answer name_reading name_found
+        streams_stuck q e = e ∙ sym (walk_stuck (streams_walk ns s) (both r seen) i inv u d b q)
 
-        pub streams_more : {place mask : ℕ} {again : Bool} → not n.ok ≡ false → place ≡ stream_found ns n.code → again ≡ bit? seen place
+        pub streams_more : {n : NameAt} {x : Streams} {place mask : ℕ} {again : Bool} → Some n ≡ name_found s p → place ≡ stream_found ns n.code → again ≡ bit? seen place
             → x ≡ stream_added r n.long place again → mask ≡ with_bit seen place → streams_at ns s at ≡ streams_on ns s x mask n.next
-        unfolding streams_on streams_walk name_view name_at seen_step stream_place code_short W.name_read
-        streams_more {place} {mask} {again} q a c e m =
-            walk_more (streams_walk ns s) (both r seen) i inv u h d b p (record { read = x; mask = mask }) q (λ w v. step w v)
+        unfolding streams_on streams_walk name_reading name_found seen_step stream_place code_short name_seen
+        streams_more {n} {x} {place} {mask} {again} q a c e m =
+            walk_more (streams_walk ns s) (both r seen) i inv u d b (record { read = x; mask = mask }) q (λ w v. step w v)
           where
-            step : (w : Read Bytes) → n ≡ W.name_read s (some w) → ◌≡◌ {A = Seen} (record { read = x; mask = mask }) (seen_step ns (both r seen) w.what)
+            step : (w : Read Bytes) → n ≡ name_seen s w → ◌≡◌ {A = Seen} (record { read = x; mask = mask }) (seen_step ns (both r seen) w.what)
             step w v =
                 let k : place ≡ stream_place ns w.what = a ∙ ap (λ n. stream_found ns n.code) v in
                 let l : n.long ≡ not (short w.what) = ap (λ n. n.long) v in
@@ -207,14 +205,14 @@ pub ruleset streams_ends = (streams_start, streams_over, streams_close, streams_
 
 module _ (r : Streams) (long again : Bool) (place : ℕ) {l u t : Bool} (e : l ≡ (r.over || long)) (f : u ≡ (r.unknown || eqb place 4)) (g : t ≡ (r.repeated || again)) where
   pub stream_full : length r.places ≡ 4 → 4 ≤ r.count
-      → record { ok = r.ok; next = r.next; over = l; unknown = u; repeated = t; count = 5; places = r.places } ≡ stream_added r long place again
+      → record { next = r.next; over = l; unknown = u; repeated = t; count = 5; places = r.places } ≡ stream_added r long place again
   unfolding stream_added
   stream_full k h =
       let c : 5 ≡ min (suc r.count) 5 = omega arith in
       rw (e, f, g, set_out r.places r.count place (omega arith), sym c)
 
   pub stream_room : r.count < 4
-      → record { ok = r.ok; next = r.next; over = l; unknown = u; repeated = t; count = r.count + 1; places = set r.places r.count place } ≡ stream_added r long place again
+      → record { next = r.next; over = l; unknown = u; repeated = t; count = r.count + 1; places = set r.places r.count place } ≡ stream_added r long place again
   unfolding stream_added
   stream_room h =
       let c : min (suc r.count) 5 ≡ r.count + 1 = omega arith in
@@ -224,16 +222,13 @@ pub ruleset stream_adds = (stream_full, stream_room)
 
 -- ---- the whole list, for a reader of lines
 
-unfoldable pub streams_view : (ns : List ℕ) (s : Bytes) → View (List Bytes) Streams s
-unfolding streams_read no_streams
-streams_view ns s =
+unfoldable pub streams_reading : (ns : List ℕ) (s : Bytes) → Reading (List Bytes) Streams s
+unfolding streams_seen
+streams_reading ns s =
     record {
       item = any_items closes read_name;
       leaves = any_items_leaves closes no_close read_name name_leaves;
-      seen = streams_read ns s;
-      ok = λ r. r.ok;
+      made = streams_seen ns s;
       next = λ r. r.next;
-      unseen = refl;
-      ok_seen = λ a. refl;
-      next_seen = λ a. refl;
+      next_made = λ a. refl;
     }

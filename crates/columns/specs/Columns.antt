@@ -1,10 +1,10 @@
 -- Lists of streams and of columns in a line, resolved by the names of a schema.
-use Rattle.std.specs.Prelude.{List, [], ◌∷◌, ◌++◌, map, Bool, true, false, ◌&&◌, ◌||◌, not, cond, ℕ, suc, ◌-◌, min, leb, ltb, eqb, length, drop, set, replicate}
-use Rattle.std.proofs.Math.Option.{Option, none, some}
+use Rattle.std.specs.Prelude.{List, [], ◌∷◌, ◌++◌, map, Bool, false, ◌&&◌, ◌||◌, not, cond, ℕ, suc, min, leb, ltb, eqb, length, drop, set, replicate}
 use Rattle.lists.specs.Lists.{every, some?, distinct}
 use Rattle.syntax.specs.Grammar.{Bytes, Ref}
 use Rattle.syntax.specs.Limits.{max_streams, short, short_ref}
 use Rattle.syntax.specs.Readers.{Read, closes, form_next, read_name, read_ref}
+use Rattle.text.specs.Words.{Found, seen, left_at}
 use Rattle.text.specs.Readings.{any_items}
 use Rattle.items.specs.Items.{code_short, first_of}
 use Rattle.masks.specs.Masks.{bit?, with_bit, mask_of}
@@ -18,16 +18,15 @@ use Rattle.columns.specs.declared.Columns.{Columns}
 unfoldable pub stream_place : List ℕ → Bytes → ℕ
 stream_place ns n = stream_found ns (code_short n)
 
+-- none yet
 unfoldable pub no_streams : Streams
-no_streams = record { ok = false; next = 0; over = false; unknown = false; repeated = false; count = 0; places = replicate max_streams 0 }
+no_streams = record { next = 0; over = false; unknown = false; repeated = false; count = 0; places = replicate max_streams 0 }
 
 -- whether a name is too long, whether one is not declared, whether one stands twice, how many they are (5 for more than four), and the first four
-unfoldable pub streams_read : List ℕ → Bytes → Option (Read (List Bytes)) → Streams
-streams_read ns s none = no_streams
-streams_read ns s (some r) =
+unfoldable pub streams_seen : List ℕ → Bytes → Read (List Bytes) → Streams
+streams_seen ns s r =
     record {
-      ok = true;
-      next = length s - length r.left;
+      next = left_at s r;
       over = not (every short r.what);
       unknown = some? (λ n. eqb (stream_place ns n) max_streams) r.what;
       repeated = not (distinct eqb (map (stream_place ns) r.what));
@@ -35,14 +34,13 @@ streams_read ns s (some r) =
       places = first_of max_streams 0 (map (stream_place ns) r.what);
     }
 
-unfoldable pub streams_at : List ℕ → Bytes → ℕ → Streams
-streams_at ns s at = streams_read ns s (any_items closes read_name (drop at s))
+unfoldable pub streams_at : List ℕ → Bytes → ℕ → Found Streams
+streams_at ns s at = seen (streams_seen ns s) (any_items closes read_name (drop at s))
 
 -- what is read so far, with one stream more: whether its name is too long, its place, and whether that place was seen
 unfoldable pub stream_added : Streams → Bool → ℕ → Bool → Streams
 stream_added r long place again =
     record {
-      ok = r.ok;
       next = r.next;
       over = r.over || long;
       unknown = r.unknown || eqb place max_streams;
@@ -53,7 +51,7 @@ stream_added r long place again =
 
 -- what is read so far, where the list ends at a place
 unfoldable pub streams_ended : Streams → ℕ → Streams
-streams_ended r at = record { ok = true; next = at; over = r.over; unknown = r.unknown; repeated = r.repeated; count = r.count; places = r.places }
+streams_ended r at = record { next = at; over = r.over; unknown = r.unknown; repeated = r.repeated; count = r.count; places = r.places }
 
 -- ---- columns: each after one space, up to a closing bracket, or up to a form that follows after a space
 
@@ -77,16 +75,15 @@ unfoldable pub repeats : List ℕ → ℕ → List ℕ → List Ref → Bool
 repeats ns mask own [] = false
 repeats ns mask own (c ∷ cs) = again_in mask own (ref_code ns c) (second_code c) || repeats ns (with_bit mask (ref_code ns c)) (kept_in own (ref_code ns c) (second_code c)) cs
 
+-- none yet
 unfoldable pub no_columns : Columns
-no_columns = record { ok = false; next = 0; over = false; unknown = false; repeated = false; mask = 0; order = 0 }
+no_columns = record { next = 0; over = false; unknown = false; repeated = false; mask = 0; order = 0 }
 
 -- whether a name is too long, whether a column is not declared, whether one stands twice, and their codes as bits and in their order
-unfoldable pub columns_read : List ℕ → Bytes → Option (Read (List Ref)) → Columns
-columns_read ns s none = no_columns
-columns_read ns s (some r) =
+unfoldable pub columns_seen : List ℕ → Bytes → Read (List Ref) → Columns
+columns_seen ns s r =
     record {
-      ok = true;
-      next = length s - length r.left;
+      next = left_at s r;
       over = not (every short_ref r.what);
       unknown = some? (λ c. eqb (ref_code ns c) unknown_code) r.what;
       repeated = repeats ns 0 [] r.what;
@@ -94,14 +91,13 @@ columns_read ns s (some r) =
       order = order_of (map (ref_code ns) r.what);
     }
 
-unfoldable pub columns_at : List ℕ → Bool → Bytes → ℕ → Columns
-columns_at ns form s at = columns_read ns s (any_items (ends_by form) read_ref (drop at s))
+unfoldable pub columns_at : List ℕ → Bool → Bytes → ℕ → Found Columns
+columns_at ns form s at = seen (columns_seen ns s) (any_items (ends_by form) read_ref (drop at s))
 
 -- what is read so far, with one column more: whether a name is too long, its code, and whether it stands again
 unfoldable pub column_added : Columns → Bool → ℕ → Bool → Columns
 column_added r over code again =
     record {
-      ok = r.ok;
       next = r.next;
       over = r.over || over;
       unknown = r.unknown || eqb code unknown_code;
@@ -112,4 +108,4 @@ column_added r over code again =
 
 -- what is read so far, where the list ends at a place
 unfoldable pub columns_ended : Columns → ℕ → Columns
-columns_ended r at = record { ok = true; next = at; over = r.over; unknown = r.unknown; repeated = r.repeated; mask = r.mask; order = r.order }
+columns_ended r at = record { next = at; over = r.over; unknown = r.unknown; repeated = r.repeated; mask = r.mask; order = r.order }

@@ -1,8 +1,7 @@
 // Lists of streams and of columns of a line, resolved by the names of a schema.
 #![tactic(auto)]
 
-ghost use Rattle.std.specs.Prelude.{◌≡◌, eqb, length, take, drop};
-ghost use Rattle.lists.specs.Lists.{some?};
+ghost use Rattle.std.specs.Prelude.{◌≡◌, length, take, drop};
 ghost use Rattle.columns.specs.Columns.{no_streams, stream_added, streams_ended, streams_at, ends_by, max_own, again_in, kept_in, no_columns, column_added, columns_ended, columns_at};
 
 use schema::Stream;
@@ -11,7 +10,6 @@ use terms::Term;
 // Streams by their places in the schema.
 #[derive(Clone, Copy)]
 pub struct Streams {
-    pub ok: bool,
     pub next: usize,
     pub over: bool,
     pub unknown: bool,
@@ -28,7 +26,6 @@ impl Streams {
 // Columns, by their codes as bits of a mask, and in their order as one number.
 #[derive(Clone, Copy)]
 pub struct Columns {
-    pub ok: bool,
     pub next: usize,
     pub over: bool,
     pub unknown: bool,
@@ -58,12 +55,11 @@ fn ends_at(s: &[u8], i: usize, form: bool) -> bool
     text::byte(s, i + 1) == b'('
 }
 
-// Returns what is read where there is no list of streams.
-pub fn no_streams() -> Streams
+// No stream is read yet.
+fn no_streams() -> Streams
     ensures { result ≡ no_streams }
 {
     Streams {
-        ok: false,
         next: 0,
         over: false,
         unknown: false,
@@ -81,21 +77,18 @@ fn with_stream(r: Streams, long: bool, place: u32, again: bool) -> Streams
     let unknown = text::either(r.unknown, place == Stream::MOST as u32);
     let repeated = text::either(r.repeated, again);
     let at = r.count as usize;
-    let mut places = r.places;
     if Stream::MOST <= at {
         return Streams {
-            ok: r.ok,
-            next: r.next,
             over: over,
             unknown: unknown,
             repeated: repeated,
             count: Streams::OVER,
-            places: places,
+            ..r
         };
     }
+    let mut places = r.places;
     places[at] = place;
     Streams {
-        ok: r.ok,
         next: r.next,
         over: over,
         unknown: unknown,
@@ -109,20 +102,11 @@ fn with_stream(r: Streams, long: bool, place: u32, again: bool) -> Streams
 fn streams_ended(r: Streams, at: usize) -> Streams
     ensures { result ≡ streams_ended r at }
 {
-    let places = r.places;
-    Streams {
-        ok: true,
-        next: at,
-        over: r.over,
-        unknown: r.unknown,
-        repeated: r.repeated,
-        count: r.count,
-        places: places,
-    }
+    Streams { next: at, ..r }
 }
 
-// Returns the streams at a place up to a closing bracket, and the place of that; `ok` is false where there is no such list, and all else 0.
-pub fn streams_at(s: &[u8], at: usize, names: &[u64]) -> Streams
+// Returns the streams at a place up to a closing bracket, and the place of that.
+pub fn streams_at(s: &[u8], at: usize, names: &[u64]) -> Option<Streams>
     ensures { result ≡ streams_at names.now s.now at }
 {
     let mut r = no_streams();
@@ -130,39 +114,17 @@ pub fn streams_at(s: &[u8], at: usize, names: &[u64]) -> Streams
     let mut i = at;
     while i < s.len() {
         if ends_at(s, i, false) {
-            return streams_ended(r, i);
+            return Some(streams_ended(r, i));
         }
-        if s[i] != b' ' {
-            return no_streams();
-        }
-        let n = text::name_at(s, i + 1);
-        if !n.ok {
-            return no_streams();
-        }
+        let p = text::skip(s, i, b' ')?;
+        let n = text::read_name(s, p)?;
         let place = terms::stream_place(names, n.code);
         let again = masks::shows(seen, place);
         r = with_stream(r, n.long, place, again);
         seen = masks::with(seen, place);
         i = n.next;
     }
-    no_streams()
-}
-
-// Whether a number is one of the first k.
-fn among(own: &[u64], k: usize, code: u64) -> bool
-    ensures { result ≡ some? (eqb code) (take k own.now) }
-{
-    let mut i: usize = 0;
-    while i < own.len() {
-        if k <= i {
-            return false;
-        }
-        if own[i] == code {
-            return true;
-        }
-        i += 1;
-    }
-    false
+    None
 }
 
 // Whether a column was seen before: by its code, or a profile entry by its name among the first k.
@@ -176,7 +138,7 @@ fn again(mask: u32, own: &[u64], k: usize, code: u32, second: u64) -> bool
     if Columns::OWN <= k {
         return true;
     }
-    among(own, k, second)
+    own[..k].contains(&second)
 }
 
 // The first k names with that of one more column, where it is a profile entry and there is room for it; how many they are.
@@ -194,12 +156,11 @@ fn keep(own: &mut [u64], k: usize, code: u32, second: u64) -> usize
     k + 1
 }
 
-// No column was read.
+// No column is read yet.
 fn no_columns() -> Columns
     ensures { result ≡ no_columns }
 {
     Columns {
-        ok: false,
         next: 0,
         over: false,
         unknown: false,
@@ -219,7 +180,6 @@ fn with_column(r: Columns, over: bool, code: u32, again: bool) -> Columns
     let mask = masks::with(r.mask, code);
     let order = orders::with_code(r.order, code);
     Columns {
-        ok: r.ok,
         next: r.next,
         over: wide,
         unknown: unknown,
@@ -233,19 +193,11 @@ fn with_column(r: Columns, over: bool, code: u32, again: bool) -> Columns
 fn columns_ended(r: Columns, at: usize) -> Columns
     ensures { result ≡ columns_ended r at }
 {
-    Columns {
-        ok: true,
-        next: at,
-        over: r.over,
-        unknown: r.unknown,
-        repeated: r.repeated,
-        mask: r.mask,
-        order: r.order,
-    }
+    Columns { next: at, ..r }
 }
 
-// Returns the columns at a place up to a closing bracket, or up to a form where `form`, and the place of that; `ok` is false where there is no such list, and all else 0.
-pub fn columns_at(s: &[u8], at: usize, names: &[u64], form: bool) -> Columns
+// Returns the columns at a place up to a closing bracket, or up to a form where `form`, and the place of that.
+pub fn columns_at(s: &[u8], at: usize, names: &[u64], form: bool) -> Option<Columns>
     ensures { result ≡ columns_at names.now form s.now at }
 {
     let mut r = no_columns();
@@ -254,20 +206,15 @@ pub fn columns_at(s: &[u8], at: usize, names: &[u64], form: bool) -> Columns
     let mut i = at;
     while i < s.len() {
         if ends_at(s, i, form) {
-            return columns_ended(r, i);
+            return Some(columns_ended(r, i));
         }
-        if s[i] != b' ' {
-            return no_columns();
-        }
-        let c = terms::ref_at(s, i + 1);
-        if !c.ok {
-            return no_columns();
-        }
+        let p = text::skip(s, i, b' ')?;
+        let c = terms::ref_at(s, p)?;
         let code = terms::term_code(names, c.first, c.second);
         let seen = again(r.mask, &own, k, code, c.second);
         k = keep(&mut own, k, code, c.second);
         r = with_column(r, c.over, code, seen);
         i = c.next;
     }
-    no_columns()
+    None
 }

@@ -1,13 +1,14 @@
 -- The conditions of a list one after another: what is read so far, and what is still to be read.
 use mathlib.Core.Path.{◌≡◌, refl, sym, ap, ap₂, ◌∙◌}
 use mathlib.Core.List.{List, [], ◌∷◌, ◌++◌, map, map-append}
-use mathlib.Core.Bool.{Bool, true, false, ◌&&◌, ◌||◌, not, cond, and-true}
+use mathlib.Core.Bool.{Bool, true, false, ◌&&◌, ◌||◌, cond, and-true}
 use mathlib.Core.Option.{Option, none, some}
 use Prim.Native.Nat.{ℕ, ◌+◌, ◌-◌, ◌≤◌, ◌<◌, min}
 use native.Mathlib.Omega.{arith}
 use lib.Dec.{leb, eqb}
 use lib.ListN.{length, drop, get_or, length-append, length-drop, drop_of_length-le}
-use borrow.Author.Tests.{ne_eqb, not-true, not-false}
+use borrow.Author.Tests.{ne_eqb}
+use Rattle.std.proofs.lemmas.Option.{same_Some}
 use Rattle.lists.specs.Lists.{every, some?, gather}
 use Rattle.lists.proofs.Laws.{append_nil, gather_append, never, by_test}
 use Rattle.syntax.specs.Grammar.{Bytes, Test, Cond, Conds, last, more}
@@ -16,6 +17,7 @@ use Rattle.syntax.specs.Readers.{Read, Reader, bind, byte, read_more, head_word,
 use Rattle.syntax.proofs.Steps.{from}
 use Rattle.syntax.proofs.Leaving.{left_within, head_less, headed_leaves}
 use Rattle.model.specs.Conditions.{tests, tests_of, map_cond, map_conds, conds_of}
+use Rattle.text.specs.Words.{Found, Some, None, seen, left_at}
 use Rattle.text.specs.Readings.{any_cond, any_conds}
 use Rattle.text.proofs.Places.{space_is, space_not, byte_here}
 use Rattle.text.proofs.Views.{left_drop}
@@ -26,10 +28,10 @@ use Rattle.nodes.specs.Storing.{size, sizes, store, store_all, list_size, store_
 use Rattle.nodes.proofs.Sizes.{size_append, store_append}
 use Rattle.nodes.proofs.Depths.{every_snoc, leb_max}
 use Rattle.conditions.specs.declared.Seen.{Seen}
-use Rattle.conditions.specs.Seeing.{test_node, nodes_of, nothing_seen, deep_seen, begun, seen_of}
-use Rattle.conditions.specs.Steps.{counted, both_seen, one, many, told, put_read, CondIn, CondsIn}
+use Rattle.conditions.specs.Seeing.{test_node, nodes_of, deep_seen, begun, seen_of}
+use Rattle.conditions.specs.Steps.{counted, both_seen, one, many, told_read, told, put_read, CondIn, CondsIn}
 use Rattle.conditions.proofs.Folds.{seen_both}
-use Rattle.conditions.proofs.Closing.{few_deep, unread_ok, told_near, told_deep, told_cases, read_none}
+use Rattle.conditions.proofs.Closing.{few_deep, told_near, told_deep, told_is, told_none, told_some, read_none}
 
 -- ---- a condition takes a byte or more
 
@@ -203,9 +205,9 @@ pub record Going (ks : List ℕ) (s : Bytes) (b level at : ℕ) (ws ws' : List �
 
 module _ (ks : List ℕ) (s : Bytes) (b level at : ℕ) (ws : List ℕ) where
   module _ {y : ℕ} (q : y ≡ get_or s at 0) where
-    pub conds_unspaced : {r : Seen} → (y ≡ 32 → ⊥) → r ≡ nothing_seen → CondsIn ks s b level at ws ws r
+    pub conds_unspaced : (y ≡ 32 → ⊥) → CondsIn ks s b level at ws ws None
     unfolding bind
-    conds_unspaced n e = read_none ks (many ks) s b level ws (conds_step (drop at s) ∙ rw (space_not s at q n)) refl e
+    conds_unspaced n = read_none ks (many ks) s b level ws (conds_step (drop at s) ∙ rw (space_not s at q n)) refl refl
 
     pub conds_start : {r : Seen} → y ≡ 32 → b ≤ 256 → r ≡ begun at b → Going ks s b level at ws ws r
     unfolding going part_seen begun seen_of every gather list_size store_list counted mask_of some?
@@ -224,46 +226,42 @@ module _ (ks : List ℕ) (s : Bytes) (b level at : ℕ) (ws : List ℕ) where
         }
 
   -- what is told of all of them
-  part_told : (cs : Conds Test) (p : ℕ) → p ≤ length s → part_seen ks b level (list_of cs) p ≡ told ks (many ks) s b level (some (record { what = cs; left = drop p s }))
-  unfolding part_seen told
+  part_told : (cs : Conds Test) (p : ℕ) → p ≤ length s → Some (part_seen ks b level (list_of cs) p) ≡ told ks (many ks) s b level (some (record { what = cs; left = drop p s }))
+  unfolding part_seen told told_read seen left_at
   part_told cs p h =
       let e : length s - length (drop p s) ≡ p = omega (arith, length-drop p s) in
       rw (depth_list level cs, tests_list cs, sizes_list ks cs, e)
 
   module _ {ws' : List ℕ} {r : Seen} (g : Going ks s b level at ws ws' r) where
-    pub conds_over : {a : Seen} → length s ≤ r.next → a ≡ nothing_seen → CondsIn ks s b level at ws ws' a
-    conds_over h e = read_none ks (many ks) s b level ws (g.reads ∙ going_over g.done s r.next h) g.kept e
+    pub conds_over : length s ≤ r.next → CondsIn ks s b level at ws ws' None
+    conds_over h = read_none ks (many ks) s b level ws (g.reads ∙ going_over g.done s r.next h) g.kept refl
 
     module _ (l : r.next < length s) where
-      pub conds_done : (get_or s r.next 0 ≡ 32 → ⊥) → CondsIn ks s b level at ws ws' r
+      pub conds_done : (get_or s r.next 0 ≡ 32 → ⊥) → CondsIn ks s b level at ws ws' (Some r)
       unfolding put_read
       conds_done n = go g.done refl
         where
-          go : (ds : List (Cond Test)) → g.done ≡ ds → CondsIn ks s b level at ws ws' r
+          go : (ds : List (Cond Test)) → g.done ≡ ds → CondsIn ks s b level at ws ws' (Some r)
           go [] e = absurd (let h = g.some n in let k = ap length e in omega arith)
           go (d ∷ ds) e =
               let cs = conds_of d ds in
               let f : g.done ≡ list_of cs = e ∙ sym (list_back d ds) in
               let x : any_conds (drop at s) ≡ some (record { what = cs; left = drop r.next s }) = g.reads ∙ ap (λ es. going es (drop r.next s)) e ∙ going_end s r.next l d ds n in
               record {
-                is = g.is ∙ ap (λ es. part_seen ks b level es r.next) f ∙ part_told cs r.next (omega arith) ∙ sym (ap (told ks (many ks) s b level) x);
-                stored = λ o u v. g.stored u v ∙ ap (λ es. store_list (map (nodes_of ks) es) b ws) f ∙ store_lists ks cs b ws ∙ sym (ap (λ w. put_read (many ks) b w ws) x);
+                is = ap Some (g.is ∙ ap (λ es. part_seen ks b level es r.next) f) ∙ part_told cs r.next (omega arith) ∙ sym (ap (told ks (many ks) s b level) x);
+                stored = λ i o u v. let m = same_Some r i o in g.stored (ap (λ x. x.deep) m ∙ u) (let k = ap (λ x. x.count) m in omega arith) ∙ ap (λ es. store_list (map (nodes_of ks) es) b ws) f ∙ store_lists ks cs b ws ∙ sym (ap (λ w. put_read (many ks) b w ws) x);
                 kept = g.kept;
               }
 
-      module _ (z : get_or s r.next 0 ≡ 32) {ws₂ : List ℕ} {i : Seen} (j : CondIn ks s r.count level (r.next + 1) ws' ws₂ i) where
-        pub conds_failed : {a : Seen} → not i.ok ≡ true → a ≡ nothing_seen → CondsIn ks s b level at ws ws₂ a
-        conds_failed o e =
-            told_cases ks (one ks) s r.count level (any_cond (drop (r.next + 1) s)) j.is
-            (λ n m. read_none ks (many ks) s b level ws (g.reads ∙ going_none s r.next l z g.done n) (j.kept ∙ g.kept) e)
-            (λ c n m k. never (sym m ∙ not-true i.ok o))
+      module _ (z : get_or s r.next 0 ≡ 32) {ws₂ : List ℕ} where
+        pub conds_failed : {a : Found Seen} → CondIn ks s r.count level (r.next + 1) ws' ws₂ None → a ≡ None → CondsIn ks s b level at ws ws₂ a
+        conds_failed j e =
+            let n = told_none ks (one ks) s r.count level (any_cond (drop (r.next + 1) s)) j.is in
+            read_none ks (many ks) s b level ws (g.reads ∙ going_none s r.next l z g.done n) (j.kept ∙ g.kept) e
 
-        module _ (o : not i.ok ≡ false) {a : Seen} (e : a ≡ both_seen r i) where
+        module _ {i : Seen} (j : CondIn ks s r.count level (r.next + 1) ws' ws₂ (Some i)) {a : Seen} (e : a ≡ both_seen r i) where
           found : {X : Type 0} → ((c : Read (Cond Test)) → any_cond (drop (r.next + 1) s) ≡ some c → i.next ≡ length s - length c.left → a.next ≡ i.next → X) → X
-          found f =
-              told_cases ks (one ks) s r.count level (any_cond (drop (r.next + 1) s)) j.is
-              (λ n m. unread_ok m (not-false i.ok o))
-              (λ c n m k. f c n k (ap (λ x. x.next) e ∙ both_next r i))
+          found f = told_some ks (one ks) s r.count level (any_cond (drop (r.next + 1) s)) j.is (λ c n m k. f c n k (ap (λ x. x.next) e ∙ both_next r i))
 
           pub conds_less : length s - a.next < length s - r.next
           conds_less = found (λ c n k m. let h = cond_less (drop (r.next + 1) s) c n in omega (arith, length-drop (r.next + 1) s))
@@ -275,8 +273,8 @@ module _ (ks : List ℕ) (s : Bytes) (b level at : ℕ) (ws : List ℕ) where
             reads_on : any_conds (drop at s) ≡ going now (drop a.next s)
             reads_on = g.reads ∙ going_on s r.next l z g.done c n ∙ ap (going now) (sym (ap (λ x. drop x s) (m ∙ k) ∙ left_drop any_cond_leaves s (r.next + 1) c n))
 
-            seen_i : i ≡ told ks (one ks) s r.count level (some c)
-            seen_i = j.is ∙ ap (told ks (one ks) s r.count level) n
+            seen_i : i ≡ told_read ks (one ks) s r.count level c
+            seen_i = told_is ks (one ks) s r.count level c (j.is ∙ ap (told ks (one ks) s r.count level) n)
 
             module _ (p : shallow level g.done ≡ true) (q : leb (cond_depth c.what) level ≡ true) where
               near_r : r ≡ seen_of ks (gather tests g.done) r.next (counted (b + list_size (map (nodes_of ks) g.done)))
@@ -311,7 +309,7 @@ module _ (ks : List ℕ) (s : Bytes) (b level at : ℕ) (ws : List ℕ) where
               put_near d f =
                   let x = exact_sum b (list_size (map (nodes_of ks) g.done)) (size (nodes_of ks c.what)) count_r count_a f in
                   let y : i.count ≡ a.count = ap (λ x. x.count) near_i ∙ sym count_a in
-                  j.stored (ap (λ x. x.ok) near_i) (ap (λ x. x.deep) near_i) (omega arith) ∙ ap (λ w. put_read (one ks) r.count w ws') n
+                  j.stored i refl (ap (λ x. x.deep) near_i) (omega arith) ∙ ap (λ w. put_read (one ks) r.count w ws') n
                   ∙ ap₂ (λ u v. store (nodes_of ks c.what) u v) x.0 (g.stored (ap (λ x. x.deep) near_r) x.1)
                   ∙ sym (ap (λ es. store_list es b ws) (map-append (nodes_of ks) g.done (c.what ∷ [])) ∙ store_append (map (nodes_of ks) g.done) (nodes_of ks c.what ∷ []) b ws ∙ alone_store (nodes_of ks c.what) _ _)
 

@@ -1,22 +1,23 @@
 -- The ends of the functions that read a comparison, a closing bracket and two conditions of a list, and of those that count words.
 use mathlib.Core.Path.{◌≡◌, refl, sym, ap, ◌∙◌}
 use mathlib.Core.List.{List}
-use mathlib.Core.Bool.{Bool, true, false, ◌||◌, not, and-false}
+use mathlib.Core.Bool.{Bool, true, false, ◌||◌, and-false}
 use Prim.Native.Nat.{ℕ, ◌+◌, ◌≤◌, ◌<◌}
 use native.Mathlib.Omega.{arith}
 use lib.Dec.{eqb, leb}
 use lib.ListN.{get_or}
 use lib.Bits.{bit_or}
-use borrow.Author.Tests.{ne_eqb, le-leb, lt-leb, not-true, not-false}
+use borrow.Author.Tests.{ne_eqb, le-leb, lt-leb}
 use Rattle.syntax.specs.Grammar.{Bytes}
+use Rattle.text.specs.Words.{Found, Some, None}
 use Rattle.masks.specs.Masks.{with_bit}
 use Rattle.terms.specs.declared.Comparison.{Comparison}
 use Rattle.nodes.specs.Nodes.{node_words}
 use Rattle.nodes.specs.Storing.{put_node, inner_node}
 use Rattle.nodes.specs.declared.Node.{Node}
 use Rattle.conditions.specs.declared.Seen.{Seen}
-use Rattle.conditions.specs.Seeing.{nothing_seen, deep_seen, has_room}
-use Rattle.conditions.specs.Steps.{Answers, counted, Placed, compared_node, compared_seen, compared_stored, closed_seen, closed_stored, both_seen, fitted}
+use Rattle.conditions.specs.Seeing.{deep_seen, has_room}
+use Rattle.conditions.specs.Steps.{Answers, counted, Placed, compared_node, compared_one, compared_seen, compared_stored, closed_seen, closed_stored, both_seen, fitted}
 
 -- ---- counts
 
@@ -52,42 +53,37 @@ pub ruleset undeclared_ends = (undeclared_left, undeclared_right)
 
 -- ---- a comparison
 
-pub compared_none : (h b : ℕ) {x : Comparison} (y : Comparison) → x ≡ y → (ws : List ℕ) {r : Seen} → not x.ok ≡ true → r ≡ nothing_seen → Answers r ws (compared_seen b y) (compared_stored h b y ws)
+pub compared_none : (h b : ℕ) {y : Found Comparison} (ws : List ℕ) {r : Found Seen} → None ≡ y → r ≡ None → Answers r ws (compared_seen b y) (compared_stored h b y ws)
 unfolding Answers compared_seen compared_stored
-compared_none h b {x} y e ws f g = rw (← e, not-true x.ok f) (g, refl)
+compared_none h b ws e f = rw (← e) (f, refl)
 
-pub compared_some : (h b : ℕ) {x : Comparison} (y : Comparison) → x ≡ y → not x.ok ≡ false → (ws : List ℕ) {ws' : List ℕ} {k : ℕ}
+pub compared_some : (h b : ℕ) {x : Comparison} {y : Found Comparison} → Some x ≡ y → (ws : List ℕ) {ws' : List ℕ} {k : ℕ}
     → Placed b (record { head = h; left = x.left; right = x.right; before = b; value = x.value }) ws ws' k → {u : Bool} → u ≡ (eqb x.left 28 || eqb x.right 28)
     → {l r : ℕ} → l ≡ with_bit 0 x.left → r ≡ with_bit 0 x.right
-    → Answers (record { ok = true; next = x.next; count = k; over = x.over; unknown = u; deep = false; lefts = l; rights = r }) ws' (compared_seen b y) (compared_stored h b y ws)
-unfolding Answers compared_seen compared_stored compared_node node_words
-compared_some h b {x} y e f ws w u p q = rw (← e, not-false x.ok f, u, p, q, w.count) (refl, w.stored)
+    → Answers (Some (record { next = x.next; count = k; over = x.over; unknown = u; deep = false; lefts = l; rights = r })) ws' (compared_seen b y) (compared_stored h b y ws)
+unfolding Answers compared_seen compared_one compared_stored compared_node node_words
+compared_some h b e ws w u p q = rw (← e, u, p, q, w.count) (refl, w.stored)
 
 pub ruleset compared_ends = (compared_none, compared_some)
 
 -- ---- a closing bracket
 
-module _ (h b : ℕ) (s : Bytes) (i : Seen) (ws : List ℕ) where
-  pub closed_none : {r : Seen} → not i.ok ≡ true → r ≡ nothing_seen → Answers r ws (closed_seen s i) (closed_stored h b s i ws)
+module _ (h b : ℕ) (s : Bytes) (i : Seen) (ws : List ℕ) {q : ℕ} (e : q ≡ get_or s i.next 0) where
+  pub closed_open : (q ≡ 41 → ⊥) → Answers None ws (closed_seen s i) (closed_stored h b s i ws)
   unfolding Answers closed_seen closed_stored
-  closed_none f g = rw (not-true i.ok f) (g, refl)
+  closed_open n = rw (← e, ne_eqb q 41 n) (refl, refl)
 
-  module _ (f : not i.ok ≡ false) {q : ℕ} (e : q ≡ get_or s i.next 0) where
-    pub closed_open : {r : Seen} → (q ≡ 41 → ⊥) → r ≡ nothing_seen → Answers r ws (closed_seen s i) (closed_stored h b s i ws)
+  module _ (z : q ≡ 41) where
+    pub closed_deep : {r : Seen} → i.deep ≡ true → r ≡ deep_seen (i.next + 1) → Answers (Some r) ws (closed_seen s i) (closed_stored h b s i ws)
     unfolding Answers closed_seen closed_stored
-    closed_open n g = rw (not-false i.ok f, ← e, ne_eqb q 41 n) (g, refl)
+    closed_deep d g = rw (← e, z, d, g) (refl, refl)
 
-    module _ (z : q ≡ 41) where
-      pub closed_deep : {r : Seen} → i.deep ≡ true → r ≡ deep_seen (i.next + 1) → Answers r ws (closed_seen s i) (closed_stored h b s i ws)
-      unfolding Answers closed_seen closed_stored
-      closed_deep d g = rw (not-false i.ok f, ← e, z, d) (g, refl)
+    pub closed_some : {ws' : List ℕ} {k : ℕ} → i.deep ≡ false → Placed i.count (record { head = h; left = 0; right = 0; before = b; value = 0 }) ws ws' k
+        → Answers (Some (record { next = i.next + 1; count = k; over = i.over; unknown = i.unknown; deep = false; lefts = i.lefts; rights = i.rights })) ws' (closed_seen s i) (closed_stored h b s i ws)
+    unfolding Answers closed_seen closed_stored inner_node node_words
+    closed_some d w = rw (← e, z, d, w.count) (refl, w.stored)
 
-      pub closed_some : {ws' : List ℕ} {k : ℕ} → i.deep ≡ false → Placed i.count (record { head = h; left = 0; right = 0; before = b; value = 0 }) ws ws' k
-          → Answers (record { ok = true; next = i.next + 1; count = k; over = i.over; unknown = i.unknown; deep = false; lefts = i.lefts; rights = i.rights }) ws' (closed_seen s i) (closed_stored h b s i ws)
-      unfolding Answers closed_seen closed_stored inner_node node_words
-      closed_some d w = rw (not-false i.ok f, ← e, z, d, w.count) (refl, w.stored)
-
-pub ruleset closed_ends = (closed_none, closed_open, closed_deep, closed_some)
+pub ruleset closed_ends = (closed_open, closed_deep, closed_some)
 
 -- ---- some conditions, and one after them
 
@@ -102,7 +98,7 @@ module _ (i j : Seen) where
     both_second d g = g ∙ rw (f, d)
 
     pub both_some : j.deep ≡ false → {o u : Bool} → o ≡ (i.over || j.over) → u ≡ (i.unknown || j.unknown) → {l r : ℕ} → l ≡ bit_or i.lefts j.lefts → r ≡ bit_or i.rights j.rights
-        → ◌≡◌ {A = Seen} (record { ok = true; next = j.next; count = j.count; over = o; unknown = u; deep = false; lefts = l; rights = r }) (both_seen i j)
+        → ◌≡◌ {A = Seen} (record { next = j.next; count = j.count; over = o; unknown = u; deep = false; lefts = l; rights = r }) (both_seen i j)
     unfolding both_seen
     both_some d a b c e = rw (f, d, a, b, c, e)
 
@@ -111,27 +107,22 @@ pub ruleset both_ends = (both_first, both_second, both_some)
 -- ---- room
 
 module _ (room : ℕ) (i : Seen) where
-  pub fitted_none : not i.ok ≡ true → i ≡ fitted room i
+  pub fitted_deep : i.deep ≡ true → Some i ≡ fitted room i
   unfolding fitted
-  fitted_none f = rw (not-true i.ok f)
+  fitted_deep d = rw d
 
-  module _ (f : not i.ok ≡ false) where
-    pub fitted_deep : i.deep ≡ true → i ≡ fitted room i
-    unfolding fitted
-    fitted_deep d = rw (not-false i.ok f, d)
+  module _ (d : i.deep ≡ false) where
+    pub fitted_many : 255 < i.count → None ≡ fitted room i
+    unfolding fitted has_room
+    fitted_many l = sym (rw (d, lt-leb i.count 255 l, and-false (leb i.count room)))
 
-    module _ (d : i.deep ≡ false) where
-      pub fitted_many : {r : Seen} → 255 < i.count → r ≡ nothing_seen → r ≡ fitted room i
+    module _ (l : i.count ≤ 255) where
+      pub fitted_short : room < i.count → None ≡ fitted room i
       unfolding fitted has_room
-      fitted_many l g = g ∙ sym (rw (not-false i.ok f, d, lt-leb i.count 255 l, and-false (leb i.count room)))
+      fitted_short k = sym (rw (d, lt-leb i.count room k))
 
-      module _ (l : i.count ≤ 255) where
-        pub fitted_short : {r : Seen} → room < i.count → r ≡ nothing_seen → r ≡ fitted room i
-        unfolding fitted has_room
-        fitted_short k g = g ∙ sym (rw (not-false i.ok f, d, lt-leb i.count room k))
+      pub fitted_some : i.count ≤ room → Some i ≡ fitted room i
+      unfolding fitted has_room
+      fitted_some k = rw (d, le-leb i.count room k, le-leb i.count 255 l)
 
-        pub fitted_some : i.count ≤ room → i ≡ fitted room i
-        unfolding fitted has_room
-        fitted_some k = rw (not-false i.ok f, d, le-leb i.count room k, le-leb i.count 255 l)
-
-pub ruleset fitted_ends = (fitted_none, fitted_deep, fitted_many, fitted_short, fitted_some)
+pub ruleset fitted_ends = (fitted_deep, fitted_many, fitted_short, fitted_some)

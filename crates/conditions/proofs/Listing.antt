@@ -7,7 +7,8 @@ use Prim.Native.Nat.{ℕ, zero, suc, ◌+◌, ◌-◌, ◌≤◌, ◌<◌, min}
 use native.Mathlib.Omega.{arith}
 use lib.Dec.{leb, eqb}
 use lib.ListN.{length, drop, get_or}
-use borrow.Author.Tests.{eqb-true, eq-eqb, ne_eqb, lt-leb, leb-true, leb-false, lt-ltb, le-ltb, not-true, not-false}
+use borrow.Author.Tests.{eqb-true, eq-eqb, ne_eqb, lt-leb, leb-true, leb-false, lt-ltb, le-ltb}
+use Rattle.std.proofs.lemmas.Option.{same_Some}
 use Rattle.lists.specs.Lists.{empty?}
 use Rattle.lists.proofs.Laws.{never, by_test}
 use Rattle.syntax.specs.Grammar.{Bytes, Test, Cond, Conds, last, more}
@@ -15,18 +16,19 @@ use Rattle.syntax.specs.Limits.{cond_depth}
 use Rattle.syntax.specs.Readers.{Read, bind, ensure, byte, closes, read_items, read_some, read_more, read_cond}
 use Rattle.syntax.proofs.Steps.{bind_bind}
 use Rattle.syntax.proofs.Leaving.{left_within, byte_less}
-use Rattle.text.specs.Keywords.{place}
+use Rattle.text.specs.Words.{Found, Some, None, seen, left_at, read_end}
 use Rattle.text.specs.Readings.{any_cond, any_conds, any_some}
 use Rattle.text.proofs.Runs.{first_byte}
 use Rattle.text.proofs.Views.{left_drop}
 use Rattle.text.proofs.Fuel.{bind_same, any_cond_leaves, any_conds_leaves, conds_step}
 use Rattle.nodes.specs.Storing.{size, store, list_size}
+use Rattle.nodes.proofs.Depths.{depth_some}
 use Rattle.conditions.specs.declared.Seen.{Seen}
-use Rattle.conditions.specs.Seeing.{nodes_of, nothing_seen, deep_seen, seen_of, has_room, cond_seen, cond_stored, cond_at, CondRead, list_seen, list_stored, list_at, ListRead}
-use Rattle.conditions.specs.Steps.{counted, Kind, one, many, told, put_read, CondIn, CondsIn, fitted, skipped_seen}
+use Rattle.conditions.specs.Seeing.{nodes_of, deep_seen, seen_of, has_room, cond_seen, cond_stored, cond_at, CondRead, list_seen, list_stored, list_at, ListRead}
+use Rattle.conditions.specs.Steps.{counted, Kind, one, many, told_read, told, put_read, CondIn, CondsIn, fitted, skipped_seen}
 use Rattle.conditions.proofs.Leaves.{count_exact}
-use Rattle.conditions.proofs.Closing.{unread_ok, told_near, told_deep, told_cases}
-use Rattle.conditions.proofs.Conditions.{cond_skipped}
+use Rattle.conditions.proofs.Closing.{unread, told_near, told_deep, told_none, told_some}
+use Rattle.conditions.proofs.Conditions.{skipped_silent}
 use Rattle.conditions.proofs.Going.{list_of, sizes_list, store_lists, tests_list, depth_list}
 
 -- ---- a list up to a closing bracket is a list of conditions that a closing bracket follows
@@ -133,22 +135,19 @@ count_twice : (b w : ℕ) → counted (counted b + w) ≡ counted (b + w)
 unfolding counted
 count_twice b w = omega arith
 
-fitted_near : (ks : List ℕ) (ts : List Test) (room next m : ℕ) → fitted room (seen_of ks ts next (counted m)) ≡ cond (has_room room m) (seen_of ks ts next m) nothing_seen
+fitted_near : (ks : List ℕ) (ts : List Test) (room next m : ℕ) → fitted room (seen_of ks ts next (counted m)) ≡ cond (has_room room m) (Some (seen_of ks ts next m)) None
 unfolding fitted seen_of
 fitted_near ks ts room next m =
     by_test (has_room room m) (λ p. rw (room_counted room m, p, sym (count_exact m (room_few room m p)))) (λ p. rw (room_counted room m, p))
 
-fitted_far : (room next : ℕ) → fitted room (deep_seen next) ≡ deep_seen next
+fitted_far : (room next : ℕ) → fitted room (deep_seen next) ≡ Some (deep_seen next)
 unfolding fitted deep_seen
 fitted_far room next = refl
 
-fitted_unread : (room : ℕ) → fitted room nothing_seen ≡ nothing_seen
-unfolding fitted nothing_seen
-fitted_unread room = refl
-
 -- what is told, where its words have room
 module _ {A : Type 0} (ks : List ℕ) (k : Kind A) (s : Bytes) (b level room : ℕ) (r : Read A) where
-  pub fitted_told : fitted room (told ks k s b level (some r)) ≡ cond (leb (k.depth r.what) level) (cond (has_room room (b + k.words r.what)) (seen_of ks (k.tests r.what) (length s - length r.left) (b + k.words r.what)) nothing_seen) (deep_seen (length s - length r.left))
+  pub fitted_told : fitted room (told_read ks k s b level r)
+      ≡ cond (leb (k.depth r.what) level) (cond (has_room room (b + k.words r.what)) (Some (seen_of ks (k.tests r.what) (length s - length r.left) (b + k.words r.what))) None) (Some (deep_seen (length s - length r.left)))
   fitted_told =
       by_test (leb (k.depth r.what) level)
       (λ p. ap (fitted room) (told_near ks k s b level r p) ∙ fitted_near ks (k.tests r.what) room (length s - length r.left) (b + k.words r.what) ∙ sym (rw p))
@@ -156,18 +155,15 @@ module _ {A : Type 0} (ks : List ℕ) (k : Kind A) (s : Bytes) (b level room : �
 
 -- what fits was counted
 pub record Fitting (i : Seen) : Type 0 where
-  pub ok : i.ok ≡ true
   pub near : i.deep ≡ false
   pub few : i.count ≤ 255
 
-fits_counted : (room : ℕ) (i : Seen) {r : Seen} → r ≡ fitted room i → r.ok ≡ true → r.deep ≡ false → Fitting i
+fits_counted : (room : ℕ) (i : Seen) {x : Seen} → fitted room i ≡ Some x → x.deep ≡ false → Fitting i
 unfolding fitted
-fits_counted room i {r} e o d =
-    by_test i.ok
-    (λ p. by_test i.deep
-    (λ q. let x : r ≡ i = e ∙ rw (p, q) in never (sym q ∙ sym (ap (λ x. x.deep) x) ∙ d))
-    (λ q. by_test (has_room room i.count) (λ h. record { ok = p; near = q; few = room_few room i.count h }) (λ h. unread_ok (e ∙ rw (p, q, h)) o)))
-    (λ p. let x : r ≡ i = e ∙ rw p in never (sym o ∙ ap (λ x. x.ok) x ∙ p))
+fits_counted room i {x} e d =
+    by_test i.deep
+    (λ q. let m : i ≡ x = same_Some i x (sym (rw q) ∙ e) in never (sym q ∙ ap (λ x. x.deep) m ∙ d))
+    (λ q. by_test (has_room room i.count) (λ h. record { near = q; few = room_few room i.count h }) (λ h. unread (rw (q, h)) e))
 
 -- ---- a condition of a line
 
@@ -176,53 +172,66 @@ unfolding counted
 count_first b w l = omega arith
 
 told_counted : (ks : List ℕ) (s : Bytes) (b level : ℕ) (o : Option (Read (Cond Test))) → told ks (one ks) s (counted b) level o ≡ told ks (one ks) s b level o
-unfolding told
+unfolding told told_read seen left_at
 told_counted ks s b level none = refl
 told_counted ks s b level (some r) = rw (count_twice b (size (nodes_of ks r.what)))
 
 module _ (ks : List ℕ) (s : Bytes) (b level at : ℕ) (ws : List ℕ) where
-  pub cond_long : {r : Seen} → 512 < length s → r ≡ nothing_seen → CondRead ks s b level at ws ws r
+  pub cond_long : 512 < length s → CondRead ks s b level at ws ws None
   unfolding cond_at
-  cond_long l e = record { is = e ∙ sym (rw (lt-ltb 512 (length s) l)); stored = λ o d. unread_ok e o; kept = refl }
+  cond_long l = record { is = sym (rw (lt-ltb 512 (length s) l)); stored = λ i o d. unread refl o; kept = refl }
 
-  module _ (l : length s ≤ 512) {k : ℕ} (c : k ≡ counted b) {ws' : List ℕ} {i : Seen} (j : CondIn ks s k level at ws ws' i) {r : Seen} (e : r ≡ fitted (length ws') i) where
-    cond_is : (o : Option (Read (Cond Test))) → fitted (length ws) (told ks (one ks) s b level o) ≡ cond_seen ks s (length ws) b level o
-    unfolding cond_seen told
-    cond_is none = fitted_unread (length ws)
-    cond_is (some a) = fitted_told ks (one ks) s b level (length ws) a
+  module _ (l : length s ≤ 512) {k : ℕ} (c : k ≡ counted b) {ws' : List ℕ} where
+    told_all : {x : Found Seen} → CondIn ks s k level at ws ws' x → x ≡ told ks (one ks) s (counted b) level (any_cond (drop at s))
+    told_all j = j.is ∙ ap (λ n. told ks (one ks) s n level (any_cond (drop at s))) c
 
-    told_i : i ≡ told ks (one ks) s (counted b) level (any_cond (drop at s))
-    told_i = j.is ∙ ap (λ n. told ks (one ks) s n level (any_cond (drop at s))) c
+    pub cond_unread : {r : Found Seen} → CondIn ks s k level at ws ws' None → r ≡ None → CondRead ks s b level at ws ws' r
+    unfolding cond_at cond_seen
+    cond_unread j e =
+        record { is = e ∙ sym (rw (le-ltb 512 (length s) l, told_none ks (one ks) s (counted b) level (any_cond (drop at s)) (told_all j))); stored = λ i o d. unread e o; kept = j.kept }
 
-    exact : Fitting i → (o : Option (Read (Cond Test))) → any_cond (drop at s) ≡ o → put_read (one ks) k o ws ≡ cond_stored ks b o ws
-    unfolding put_read cond_stored seen_of deep_seen
-    exact f none q = refl
-    exact f (some a) q =
-        let x : i ≡ told ks (one ks) s (counted b) level (some a) = told_i ∙ ap (told ks (one ks) s (counted b) level) q in
-        by_test (leb (cond_depth a.what) level)
-        (λ p.
-        let n : i.count ≡ counted (counted b + size (nodes_of ks a.what)) = ap (λ y. y.count) (x ∙ told_near ks (one ks) s (counted b) level a p) in
-        let m = f.few in
-        ap (λ n. store (nodes_of ks a.what) n ws) (c ∙ count_first b (size (nodes_of ks a.what)) (omega arith)))
-        (λ p. never (sym (ap (λ y. y.deep) (x ∙ told_deep ks (one ks) s (counted b) level a p)) ∙ f.near))
+    module _ {i : Seen} (j : CondIn ks s k level at ws ws' (Some i)) {r : Found Seen} (e : r ≡ fitted (length ws') i) where
+      told_i : Some i ≡ told ks (one ks) s (counted b) level (any_cond (drop at s))
+      told_i = told_all j
 
-    pub cond_fitted : CondRead ks s b level at ws ws' r
-    unfolding cond_at
-    cond_fitted =
-        record {
-          is = e ∙ ap (λ n. fitted n i) j.kept ∙ ap (fitted (length ws)) (told_i ∙ told_counted ks s b level (any_cond (drop at s))) ∙ cond_is (any_cond (drop at s)) ∙ sym (rw (le-ltb 512 (length s) l));
-          stored = λ o d. let f = fits_counted (length ws') i e o d in j.stored f.ok f.near f.few ∙ exact f (any_cond (drop at s)) refl;
-          kept = j.kept;
-        }
+      cond_is : fitted (length ws) i ≡ cond_seen ks s (length ws) b level (any_cond (drop at s))
+      unfolding cond_seen
+      cond_is =
+          told_some ks (one ks) s b level (any_cond (drop at s)) (told_i ∙ told_counted ks s b level (any_cond (drop at s)))
+          (λ a q d n. ap (fitted (length ws)) d ∙ fitted_told ks (one ks) s b level (length ws) a ∙ sym (ap (cond_seen ks s (length ws) b level) q))
+
+      exact : Fitting i → put_read (one ks) k (any_cond (drop at s)) ws ≡ cond_stored ks b (any_cond (drop at s)) ws
+      unfolding put_read cond_stored seen_of deep_seen
+      exact f =
+          told_some ks (one ks) s (counted b) level (any_cond (drop at s)) told_i
+          (λ a q x y.
+          rw q
+          (by_test (leb (cond_depth a.what) level)
+          (λ p.
+          let n : i.count ≡ counted (counted b + size (nodes_of ks a.what)) = ap (λ y. y.count) (x ∙ told_near ks (one ks) s (counted b) level a p) in
+          let m = f.few in
+          ap (λ n. store (nodes_of ks a.what) n ws) (c ∙ count_first b (size (nodes_of ks a.what)) (omega arith)))
+          (λ p. never (sym (ap (λ y. y.deep) (x ∙ told_deep ks (one ks) s (counted b) level a p)) ∙ f.near))))
+
+      pub cond_fitted : CondRead ks s b level at ws ws' r
+      unfolding cond_at
+      cond_fitted =
+          record {
+            is = e ∙ ap (λ n. fitted n i) j.kept ∙ cond_is ∙ sym (rw (le-ltb 512 (length s) l));
+            stored = λ x o d. let f = fits_counted (length ws') i (sym e ∙ o) d in j.stored i refl f.near f.few ∙ exact f;
+            kept = j.kept;
+          }
 
   -- where no bracket may be opened
-  pub cond_unopened : {r : Seen} → length s ≤ 512 → level ≡ 0 → r ≡ skipped_seen s at → CondRead ks s b level at ws ws r
-  cond_unopened {r} l z e = cond_fitted l refl (cond_skipped ks s (counted b) level at ws z e) (e ∙ sym (ap (fitted (length ws)) e ∙ stays))
+  pub cond_unopened : {r : Found Seen} → length s ≤ 512 → level ≡ 0 → r ≡ skipped_seen s at → CondRead ks s b level at ws ws r
+  unfolding cond_at cond_seen skipped_seen read_end left_at seen
+  cond_unopened {r} l z e = record { is = e ∙ is (any_cond (drop at s)) refl ∙ sym (rw (le-ltb 512 (length s) l)); stored = λ i o d. skipped_silent s at (sym e ∙ o) d; kept = refl }
     where
-      stays : fitted (length ws) (skipped_seen s at) ≡ skipped_seen s at
-      stays = unfold skipped_seen in by_test (eqb (place s (any_cond (drop at s))) 0) (λ t. rw t (fitted_unread (length ws))) (λ t. rw t (unfold fitted deep_seen in refl))
+      is : (o : Option (Read (Cond Test))) → any_cond (drop at s) ≡ o → skipped_seen s at ≡ cond_seen ks s (length ws) b level o
+      is none q = rw q
+      is (some a) q = rw (q, lt-leb (cond_depth a.what) level (omega (arith, depth_some a.what)))
 
-pub ruleset read_cond_ends = (cond_long, cond_fitted, cond_unopened)
+pub ruleset read_cond_ends = (cond_long, cond_unread, cond_fitted, cond_unopened)
 
 -- ---- conditions of a line, up to a closing bracket
 
@@ -232,33 +241,32 @@ closes_first [] = refl
 closes_first (x ∷ xs) = refl
 
 module _ (ks : List ℕ) (s : Bytes) (level at : ℕ) (ws : List ℕ) where
-  pub list_long : {r : Seen} → 512 < length s → r ≡ nothing_seen → ListRead ks s level at ws ws r
+  pub list_long : 512 < length s → ListRead ks s level at ws ws None
   unfolding list_at
-  list_long l e = record { is = e ∙ sym (rw (lt-ltb 512 (length s) l)); stored = λ o d. unread_ok e o; kept = refl }
+  list_long l = record { is = sym (rw (lt-ltb 512 (length s) l)); stored = λ i o d. unread refl o; kept = refl }
 
-  module _ (l : length s ≤ 512) {ws₁ : List ℕ} {i : Seen} (j : CondsIn ks s 0 level at ws ws₁ i) where
+  module _ (l : length s ≤ 512) {ws₁ : List ℕ} where
     -- where no list is read
-    unlisted : {r : Seen} → any_some closes any_cond (drop at s) ≡ none → r ≡ nothing_seen → ListRead ks s level at ws ws₁ r
+    unlisted : {r : Found Seen} → any_some closes any_cond (drop at s) ≡ none → length ws₁ ≡ length ws → r ≡ None → ListRead ks s level at ws ws₁ r
     unfolding list_at list_seen
-    unlisted n e = record { is = e ∙ sym (rw (le-ltb 512 (length s) l, n)); stored = λ o d. unread_ok e o; kept = j.kept }
+    unlisted n k e = record { is = e ∙ sym (rw (le-ltb 512 (length s) l, n)); stored = λ i o d. unread e o; kept = k }
 
-    pub list_unread : {r : Seen} → not i.ok ≡ true → r ≡ nothing_seen → ListRead ks s level at ws ws₁ r
+    pub list_unread : {r : Found Seen} → CondsIn ks s 0 level at ws ws₁ None → r ≡ None → ListRead ks s level at ws ws₁ r
     unfolding bind
-    list_unread o e =
-        told_cases ks (many ks) s 0 level (any_conds (drop at s)) j.is (λ n m. unlisted (some_conds (drop at s) ∙ rw n) e) (λ c n m k. never (sym m ∙ not-true i.ok o))
+    list_unread j e = unlisted (some_conds (drop at s) ∙ rw (told_none ks (many ks) s 0 level (any_conds (drop at s)) j.is)) j.kept e
 
-    module _ (o : not i.ok ≡ false) {y : ℕ} (q : y ≡ get_or s i.next 0) where
-      listed : {X : Type 0} → ((c : Read (Conds Test)) → any_conds (drop at s) ≡ some c → closes c.left ≡ eqb 41 y → X) → X
+    module _ {i : Seen} (j : CondsIn ks s 0 level at ws ws₁ (Some i)) {y : ℕ} (q : y ≡ get_or s i.next 0) where
+      listed : {X : Type 0} → ((c : Read (Conds Test)) → any_conds (drop at s) ≡ some c → i ≡ told_read ks (many ks) s 0 level c → closes c.left ≡ eqb 41 y → X) → X
       listed f =
-          told_cases ks (many ks) s 0 level (any_conds (drop at s)) j.is (λ n m. unread_ok m (not-false i.ok o))
-          (λ c n m k. f c n (ap closes (sym (ap (λ p. drop p s) k ∙ left_drop any_conds_leaves s at c n)) ∙ closes_first (drop i.next s) ∙ ap (eqb 41) (first_byte s i.next ∙ sym q)))
+          told_some ks (many ks) s 0 level (any_conds (drop at s)) j.is
+          (λ c n m k. f c n m (ap closes (sym (ap (λ p. drop p s) k ∙ left_drop any_conds_leaves s at c n)) ∙ closes_first (drop i.next s) ∙ ap (eqb 41) (first_byte s i.next ∙ sym q)))
 
-      pub list_open : {r : Seen} → (y ≡ 41 → ⊥) → r ≡ nothing_seen → ListRead ks s level at ws ws₁ r
+      pub list_open : (y ≡ 41 → ⊥) → ListRead ks s level at ws ws₁ None
       unfolding bind ensure
-      list_open z e = listed (λ c n m. unlisted (some_conds (drop at s) ∙ rw (n, m, ne_eqb 41 y (λ w. z (sym w)))) e)
+      list_open z = listed (λ c n d m. unlisted (some_conds (drop at s) ∙ rw (n, m, ne_eqb 41 y (λ w. z (sym w)))) j.kept refl)
 
-      module _ (z : y ≡ 41) {r : Seen} (e : r ≡ fitted (length ws₁) i) where
-        list_is : (c : Read (Conds Test)) → fitted (length ws) (told ks (many ks) s 0 level (some c)) ≡ list_seen ks s (length ws) level (some (record { what = list_of c.what; left = c.left }))
+      module _ (z : y ≡ 41) {r : Found Seen} (e : r ≡ fitted (length ws₁) i) where
+        list_is : (c : Read (Conds Test)) → fitted (length ws) (told_read ks (many ks) s 0 level c) ≡ list_seen ks s (length ws) level (some (record { what = list_of c.what; left = c.left }))
         unfolding list_seen
         list_is c =
             let n : 0 + list_size (map (nodes_of ks) (list_of c.what)) ≡ list_size (map (nodes_of ks) (list_of c.what)) = omega arith in
@@ -267,11 +275,11 @@ module _ (ks : List ℕ) (s : Bytes) (level at : ℕ) (ws : List ℕ) where
         pub list_closed : ListRead ks s level at ws ws₁ r
         unfolding list_at list_stored put_read bind ensure
         list_closed =
-            listed (λ c n m.
+            listed (λ c n d m.
             let x : any_some closes any_cond (drop at s) ≡ some (record { what = list_of c.what; left = c.left }) = some_conds (drop at s) ∙ rw (n, m, eq-eqb 41 y (sym z)) in
             record {
-              is = e ∙ ap (λ n. fitted n i) j.kept ∙ ap (fitted (length ws)) (j.is ∙ ap (told ks (many ks) s 0 level) n) ∙ list_is c ∙ sym (rw (le-ltb 512 (length s) l, x));
-              stored = λ o d. let f = fits_counted (length ws₁) i e o d in j.stored f.ok f.near f.few ∙ ap (λ w. put_read (many ks) 0 w ws) n ∙ sym (store_lists ks c.what 0 ws) ∙ sym (ap (λ w. list_stored ks w ws) x);
+              is = e ∙ ap (λ n. fitted n i) j.kept ∙ ap (fitted (length ws)) d ∙ list_is c ∙ sym (rw (le-ltb 512 (length s) l, x));
+              stored = λ v o w. let f = fits_counted (length ws₁) i (sym e ∙ o) w in j.stored i refl f.near f.few ∙ ap (λ w. put_read (many ks) 0 w ws) n ∙ sym (store_lists ks c.what 0 ws) ∙ sym (ap (λ w. list_stored ks w ws) x);
               kept = j.kept;
             })
 

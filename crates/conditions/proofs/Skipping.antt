@@ -15,7 +15,8 @@ use Rattle.syntax.specs.Grammar.{Bytes, Op, Test, Cond, all, any, neg, Conds, la
 use Rattle.syntax.specs.Readers as R
 use Rattle.syntax.specs.Readers.{Read, Reader, bind, ensure, ◌>>◌, ◌>>=◌, give, byte, read_test, read_headed, read_more, compare, and, or, not_of, head_word}
 use Rattle.syntax.proofs.Steps.{bind_bind}
-use Rattle.text.specs.Keywords.{head_number, place}
+use Rattle.text.specs.Words.{Found, Some, None, seen, left_at, read_end}
+use Rattle.text.specs.Keywords.{head_number}
 use Rattle.text.specs.Readings.{any_cond, any_conds}
 use Rattle.text.proofs.Runs.{inside, first_byte}
 use Rattle.text.proofs.Places.{byte_here, space_is, space_not}
@@ -25,9 +26,10 @@ use Rattle.terms.specs.Terms.{comparison_at}
 use Rattle.terms.proofs.Sides.{comparison_none, comparison_some}
 use Rattle.conditions.specs.declared.Headed.{Headed}
 use Rattle.conditions.specs.declared.Skip.{Skip}
+use Rattle.conditions.specs.declared.Skip.TheVariants.{Ended, Next}
 use Rattle.conditions.specs.declared.Seen.{Seen}
-use Rattle.conditions.specs.Seeing.{head_at, nothing_seen, deep_seen}
-use Rattle.conditions.specs.Steps.{stuck, after_cond, skipped_seen}
+use Rattle.conditions.specs.Seeing.{head_at, deep_seen}
+use Rattle.conditions.specs.Steps.{after_cond, skipped_seen}
 use Rattle.conditions.proofs.Heads.{op_small, unheaded, headed}
 
 -- ---- what is still to be read
@@ -162,11 +164,15 @@ stack_push single n v h = rw (add-one n, get_or-set_same single n v false h, sta
 
 -- ---- the brackets that close after a condition
 
-pub record After (s : Bytes) (single : List Bool) (p n : ℕ) (k : Skip) : Type 0 where
-  pub ended : k.done ≡ true → place s (rest (stack single n) (drop p s)) ≡ k.at
-  pub goes : k.done ≡ false → place s (rest (stack single n) (drop p s)) ≡ place s (within (stack single k.nest) (drop k.at s))
-  pub fewer : k.done ≡ false → k.nest ≤ n
-  pub further : k.done ≡ false → p < k.at
+pub record Goes (s : Bytes) (single : List Bool) (p n q m : ℕ) : Type 0 where
+  pub left : read_end s (rest (stack single n) (drop p s)) ≡ read_end s (within (stack single m) (drop q s))
+  pub fewer : m ≤ n
+  pub further : p < q
+
+unfoldable pub After : Bytes → List Bool → ℕ → ℕ → Found Skip → Type 0
+After s single p n None = read_end s (rest (stack single n) (drop p s)) ≡ None
+After s single p n (Some (Ended q)) = read_end s (rest (stack single n) (drop p s)) ≡ Some q
+After s single p n (Some (Next q m)) = Goes s single p n q m
 
 no_space : (v : Bool) (x y : ℕ) → x ≡ y → (eqb y 32 && not v) ≡ false → (eqb 32 x && not v) ≡ false
 no_space v x y e f = go (eqb y 32) refl f
@@ -177,32 +183,32 @@ no_space v x y e f = go (eqb y 32) refl f
 
 module _ (s : Bytes) (single : List Bool) where
   -- no bracket is left open
-  after_end : (p : ℕ) → p ≤ length s → After s single p 0 (record { at = p; nest = 0; done = true })
-  unfolding stack rest place
-  after_end p h = record { ended = λ e. omega (arith, length-drop p s); goes = λ e. never e; fewer = λ e. never e; further = λ e. never e }
+  after_end : (p : ℕ) → p ≤ length s → After s single p 0 (Some (Ended p))
+  unfolding After stack rest read_end left_at seen
+  after_end p h = ap Some (omega (arith, length-drop p s))
 
-  after_close : (p n : ℕ) (k : Skip) → get_or s p 0 ≡ 41 → After s single (p + 1) n k → After s single p (suc n) k
-  unfolding stack rest
-  after_close p n k z a =
-      let l = inside s p (omega arith) in
-      let d = byte_here s p l z in
-      record { ended = λ e. rw d (a.ended e); goes = λ e. rw d (a.goes e); fewer = λ e. let f = a.fewer e in omega arith; further = λ e. let f = a.further e in omega arith }
+  after_close : (p n : ℕ) (k : Found Skip) → get_or s p 0 ≡ 41 → After s single (p + 1) n k → After s single p (suc n) k
+  unfolding After stack rest
+  after_close p n k z a = go k a
+    where
+      d : drop p s ≡ 41 ∷ drop (p + 1) s
+      d = byte_here s p (inside s p (omega arith)) z
 
-  after_space : (p n : ℕ) → get_or s p 0 ≡ 32 → get_or single n false ≡ false → After s single p (suc n) (record { at = p + 1; nest = suc n; done = false })
-  unfolding stack rest listed byte ensure
+      go : (k : Found Skip) → After s single (p + 1) n k → After s single p (suc n) k
+      go None a = rw d a
+      go (Some (Ended q)) a = rw d a
+      go (Some (Next q m)) a = let f = a.fewer in let g = a.further in record { left = rw d a.left; fewer = omega arith; further = omega arith }
+
+  after_space : (p n : ℕ) → get_or s p 0 ≡ 32 → get_or single n false ≡ false → After s single p (suc n) (Some (Next (p + 1) (suc n)))
+  unfolding After stack rest listed byte ensure
   after_space p n z f =
       let l = inside s p (omega arith) in
       let d = byte_here s p l z in
-      record {
-        ended = λ e. never (sym e);
-        goes = λ e. rw (f, d) (ap (place s) (listed_on (stack single n) (32 ∷ drop (p + 1) s) {u = tt} {l = drop (p + 1) s} refl));
-        fewer = λ e. omega arith;
-        further = λ e. omega arith;
-      }
+      record { left = rw (f, d) (ap (read_end s) (listed_on (stack single n) (32 ∷ drop (p + 1) s) {u = tt} {l = drop (p + 1) s} refl)); fewer = omega arith; further = omega arith }
 
-  after_stuck : (p n : ℕ) → (get_or s p 0 ≡ 41 → ⊥) → (eqb (get_or s p 0) 32 && not (get_or single n false)) ≡ false → After s single p (suc n) stuck
-  unfolding stack rest place stuck
-  after_stuck p n z f = record { ended = λ e. ap (place s) (go (drop p s) refl); goes = λ e. never e; fewer = λ e. never e; further = λ e. never e }
+  after_stuck : (p n : ℕ) → (get_or s p 0 ≡ 41 → ⊥) → (eqb (get_or s p 0) 32 && not (get_or single n false)) ≡ false → After s single p (suc n) None
+  unfolding After stack rest read_end seen
+  after_stuck p n z f = ap (read_end s) (go (drop p s) refl)
     where
       go : (bs : Bytes) → drop p s ≡ bs → rest (get_or single n false ∷ stack single n) bs ≡ none
       go [] e = refl
@@ -215,29 +221,29 @@ module _ (s : Bytes) (single : List Bool) where
   after_law zero p h = after_end p h
   after_law (suc n) p h = go (eqb (get_or s p 0) 41) refl (λ z. after_law n (p + 1) (let l = inside s p (omega arith) in omega arith))
     where
-      other : (get_or s p 0 ≡ 41 → ⊥) → (b : Bool) → (eqb (get_or s p 0) 32 && not (get_or single n false)) ≡ b → After s single p (suc n) (cond b (record { at = p + 1; nest = suc n; done = false }) stuck)
+      other : (get_or s p 0 ≡ 41 → ⊥) → (b : Bool) → (eqb (get_or s p 0) 32 && not (get_or single n false)) ≡ b → After s single p (suc n) (cond b (Some (Next (p + 1) (suc n))) None)
       other z true f = spaced (eqb (get_or s p 0) 32) refl (get_or single n false) refl f
         where
-          spaced : (a : Bool) → eqb (get_or s p 0) 32 ≡ a → (v : Bool) → get_or single n false ≡ v → (a && not v) ≡ true → After s single p (suc n) (record { at = p + 1; nest = suc n; done = false })
+          spaced : (a : Bool) → eqb (get_or s p 0) 32 ≡ a → (v : Bool) → get_or single n false ≡ v → (a && not v) ≡ true → After s single p (suc n) (Some (Next (p + 1) (suc n)))
           spaced true d false v e = after_space p n (eqb-true (get_or s p 0) 32 d) v
           spaced true d true v e = never (sym e)
           spaced false d w v e = never (sym e)
       other z false f = after_stuck p n z f
 
       go : (b : Bool) → eqb (get_or s p 0) 41 ≡ b → (get_or s p 0 ≡ 41 → After s single (p + 1) n (after_cond s single (p + 1) n))
-          → After s single p (suc n) (cond b (after_cond s single (p + 1) n) (cond (eqb (get_or s p 0) 32 && not (get_or single n false)) (record { at = p + 1; nest = suc n; done = false }) stuck))
+          → After s single p (suc n) (cond b (after_cond s single (p + 1) n) (cond (eqb (get_or s p 0) 32 && not (get_or single n false)) (Some (Next (p + 1) (suc n))) None))
       go true e r = let z = eqb-true (get_or s p 0) 41 e in after_close p n (after_cond s single (p + 1) n) z (r z)
       go false e r = other (eqb-false (get_or s p 0) 41 e) (eqb (get_or s p 0) 32 && not (get_or single n false)) refl
 
 -- the ends of `after`
 
 module _ (s : Bytes) (single : List Bool) (at nest p n : ℕ) (inv : after_cond s single at nest ≡ after_cond s single p n) where
-  pub after_done : n ≤ 0 → record { at = p; nest = 0; done = true } ≡ after_cond s single at nest
+  pub after_done : n ≤ 0 → Some (Ended p) ≡ after_cond s single at nest
   unfolding after_cond
   after_done h = let z : n ≡ 0 = omega arith in sym (inv ∙ rw z)
 
   module _ (h : 0 < n) {b : ℕ} (e : b ≡ get_or s p 0) where
-    step : after_cond s single p n ≡ cond (eqb b 41) (after_cond s single (p + 1) (n - 1)) (cond (eqb b 32 && not (get_or single (n - 1) false)) (record { at = p + 1; nest = n; done = false }) stuck)
+    step : after_cond s single p n ≡ cond (eqb b 41) (after_cond s single (p + 1) (n - 1)) (cond (eqb b 32 && not (get_or single (n - 1) false)) (Some (Next (p + 1) n)) None)
     unfolding after_cond
     step = let z : n ≡ suc (n - 1) = omega arith in ap (λ m. after_cond s single p m) z ∙ rw (← e, ← z)
 
@@ -245,14 +251,14 @@ module _ (s : Bytes) (single : List Bool) (at nest p n : ℕ) (inv : after_cond 
     after_again z = inv ∙ step ∙ rw (eq-eqb b 41 z)
 
     module _ (z : b ≡ 41 → ⊥) where
-      pub after_other : {r : Skip} → (b ≡ 32 → ⊥) → r ≡ stuck → r ≡ after_cond s single at nest
-      after_other f g = g ∙ sym (inv ∙ step ∙ rw (ne_eqb b 41 z, ne_eqb b 32 f))
+      pub after_other : (b ≡ 32 → ⊥) → None ≡ after_cond s single at nest
+      after_other f = sym (inv ∙ step ∙ rw (ne_eqb b 41 z, ne_eqb b 32 f))
 
       module _ (f : b ≡ 32) where
-        pub after_single : {r : Skip} {v : Bool} → v ≡ get_or single (n - 1) false → v ≡ true → r ≡ stuck → r ≡ after_cond s single at nest
-        after_single w t g = g ∙ sym (inv ∙ step ∙ rw (ne_eqb b 41 z, eq-eqb b 32 f, sym w ∙ t))
+        pub after_single : {v : Bool} → v ≡ get_or single (n - 1) false → v ≡ true → None ≡ after_cond s single at nest
+        after_single w t = sym (inv ∙ step ∙ rw (ne_eqb b 41 z, eq-eqb b 32 f, sym w ∙ t))
 
-        pub after_next : {v : Bool} → v ≡ get_or single (n - 1) false → v ≡ false → record { at = p + 1; nest = n; done = false } ≡ after_cond s single at nest
+        pub after_next : {v : Bool} → v ≡ get_or single (n - 1) false → v ≡ false → Some (Next (p + 1) n) ≡ after_cond s single at nest
         after_next w t = sym (inv ∙ step ∙ rw (ne_eqb b 41 z, eq-eqb b 32 f, sym w ∙ t))
 
 pub ruleset after_ends = (after_done, after_again, after_other, after_single, after_next)
@@ -260,108 +266,114 @@ pub ruleset after_ends = (after_done, after_again, after_other, after_single, af
 -- ---- the skip
 
 pub record Skips (s : Bytes) (at : ℕ) (single : List Bool) (nest p : ℕ) : Type 0 where
-  pub left : place s (any_cond (drop at s)) ≡ place s (within (stack single nest) (drop p s))
+  pub left : read_end s (any_cond (drop at s)) ≡ read_end s (within (stack single nest) (drop p s))
   pub nested : 4 * nest ≤ p
   pub long : length single ≡ 128
 
-within_none : (s : Bytes) (st : List Bool) (p : ℕ) → any_cond (drop p s) ≡ none → place s (within st (drop p s)) ≡ 0
-unfolding within bind place
+within_none : (s : Bytes) (st : List Bool) (p : ℕ) → any_cond (drop p s) ≡ none → read_end s (within st (drop p s)) ≡ None
+unfolding within bind read_end seen
 within_none s st p e = rw e
 
 pub skip_start : (s : Bytes) (at : ℕ) → Skips s at (replicate 128 false) 0 at
-unfolding stack within rest bind place
+unfolding stack within rest bind read_end left_at seen
 skip_start s at = record { left = go (any_cond (drop at s)); nested = omega arith; long = length-replicate 128 false }
   where
-    go : (o : Option (Read (Cond Test))) → place s o ≡ place {A = Unit {0}} s (bind o (λ c. some (record { what = tt; left = c.left })))
+    go : (o : Option (Read (Cond Test))) → read_end s o ≡ read_end {A = Unit {0}} s (bind o (λ c. some (record { what = tt; left = c.left })))
     go none = refl
     go (some c) = refl
 
 module _ (s : Bytes) (at : ℕ) (single : List Bool) (nest p : ℕ) (inv : Skips s at single nest p) where
-  pub skip_over : length s ≤ p → 0 ≡ place s (any_cond (drop at s))
+  pub skip_over : length s ≤ p → None ≡ read_end s (any_cond (drop at s))
   unfolding any_cond R.read_cond
   skip_over h = sym (inv.left ∙ within_none s (stack single nest) p (rw (drop_of_length-le s h)))
 
-  module _ {h : Headed} (e : h ≡ head_at s p) where
-    pub skip_unheaded : h.head ≡ 0 → 0 ≡ place s (any_cond (drop at s))
-    skip_unheaded z = sym (inv.left ∙ within_none s (stack single nest) p (unheaded s p e z))
+  pub skip_unheaded : {x : Found ℕ} → None ≡ head_at s p → x ≡ None → x ≡ read_end s (any_cond (drop at s))
+  skip_unheaded e d = d ∙ sym (inv.left ∙ within_none s (stack single nest) p (unheaded s p e))
 
-    module _ (n : h.head ≡ 0 → ⊥) where
-      -- a comparison
-      module _ (l : h.head < 7) (ks : List ℕ) {x : Comparison} (q : x ≡ comparison_at ks s h.next) where
-        tested : {X : Type 0} → ((o : Op) → any_cond (drop p s) ≡ read_test o (drop h.next s) → p < h.next → X) → X
-        unfolding read_headed head_number
-        tested {X} f = headed s p e n (λ g k y i j. go g k y (omega arith))
-          where
-            go : (g : R.Head) → head_number g ≡ h.head → any_cond (drop p s) ≡ read_headed any_cond any_conds g (drop h.next s) → p < h.next → X
-            go (compare o) k y i = f o y i
-            go and k y i = absurd (omega arith)
-            go or k y i = absurd (omega arith)
-            go not_of k y i = absurd (omega arith)
+  module _ {h : Headed} (e : Some h ≡ head_at s p) where
+    -- a comparison
+    module _ (l : h.head < 7) (ks : List ℕ) where
+      tested : {X : Type 0} → ((o : Op) → any_cond (drop p s) ≡ read_test o (drop h.next s) → p < h.next → X) → X
+      unfolding read_headed head_number
+      tested {X} f = headed s p e (λ g k y i j. go g k y (omega arith))
+        where
+          go : (g : R.Head) → head_number g ≡ h.head → any_cond (drop p s) ≡ read_headed any_cond any_conds g (drop h.next s) → p < h.next → X
+          go (compare o) k y i = f o y i
+          go and k y i = absurd (omega arith)
+          go or k y i = absurd (omega arith)
+          go not_of k y i = absurd (omega arith)
 
-        pub skip_untested : not x.ok ≡ true → 0 ≡ place s (any_cond (drop at s))
-        skip_untested z = tested (λ o y i. sym (inv.left ∙ within_none s (stack single nest) p (y ∙ comparison_none ks s h.next q z o)))
+      pub skip_untested : {x : Found ℕ} → None ≡ comparison_at ks s h.next → x ≡ None → x ≡ read_end s (any_cond (drop at s))
+      skip_untested q d = d ∙ tested (λ o y i. sym (inv.left ∙ within_none s (stack single nest) p (y ∙ comparison_none ks s h.next q o)))
 
-        module _ (z : not x.ok ≡ false) where
-          -- after it
-          tail : {X : Type 0} → (place s (any_cond (drop at s)) ≡ place s (rest (stack single nest) (drop x.next s)) → p < x.next → x.next ≤ length s → X) → X
-          unfolding within bind
-          tail f =
-              tested (λ o y i. comparison_some ks s h.next q z (λ a b u v r d j k.
-              f (inv.left ∙ ap (λ w. place s (bind w (λ c. rest (stack single nest) c.left))) (y ∙ r o)) (omega arith) k))
+      module _ {x : Comparison} (q : Some x ≡ comparison_at ks s h.next) where
+        -- after it
+        tail : {X : Type 0} → (read_end s (any_cond (drop at s)) ≡ read_end s (rest (stack single nest) (drop x.next s)) → p < x.next → x.next ≤ length s → X) → X
+        unfolding within bind
+        tail f =
+            tested (λ o y i. comparison_some ks s h.next q (λ a b u v r d j k.
+            f (inv.left ∙ ap (λ w. read_end s (bind w (λ c. rest (stack single nest) c.left))) (y ∙ r o)) (omega arith) k))
 
-          module _ {k : Skip} (a : k ≡ after_cond s single x.next nest) where
-            afterwards : x.next ≤ length s → After s single x.next nest k
-            afterwards b = rw a (after_law s single nest x.next b)
+        pub skip_stuck : {y : Found ℕ} → None ≡ after_cond s single x.next nest → y ≡ None → y ≡ read_end s (any_cond (drop at s))
+        unfolding After
+        skip_stuck a d = tail (λ u v w. d ∙ sym (u ∙ rw (← a) at (after_law s single nest x.next w)))
 
-            pub skip_done : k.done ≡ true → k.at ≡ place s (any_cond (drop at s))
-            skip_done t = tail (λ u v w. sym (u ∙ (afterwards w).ended t))
+        module _ {k : Skip} (a : Some k ≡ after_cond s single x.next nest) where
+          afterwards : {j : Skip} → k ≡ j → x.next ≤ length s → After s single x.next nest (Some j)
+          afterwards i b = rw (← (ap Some (sym i) ∙ a)) at (after_law s single nest x.next b)
 
-            pub skip_again : k.done ≡ false → Skips s at single k.nest k.at
-            skip_again t = tail (λ u v w. let b = afterwards w in let c = b.fewer t in let d = b.further t in let f = inv.nested in record { left = u ∙ b.goes t; nested = omega arith; long = inv.long })
+          pub skip_done : {j : ℕ} → k ≡ Ended j → Some j ≡ read_end s (any_cond (drop at s))
+          unfolding After
+          skip_done i = tail (λ u v w. sym (u ∙ afterwards i w))
 
-            pub skip_less : k.done ≡ false → p < length s → length s - k.at < length s - p
-            skip_less t i = tail (λ u v w. let d = (afterwards w).further t in omega arith)
+          module _ {j m : ℕ} (i : k ≡ Next j m) where
+            pub skip_again : Skips s at single m j
+            unfolding After
+            skip_again = tail (λ u v w. let b = afterwards i w in let c = b.fewer in let d = b.further in let f = inv.nested in record { left = u ∙ b.left; nested = omega arith; long = inv.long })
 
-      -- a condition of conditions
-      module _ (l : 7 ≤ h.head) {b : ℕ} (q : b ≡ get_or s h.next 0) where
-        pub skip_unspaced : (b ≡ 32 → ⊥) → 0 ≡ place s (any_cond (drop at s))
-        unfolding place
-        skip_unspaced z =
-            sym (inv.left ∙ ap (place s) (headed s p e n (λ g k y i j. headed_none (stack single nest) (drop p s) (drop h.next s) g (omega arith) y (space_not s h.next q z))))
+            pub skip_less : p < length s → length s - j < length s - p
+            unfolding After
+            skip_less o = tail (λ u v w. let d = (afterwards i w).further in omega arith)
 
-        module _ (z : b ≡ 32) where
-          -- its first condition
-          first : {X : Type 0} → (within (stack single nest) (drop p s) ≡ within (eqb h.head 9 ∷ stack single nest) (drop (h.next + 1) s) → p + 3 ≤ h.next → X) → X
-          first f =
-              headed s p e n (λ g k y i j.
-              let w = head_long g (omega arith) in
-              f (rw (← k) (headed_first (stack single nest) (drop p s) (drop h.next s) g (omega arith) y (space_is s h.next q z))) (omega arith))
+    -- a condition of conditions
+    module _ (l : 7 ≤ h.head) {b : ℕ} (q : b ≡ get_or s h.next 0) where
+      pub skip_unspaced : (b ≡ 32 → ⊥) → None ≡ read_end s (any_cond (drop at s))
+      unfolding read_end seen
+      skip_unspaced z =
+          sym (inv.left ∙ ap (read_end s) (headed s p e (λ g k y i j. headed_none (stack single nest) (drop p s) (drop h.next s) g (omega arith) y (space_not s h.next q z))))
 
-          pub skip_deeper : p < length s → length s ≤ 512 → Skips s at (set single nest (eqb h.head 9)) (nest + 1) (h.next + 1)
-          skip_deeper v r =
-              first (λ w u.
-              let f = inv.nested in
-              let g = inv.long in
-              record {
-                left = inv.left ∙ ap (place s) w ∙ ap (λ st. place s (within st (drop (h.next + 1) s))) (sym (stack_push single nest (eqb h.head 9) (omega arith)));
-                nested = omega arith;
-                long = length-set single nest (eqb h.head 9) ∙ inv.long;
-              })
+      module _ (z : b ≡ 32) where
+        -- its first condition
+        first : {X : Type 0} → (within (stack single nest) (drop p s) ≡ within (eqb h.head 9 ∷ stack single nest) (drop (h.next + 1) s) → p + 3 ≤ h.next → X) → X
+        first f =
+            headed s p e (λ g k y i j.
+            let w = head_long g (omega arith) in
+            f (rw (← k) (headed_first (stack single nest) (drop p s) (drop h.next s) g (omega arith) y (space_is s h.next q z))) (omega arith))
 
-          pub skip_falls : p < length s → length s - (h.next + 1) < length s - p
-          skip_falls v = first (λ w u. omega arith)
+        pub skip_deeper : p < length s → length s ≤ 512 → Skips s at (set single nest (eqb h.head 9)) (nest + 1) (h.next + 1)
+        skip_deeper v r =
+            first (λ w u.
+            let f = inv.nested in
+            let g = inv.long in
+            record {
+              left = inv.left ∙ ap (read_end s) w ∙ ap (λ st. read_end s (within st (drop (h.next + 1) s))) (sym (stack_push single nest (eqb h.head 9) (omega arith)));
+              nested = omega arith;
+              long = length-set single nest (eqb h.head 9) ∙ inv.long;
+            })
 
-pub ruleset skip_ends = (skip_start, skip_over, skip_unheaded, skip_untested, skip_done, skip_again, skip_unspaced, skip_deeper, skip_less, skip_falls)
+        pub skip_falls : p < length s → length s - (h.next + 1) < length s - p
+        skip_falls v = first (λ w u. omega arith)
+
+pub ruleset skip_ends = (skip_start, skip_over, skip_unheaded, skip_untested, skip_stuck, skip_done, skip_again, skip_unspaced, skip_deeper, skip_less, skip_falls)
 
 -- what is told of a condition that is skipped
 
-module _ (s : Bytes) (at : ℕ) {e : ℕ} (q : e ≡ place s (any_cond (drop at s))) where
-  pub skipped_none : {r : Seen} → e ≡ 0 → r ≡ nothing_seen → r ≡ skipped_seen s at
-  unfolding skipped_seen
-  skipped_none z d = d ∙ sym (rw (sym q ∙ z))
+pub skipped_none : (s : Bytes) (at : ℕ) {x : Found Seen} → None ≡ read_end s (any_cond (drop at s)) → x ≡ None → x ≡ skipped_seen s at
+unfolding skipped_seen
+skipped_none s at q d = d ∙ rw (← q)
 
-  pub skipped_some : {r : Seen} → (e ≡ 0 → ⊥) → r ≡ deep_seen e → r ≡ skipped_seen s at
-  unfolding skipped_seen
-  skipped_some n d = d ∙ sym (rw (← q, ne_eqb e 0 n))
+pub skipped_some : (s : Bytes) (at : ℕ) {e : ℕ} {r : Seen} → Some e ≡ read_end s (any_cond (drop at s)) → r ≡ deep_seen e → Some r ≡ skipped_seen s at
+unfolding skipped_seen
+skipped_some s at q d = ap Some d ∙ rw (← q)
 
 pub ruleset skipped_ends = (skipped_none, skipped_some)

@@ -1,12 +1,13 @@
 -- The steps by which conditions are read: a comparison, a closing bracket, the conditions of a list one after another; and the skip over one that nests too deep.
-use Rattle.std.specs.Prelude.{◌≡◌, List, Bool, true, false, ◌||◌, ◌&&◌, not, cond, ℕ, zero, suc, ◌+◌, ◌-◌, ◌≤◌, min, leb, eqb, length, drop, get_or}
+use Rattle.std.specs.Prelude.{◌≡◌, List, Bool, false, ◌||◌, ◌&&◌, not, cond, ℕ, zero, suc, ◌+◌, ◌≤◌, min, leb, eqb, length, drop, get_or}
+use Rattle.std.specs.Prelude.{option_map}
 use Rattle.std.proofs.Math.Option.{Option, none, some}
 use Rattle.std.specs.Int.Bits.{bit_or}
 use Rattle.syntax.specs.Grammar.{Bytes, Test, Cond, Conds}
 use Rattle.syntax.specs.Limits.{cond_depth, conds_depth}
 use Rattle.syntax.specs.Readers.{Read}
 use Rattle.model.specs.Conditions.{tests, tests_of, map_conds}
-use Rattle.text.specs.Keywords.{place}
+use Rattle.text.specs.Words.{Found, Some, None, seen, left_at, read_end}
 use Rattle.text.specs.Readings.{any_cond, any_conds}
 use Rattle.masks.specs.Masks.{with_bit}
 use Rattle.terms.specs.Terms.{unknown_code}
@@ -16,11 +17,12 @@ use Rattle.nodes.specs.Storing.{put_node, size, sizes, store, store_all, inner_n
 use Rattle.nodes.specs.declared.Node.{Node}
 use Rattle.conditions.specs.declared.Seen.{Seen}
 use Rattle.conditions.specs.declared.Skip.{Skip}
-use Rattle.conditions.specs.Seeing.{test_node, nodes_of, nothing_seen, deep_seen, seen_of, has_room, most_words}
+use Rattle.conditions.specs.declared.Skip.TheVariants.{Ended, Next}
+use Rattle.conditions.specs.Seeing.{test_node, nodes_of, deep_seen, seen_of, has_room, most_words}
 
 -- ---- what a step answers, and what it leaves in the words
 
-unfoldable pub Answers : Seen → List ℕ → Seen → List ℕ → Type 0
+unfoldable pub Answers : Found Seen → List ℕ → Found Seen → List ℕ → Type 0
 Answers r ws seen stored = (r ≡ seen) × (ws ≡ stored)
 
 -- ---- words that are counted: all counts that a node's link cannot tell are one
@@ -38,10 +40,9 @@ pub record Placed (b : ℕ) (n : Node) (ws ws' : List ℕ) (r : ℕ) : Type 0 wh
 unfoldable pub compared_node : ℕ → ℕ → Comparison → Node
 compared_node h b c = record { head = h; left = c.left; right = c.right; before = b; value = c.value }
 
-unfoldable pub compared_seen : ℕ → Comparison → Seen
-compared_seen b c =
-    cond c.ok (record {
-      ok = true;
+unfoldable pub compared_one : ℕ → Comparison → Seen
+compared_one b c =
+    record {
       next = c.next;
       count = counted (b + node_words (compared_node 0 b c));
       over = c.over;
@@ -49,17 +50,20 @@ compared_seen b c =
       deep = false;
       lefts = with_bit 0 c.left;
       rights = with_bit 0 c.right;
-    }) nothing_seen
+    }
 
-unfoldable pub compared_stored : ℕ → ℕ → Comparison → List ℕ → List ℕ
-compared_stored h b c ws = cond c.ok (put_node ws b (compared_node h b c)) ws
+unfoldable pub compared_seen : ℕ → Found Comparison → Found Seen
+compared_seen b o = option_map (compared_one b) o
+
+unfoldable pub compared_stored : ℕ → ℕ → Found Comparison → List ℕ → List ℕ
+compared_stored h b None ws = ws
+compared_stored h b (Some c) ws = put_node ws b (compared_node h b c)
 
 -- ---- a closing bracket after what is inside, and the node of the whole
 
-unfoldable pub closed_seen : Bytes → Seen → Seen
+unfoldable pub closed_seen : Bytes → Seen → Found Seen
 closed_seen s i =
-    cond (i.ok && eqb (get_or s i.next 0) 41) (cond i.deep (deep_seen (i.next + 1)) (record {
-      ok = true;
+    cond (eqb (get_or s i.next 0) 41) (Some (cond i.deep (deep_seen (i.next + 1)) (record {
       next = i.next + 1;
       count = counted (i.count + 1);
       over = i.over;
@@ -67,17 +71,16 @@ closed_seen s i =
       deep = false;
       lefts = i.lefts;
       rights = i.rights;
-    })) nothing_seen
+    }))) None
 
 unfoldable pub closed_stored : ℕ → ℕ → Bytes → Seen → List ℕ → List ℕ
-closed_stored h b s i ws = cond (i.ok && eqb (get_or s i.next 0) 41 && not i.deep) (put_node ws i.count (inner_node h b)) ws
+closed_stored h b s i ws = cond (eqb (get_or s i.next 0) 41 && not i.deep) (put_node ws i.count (inner_node h b)) ws
 
 -- ---- some conditions, and one after them
 
 unfoldable pub both_seen : Seen → Seen → Seen
 both_seen i j =
     cond (i.deep || j.deep) (deep_seen j.next) (record {
-      ok = true;
       next = j.next;
       count = j.count;
       over = i.over || j.over;
@@ -102,31 +105,33 @@ abbrev pub many : List ℕ → Kind (Conds Test)
 many ks = record { words = λ cs. sizes (map_conds (test_node ks) cs); tests = tests_of; depth = conds_depth; put = λ cs. store_all (map_conds (test_node ks) cs) }
 
 -- what is told of them, whether or not their words have room
-unfoldable pub told : {A : Type 0} → List ℕ → Kind A → Bytes → ℕ → ℕ → Option (Read A) → Seen
-told ks k s b level none = nothing_seen
-told ks k s b level (some r) =
-    let next = length s - length r.left in
+unfoldable pub told_read : {A : Type 0} → List ℕ → Kind A → Bytes → ℕ → ℕ → Read A → Seen
+told_read ks k s b level r =
+    let next = left_at s r in
     cond (leb (k.depth r.what) level) (seen_of ks (k.tests r.what) next (counted (b + k.words r.what))) (deep_seen next)
+
+unfoldable pub told : {A : Type 0} → List ℕ → Kind A → Bytes → ℕ → ℕ → Option (Read A) → Found Seen
+told ks k s b level o = seen (told_read ks k s b level) o
 
 unfoldable pub put_read : {A : Type 0} → Kind A → ℕ → Option (Read A) → List ℕ → List ℕ
 put_read k b none ws = ws
 put_read k b (some r) ws = k.put r.what b ws
 
 -- their nodes are in the words where all is read, and not too deep, and counted
-pub record ReadIn {A : Type 0} (ks : List ℕ) (k : Kind A) (s : Bytes) (b level : ℕ) (o : Option (Read A)) (ws ws' : List ℕ) (r : Seen) : Type 0 where
+pub record ReadIn {A : Type 0} (ks : List ℕ) (k : Kind A) (s : Bytes) (b level : ℕ) (o : Option (Read A)) (ws ws' : List ℕ) (r : Found Seen) : Type 0 where
   pub is : r ≡ told ks k s b level o
-  pub stored : r.ok ≡ true → r.deep ≡ false → r.count ≤ most_words → ws' ≡ put_read k b o ws
+  pub stored : (i : Seen) → r ≡ Some i → i.deep ≡ false → i.count ≤ most_words → ws' ≡ put_read k b o ws
   pub kept : length ws' ≡ length ws
 
-abbrev pub CondIn : List ℕ → Bytes → ℕ → ℕ → ℕ → List ℕ → List ℕ → Seen → Type 0
+abbrev pub CondIn : List ℕ → Bytes → ℕ → ℕ → ℕ → List ℕ → List ℕ → Found Seen → Type 0
 CondIn ks s b level at ws ws' r = ReadIn ks (one ks) s b level (any_cond (drop at s)) ws ws' r
 
-abbrev pub CondsIn : List ℕ → Bytes → ℕ → ℕ → ℕ → List ℕ → List ℕ → Seen → Type 0
+abbrev pub CondsIn : List ℕ → Bytes → ℕ → ℕ → ℕ → List ℕ → List ℕ → Found Seen → Type 0
 CondsIn ks s b level at ws ws' r = ReadIn ks (many ks) s b level (any_conds (drop at s)) ws ws' r
 
 -- what is read, where its words have room
-unfoldable pub fitted : ℕ → Seen → Seen
-fitted room i = cond (i.ok && not i.deep && not (has_room room i.count)) nothing_seen i
+unfoldable pub fitted : ℕ → Seen → Found Seen
+fitted room i = cond (not i.deep && not (has_room room i.count)) None (Some i)
 
 -- ---- the skip
 
@@ -134,16 +139,13 @@ fitted room i = cond (i.ok && not i.deep && not (has_room room i.count)) nothing
 abbrev pub max_nest : ℕ
 max_nest = 128
 
-unfoldable pub stuck : Skip
-stuck = record { at = 0; nest = 0; done = true }
-
 -- after a condition that ended at a place, inside some that are open, the innermost last; `single` tells which of these hold just one
-unfoldable pub after_cond : Bytes → List Bool → ℕ → ℕ → Skip
-after_cond s single p zero = record { at = p; nest = 0; done = true }
+unfoldable pub after_cond : Bytes → List Bool → ℕ → ℕ → Found Skip
+after_cond s single p zero = Some (Ended p)
 after_cond s single p (suc n) =
     cond (eqb (get_or s p 0) 41) (after_cond s single (p + 1) n)
-    (cond (eqb (get_or s p 0) 32 && not (get_or single n false)) (record { at = p + 1; nest = suc n; done = false }) stuck)
+    (cond (eqb (get_or s p 0) 32 && not (get_or single n false)) (Some (Next (p + 1) (suc n))) None)
 
 -- a condition that is skipped
-unfoldable pub skipped_seen : Bytes → ℕ → Seen
-skipped_seen s at = cond (eqb (place s (any_cond (drop at s))) 0) nothing_seen (deep_seen (place s (any_cond (drop at s))))
+unfoldable pub skipped_seen : Bytes → ℕ → Found Seen
+skipped_seen s at = option_map deep_seen (read_end s (any_cond (drop at s)))

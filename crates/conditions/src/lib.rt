@@ -3,17 +3,17 @@
 
 ghost use Rattle.std.specs.Prelude.{◌≡◌, true, ◌||◌, suc, ◌≤◌, eqb, length, drop};
 ghost use Rattle.syntax.specs.Limits.{max_line};
-ghost use Rattle.text.specs.Keywords.{place};
+ghost use Rattle.text.specs.Words.{read_end};
 ghost use Rattle.text.specs.Readings.{any_cond};
 ghost use Rattle.terms.specs.Terms.{unknown_code, comparison_at};
-ghost use Rattle.conditions.specs.Seeing.{head_at, nothing_seen, deep_seen, begun, CondRead, ListRead, most_words};
-ghost use Rattle.conditions.specs.Steps.{counted, Placed, compared_seen, compared_stored, closed_seen, closed_stored, both_seen, Answers, fitted, CondIn, CondsIn, stuck, after_cond, skipped_seen, max_nest};
+ghost use Rattle.conditions.specs.Seeing.{head_at, deep_seen, begun, CondRead, ListRead, most_words};
+ghost use Rattle.conditions.specs.Steps.{counted, Placed, compared_seen, compared_stored, closed_seen, closed_stored, both_seen, Answers, fitted, CondIn, CondsIn, after_cond, skipped_seen, max_nest};
 
 use nodes::Node;
 use terms::Term;
-use text::{Line, Word};
+use text::Line;
 
-// The head of a condition by its number, 0 for none, and the place after it.
+// The head of a condition by its number, and the place after it.
 #[derive(Clone, Copy)]
 pub struct Headed {
     pub head: u32,
@@ -24,7 +24,6 @@ pub struct Headed {
 // `deep`: brackets nest deeper than they may, and nothing else is told.
 #[derive(Clone, Copy)]
 pub struct Seen {
-    pub ok: bool,
     pub next: usize,
     pub count: u32,
     pub over: bool,
@@ -41,38 +40,17 @@ impl Seen {
     pub const MORE: u32 = 256;
 }
 
-// Returns the head of a condition at a place, and the place after it; 0 and 0 mean that there is none.
-pub fn head_at(s: &[u8], at: usize) -> Headed
+// Returns the head of a condition at a place, and the place after it.
+pub fn head_at(s: &[u8], at: usize) -> Option<Headed>
     ensures { result ≡ head_at s.now at }
 {
-    if text::byte(s, at) != b'(' {
-        return Headed { head: 0, next: 0 };
-    }
-    let w = text::word_at(s, at + 1);
-    let n = Word::head(w.code);
-    if n == 0 {
-        return Headed { head: 0, next: 0 };
-    }
-    Headed {
+    let p = text::skip(s, at, b'(')?;
+    let w = text::read_word(s, p)?;
+    let n = w.as_head()?;
+    Some(Headed {
         head: n,
         next: w.next,
-    }
-}
-
-// Returns what is seen where there is no condition.
-pub fn nothing_seen() -> Seen
-    ensures { result ≡ nothing_seen }
-{
-    Seen {
-        ok: false,
-        next: 0,
-        count: 0,
-        over: false,
-        unknown: false,
-        deep: false,
-        lefts: 0,
-        rights: 0,
-    }
+    })
 }
 
 // Conditions up to a place, whose brackets nest too deep.
@@ -80,7 +58,6 @@ fn deep_seen(next: usize) -> Seen
     ensures { result ≡ deep_seen next }
 {
     Seen {
-        ok: true,
         next: next,
         count: 0,
         over: false,
@@ -96,7 +73,6 @@ pub fn begun(at: usize, b: u32) -> Seen
     ensures { result ≡ begun at b }
 {
     Seen {
-        ok: true,
         next: at,
         count: b,
         over: false,
@@ -109,12 +85,11 @@ pub fn begun(at: usize, b: u32) -> Seen
 
 // ---- where a condition ends that nests too deep, with no recursion
 
-// How far a skip has come: the place of the next condition, 0 where there is none; how many conditions of conditions are open; whether it has come to the end.
+// How far a skip has come: the condition ended at a place, or the next one inside it begins there, with so many conditions of conditions open.
 #[derive(Clone, Copy)]
-pub struct Skip {
-    pub at: usize,
-    pub nest: usize,
-    pub done: bool,
+pub enum Skip {
+    Ended(usize),
+    Next { at: usize, nest: usize },
 }
 
 impl Skip {
@@ -122,19 +97,8 @@ impl Skip {
     pub const MOST: usize = Line::BYTES / 4;
 }
 
-// No condition goes on.
-fn stuck() -> Skip
-    ensures { result ≡ stuck }
-{
-    Skip {
-        at: 0,
-        nest: 0,
-        done: true,
-    }
-}
-
 // After a condition that ended at a place: the brackets that close, up to where the next condition begins or the outermost ends.
-fn after(s: &[u8], single: &[bool; Skip::MOST], at: usize, nest: usize) -> Skip
+fn after(s: &[u8], single: &[bool; Skip::MOST], at: usize, nest: usize) -> Option<Skip>
     requires { nest ≤ max_nest }
     ensures { result ≡ after_cond s.now single.now at nest }
 {
@@ -148,60 +112,51 @@ fn after(s: &[u8], single: &[bool; Skip::MOST], at: usize, nest: usize) -> Skip
             continue;
         }
         if b != b' ' {
-            return stuck();
+            return None;
         }
         if single[n - 1] {
-            return stuck();
+            return None;
         }
-        return Skip {
-            at: p + 1,
-            nest: n,
-            done: false,
-        };
+        return Some(Skip::Next { at: p + 1, nest: n });
     }
-    Skip {
-        at: p,
-        nest: 0,
-        done: true,
-    }
+    Some(Skip::Ended(p))
 }
 
-// Where a condition ends that begins at a place, 0 where there is none, however deep its brackets nest.
-fn skip_cond(s: &[u8], at: usize, names: &[u64]) -> usize
+// Where a condition ends that begins at a place, however deep its brackets nest.
+fn skip_cond(s: &[u8], at: usize, names: &[u64]) -> Option<usize>
     requires { length s.now ≤ max_line }
-    ensures { result ≡ place s.now (any_cond (drop at s.now)) }
+    ensures { result ≡ read_end s.now (any_cond (drop at s.now)) }
 {
     let mut single = [false; Skip::MOST];
     let mut nest: usize = 0;
     let mut p = at;
     while p < s.len() {
-        let h = head_at(s, p);
+        let h = head_at(s, p)?;
         let n = h.head;
-        if n == 0 {
-            return 0;
-        }
         if n < Node::AND {
-            let c = terms::comparison_at(s, h.next, names);
-            if !c.ok {
-                return 0;
+            let c = terms::comparison_at(s, h.next, names)?;
+            let k = after(s, &single, c.next, nest)?;
+            match k {
+                Skip::Ended(end) => return Some(end),
+                Skip::Next {
+                    at: next,
+                    nest: open,
+                } => {
+                    p = next;
+                    nest = open;
+                    continue;
+                }
             }
-            let k = after(s, &single, c.next, nest);
-            if k.done {
-                return k.at;
-            }
-            p = k.at;
-            nest = k.nest;
-            continue;
         }
         let q = h.next;
         if text::byte(s, q) != b' ' {
-            return 0;
+            return None;
         }
         single[nest] = n == Node::NOT;
         nest += 1;
         p = q + 1;
     }
-    0
+    None
 }
 
 // ---- the reader
@@ -236,14 +191,18 @@ fn placed(words: &mut [u32], b: u32, n: Node) -> u32
 }
 
 // A comparison after its head, its node after the first b words.
-fn compared(s: &[u8], at: usize, names: &[u64], words: &mut [u32], head: u32, b: u32) -> Seen
+fn compared(
+    s: &[u8],
+    at: usize,
+    names: &[u64],
+    words: &mut [u32],
+    head: u32,
+    b: u32,
+) -> Option<Seen>
     requires { b ≤ suc most_words }
     ensures { Answers result words.new (compared_seen b (comparison_at names.now s.now at)) (compared_stored head b (comparison_at names.now s.now at) words.old) }
 {
-    let c = terms::comparison_at(s, at, names);
-    if !c.ok {
-        return nothing_seen();
-    }
+    let c = terms::comparison_at(s, at, names)?;
     let n = Node {
         head: head,
         left: c.left,
@@ -255,8 +214,7 @@ fn compared(s: &[u8], at: usize, names: &[u64], words: &mut [u32], head: u32, b:
     let unknown = undeclared(c.left, c.right);
     let lefts = masks::with(0, c.left);
     let rights = masks::with(0, c.right);
-    Seen {
-        ok: true,
+    Some(Seen {
         next: c.next,
         count: count,
         over: c.over,
@@ -264,23 +222,20 @@ fn compared(s: &[u8], at: usize, names: &[u64], words: &mut [u32], head: u32, b:
         deep: false,
         lefts: lefts,
         rights: rights,
-    }
+    })
 }
 
 // The closing bracket of `and`, `or` and `not`, whose node follows those inside.
-fn closed(s: &[u8], words: &mut [u32], head: u32, b: u32, i: Seen) -> Seen
+fn closed(s: &[u8], words: &mut [u32], head: u32, b: u32, i: Seen) -> Option<Seen>
     requires { i.count ≤ suc most_words }
     ensures { Answers result words.new (closed_seen s.now i) (closed_stored head b s.now i words.old) }
 {
-    if !i.ok {
-        return nothing_seen();
-    }
     let at = i.next;
     if text::byte(s, at) != b')' {
-        return nothing_seen();
+        return None;
     }
     if i.deep {
-        return deep_seen(at + 1);
+        return Some(deep_seen(at + 1));
     }
     let n = Node {
         head: head,
@@ -290,8 +245,7 @@ fn closed(s: &[u8], words: &mut [u32], head: u32, b: u32, i: Seen) -> Seen
         value: 0,
     };
     let count = placed(words, i.count, n);
-    Seen {
-        ok: true,
+    Some(Seen {
         next: at + 1,
         count: count,
         over: i.over,
@@ -299,7 +253,7 @@ fn closed(s: &[u8], words: &mut [u32], head: u32, b: u32, i: Seen) -> Seen
         deep: false,
         lefts: i.lefts,
         rights: i.rights,
-    }
+    })
 }
 
 // Conditions, and one after them.
@@ -317,7 +271,6 @@ fn both(i: Seen, j: Seen) -> Seen
     let lefts = masks::either(i.lefts, j.lefts);
     let rights = masks::either(i.rights, j.rights);
     Seen {
-        ok: true,
         next: j.next,
         count: j.count,
         over: over,
@@ -329,118 +282,124 @@ fn both(i: Seen, j: Seen) -> Seen
 }
 
 // A condition too deep in brackets: only where it ends.
-fn skipped(s: &[u8], at: usize, names: &[u64]) -> Seen
+fn skipped(s: &[u8], at: usize, names: &[u64]) -> Option<Seen>
     requires { length s.now ≤ max_line }
     ensures { result ≡ skipped_seen s.now at }
 {
-    let e = skip_cond(s, at, names);
-    if e == 0 {
-        return nothing_seen();
-    }
-    deep_seen(e)
+    let e = skip_cond(s, at, names)?;
+    Some(deep_seen(e))
 }
 
 // A condition at a place, its words after the first b; `level` brackets may still be opened.
 #[cycle(cond_in_conds_in)]
-fn cond_in(s: &[u8], at: usize, names: &[u64], words: &mut [u32], b: u32, level: u32) -> Seen
+fn cond_in(
+    s: &[u8],
+    at: usize,
+    names: &[u64],
+    words: &mut [u32],
+    b: u32,
+    level: u32,
+) -> Option<Seen>
     requires { (length s.now ≤ max_line) × (b ≤ suc most_words) }
     ensures { CondIn names.now s.now b level at words.old words.new result }
 {
     if level == 0 {
         return skipped(s, at, names);
     }
-    let h = head_at(s, at);
+    let h = head_at(s, at)?;
     let n = h.head;
     let p = h.next;
-    if n == 0 {
-        return nothing_seen();
-    }
     if n < Node::AND {
         return compared(s, p, names, words, n, b);
     }
     if n < Node::NOT {
-        let i = conds_in(s, p, names, words, b, level - 1);
+        let i = conds_in(s, p, names, words, b, level - 1)?;
         return closed(s, words, n, b, i);
     }
     if text::byte(s, p) != b' ' {
-        return nothing_seen();
+        return None;
     }
-    let i = cond_in(s, p + 1, names, words, b, level - 1);
+    let i = cond_in(s, p + 1, names, words, b, level - 1)?;
     closed(s, words, Node::NOT, b, i)
 }
 
 // One or more conditions, each after one space, their words after the first b.
 #[cycle(cond_in_conds_in)]
-fn conds_in(s: &[u8], at: usize, names: &[u64], words: &mut [u32], b: u32, level: u32) -> Seen
+fn conds_in(
+    s: &[u8],
+    at: usize,
+    names: &[u64],
+    words: &mut [u32],
+    b: u32,
+    level: u32,
+) -> Option<Seen>
     requires { (length s.now ≤ max_line) × (b ≤ suc most_words) }
     ensures { CondsIn names.now s.now b level at words.old words.new result }
 {
     if text::byte(s, at) != b' ' {
-        return nothing_seen();
+        return None;
     }
     let mut r = begun(at, b);
     while r.next < s.len() {
         let p = r.next;
         if s[p] != b' ' {
-            return r;
+            return Some(r);
         }
-        let i = cond_in(s, p + 1, names, words, r.count, level);
-        if !i.ok {
-            return nothing_seen();
-        }
+        let i = cond_in(s, p + 1, names, words, r.count, level)?;
         r = both(r, i);
     }
-    nothing_seen()
+    None
 }
 
 // What is read, where its words have room.
-fn fitted(i: Seen, room: usize) -> Seen
+fn fitted(i: Seen, room: usize) -> Option<Seen>
     ensures { result ≡ fitted room i }
 {
-    if !i.ok {
-        return i;
-    }
     if i.deep {
-        return i;
+        return Some(i);
     }
     if Seen::MOST < i.count {
-        return nothing_seen();
+        return None;
     }
     if room < i.count as usize {
-        return nothing_seen();
+        return None;
     }
-    i
+    Some(i)
 }
 
-// Returns what is seen of a condition at a place of a line where `level` brackets may still be opened; `ok` is false where there is none or its words have no room.
+// Returns what is seen of a condition at a place of a line where `level` brackets may still be opened; None where there is none or its words have no room.
 // Leaves its words after the first b, and all others as they were; where it is not read or too deep, as many words, of any value.
-pub fn read_cond(s: &[u8], at: usize, names: &[u64], words: &mut [u32], b: u32, level: u32) -> Seen
+pub fn read_cond(
+    s: &[u8],
+    at: usize,
+    names: &[u64],
+    words: &mut [u32],
+    b: u32,
+    level: u32,
+) -> Option<Seen>
     ensures { CondRead names.now s.now b level at words.old words.new result }
 {
     if Line::BYTES < s.len() {
-        return nothing_seen();
+        return None;
     }
     if level == 0 {
         return skipped(s, at, names);
     }
-    let i = cond_in(s, at, names, words, counted(b), level);
+    let i = cond_in(s, at, names, words, counted(b), level)?;
     fitted(i, words.len())
 }
 
-// Returns what is seen of one or more conditions of a line up to a closing bracket, and the place of that; `ok` is false as in `read_cond`.
+// Returns what is seen of one or more conditions of a line up to a closing bracket, and the place of that; None as in `read_cond`.
 // Leaves their words from the first on, and all others as they were; where they are not read or too deep, as many words, of any value.
-pub fn read_list(s: &[u8], at: usize, names: &[u64], words: &mut [u32], level: u32) -> Seen
+pub fn read_list(s: &[u8], at: usize, names: &[u64], words: &mut [u32], level: u32) -> Option<Seen>
     ensures { ListRead names.now s.now level at words.old words.new result }
 {
     if Line::BYTES < s.len() {
-        return nothing_seen();
+        return None;
     }
-    let i = conds_in(s, at, names, words, 0, level);
-    if !i.ok {
-        return nothing_seen();
-    }
+    let i = conds_in(s, at, names, words, 0, level)?;
     if text::byte(s, i.next) != b')' {
-        return nothing_seen();
+        return None;
     }
     fitted(i, words.len())
 }

@@ -18,37 +18,38 @@ use Rattle.calls.specs.Names.{operand_refs, operand_numbers, cond_refs, cond_num
 use Rattle.calls.specs.Bounds.{cond_bounded, is_limit, is_span, grant_bounded}
 use Rattle.terms.specs.Terms.{operand_over, test_over}
 use Rattle.nodes.specs.Storing.{list_size}
+use Rattle.text.specs.Words.{left_at}
 use Rattle.columns.specs.declared.Streams.{Streams}
-use Rattle.columns.specs.Columns.{streams_read, columns_read}
+use Rattle.columns.specs.Columns.{streams_seen, columns_seen}
 use Rattle.conditions.specs.declared.Seen.{Seen}
 use Rattle.conditions.specs.Seeing.{nodes_of, deep_seen, seen_of, has_room, list_seen}
 use Rattle.grant_line.specs.declared.Holder.{Holder}
 use Rattle.grant_line.specs.declared.Shown.{Shown}
 use Rattle.grant_line.specs.declared.Limit.{Limit}
 use Rattle.grant_line.specs.declared.Window.{Window}
-use Rattle.grant_line.specs.Parts.{holder_read, shown_all, shown_listed, show_of, limit_over, limit_of, window_of}
-use Rattle.grant_line.specs.Lines.{over_read}
+use Rattle.grant_line.specs.Parts.{holder_seen, shown_all, shown_listed, show_of, limit_over, limit_seen, window_of}
+use Rattle.grant_line.specs.Lines.{whens_seen, over_read}
 use Rattle.grant_line.proofs.Folds.{not_not_is, some_not, every_gathered}
 
 -- ---- the parts of a line as they are read
 
 abbrev pub holder : GrantLine → Holder
-holder g = holder_read [] (some (record { what = record { role = g.role; right = g.right }; left = [] }))
+holder g = holder_seen [] (record { what = record { role = g.role; right = g.right }; left = [] })
 
 abbrev pub streams : List ℕ → GrantLine → Streams
-streams ns g = streams_read ns [] (some (record { what = g.of; left = [] }))
+streams ns g = streams_seen ns [] (record { what = g.of; left = [] })
 
 abbrev pub shows : List ℕ → GrantLine → Shown
 shows ns g = show_of ns [] g.show 0
 
 abbrev pub seen : List ℕ → GrantLine → Seen
-seen ns g = list_seen ns [] 95 6 (some (record { what = g.when; left = [] }))
+seen ns g = whens_seen ns g.when
 
 abbrev pub first_time : GrantLine → Limit
-first_time g = limit_of [] (some (record { what = g.from; left = [] }))
+first_time g = limit_seen [] (record { what = g.from; left = [] })
 
 abbrev pub last_time : GrantLine → Limit
-last_time g = limit_of [] (some (record { what = g.to; left = [] }))
+last_time g = limit_seen [] (record { what = g.to; left = [] })
 
 abbrev pub span : GrantLine → Window
 span g = window_of g.window 0
@@ -107,7 +108,7 @@ tests_over cs = some_not test_over test_bounded (λ t. not_not_is (test_over t))
 -- ---- the other parts
 
 show_over : (ns : List ℕ) (x : Show) → (show_of ns [] x 0).over ≡ not (every short_ref (show_refs x))
-unfolding show_of shown_all shown_listed columns_read show_refs every
+unfolding show_of shown_all shown_listed columns_seen show_refs every
 show_over ns G.everything = refl
 show_over ns (G.listed rs) = refl
 
@@ -125,11 +126,11 @@ window_bounded (some w) = not_both (is_time w.size) (is_time w.offset)
 
 -- conditions that fit are seen as they are
 pub seen_flat : (ns : List ℕ) (g : GrantLine) → flat_enough g ≡ true → grant_size ns g ≤ 95 → seen ns g ≡ seen_of ns (grant_tests g) 0 (grant_size ns g)
-unfolding list_seen has_room
+unfolding whens_seen list_seen left_at has_room
 seen_flat ns g e h = rw (e, le-leb (grant_size ns g) 95 h, le-leb (grant_size ns g) 255 (omega arith))
 
 pub seen_deep : (ns : List ℕ) (g : GrantLine) → flat_enough g ≡ false → seen ns g ≡ deep_seen 0
-unfolding list_seen
+unfolding whens_seen list_seen left_at
 seen_deep ns g e = rw e
 
 abbrev over : List ℕ → GrantLine → Bool
@@ -145,7 +146,7 @@ seven true false c d e f g = refl
 seven false b c d e f g = refl
 
 over_flat : (ns : List ℕ) (g : GrantLine) → flat_enough g ≡ true → grant_size ns g ≤ 95 → over ns g ≡ not (grant_bounded g)
-unfolding over_read holder_read streams_read limit_of seen_of grant_bounded
+unfolding over_read holder_seen streams_seen limit_seen seen_of grant_bounded
 over_flat ns g e h =
     rw (seen_flat ns g e h, show_over ns g.show, tests_over g.when, limit_bounded g.from, limit_bounded g.to, window_bounded g.window)
     (seven (short g.role) (every short g.of) (every short_ref (show_refs g.show)) (every cond_bounded g.when) (is_limit g.from) (is_limit g.to) (is_span g.window))

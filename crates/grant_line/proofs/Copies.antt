@@ -1,22 +1,12 @@
--- Words copied into a place: each step of the loop, and what each place then holds.
+-- Words copied into a place: what each place then holds.
 use mathlib.Core.Path.{◌≡◌, sym, ap, ◌∙◌}
 use mathlib.Core.List.{List}
 use Prim.Native.Nat.{ℕ, ◌+◌, ◌*◌, ◌-◌, ◌≤◌, ◌<◌, min}
 use native.Mathlib.Omega.{arith}
-use lib.ListN.{length, get_or, set, take, drop, length-take, length-drop}
+use lib.ListN.{length, get_or, take, drop, length-take, length-drop}
 use lib.Seq.{paste, length-paste, get_or-take, get_or-drop, ext_get_or}
-use Rattle.lists.proofs.Pasting.{paste_in, paste_out, paste_start, paste_on}
+use Rattle.lists.proofs.Pasting.{paste_in, paste_out}
 use Rattle.grant.specs.Catalogues.{words_in}
-
-pub copy_on : (d : List ℕ) (at : ℕ) (s : List ℕ) (n i : ℕ) {ws : List ℕ} → at + n ≤ length d → n ≤ length s → i < n → ws ≡ paste d at s i → set ws (at + i) (get_or s i 0) ≡ paste d at s (i + 1)
-copy_on d at s n i h l k e = paste_on d at s n i 0 h l k e
-
-pub copy_end : (d : List ℕ) (at : ℕ) (s : List ℕ) (n i : ℕ) {ws : List ℕ} → ws ≡ paste d at s i → i ≤ n → n ≤ i → ws ≡ paste d at s n
-copy_end d at s n i e h k = let z : i ≡ n = omega arith in e ∙ ap (paste d at s) z
-
-pub ruleset copy_ends = (paste_start, copy_on, copy_end)
-
--- ---- what the places hold afterwards
 
 -- n words in the place of a number
 module _ (ws : List ℕ) (count : ℕ) (us : List ℕ) (n : ℕ) (few : n ≤ 95) (room : count * 95 + 95 ≤ length ws) (long : n ≤ length us) where

@@ -25,7 +25,7 @@ use Rattle.schema.specs.Schemas.{schema_of, schema_sound}
 use Rattle.terms.specs.Terms.{ref_code, operand_over, test_over, operand_code, left_code, right_code}
 use Rattle.terms.proofs.Resolving.{fine, code_declared}
 use Rattle.conditions.specs.Seeing.{test_unknown}
-use Rattle.columns.specs.Columns.{streams_read, columns_read}
+use Rattle.columns.specs.Columns.{streams_seen, columns_seen}
 use Rattle.columns.proofs.Declared.{streams_unknown, places_once, columns_unknown, columns_fine}
 use Rattle.columns.proofs.Repeats.{entries, entries_room, repeats_once}
 use Rattle.columns.proofs.ColumnBits.{operand_fine}
@@ -153,7 +153,7 @@ module _ (ns : List ℕ) (sound : T (schema_sound ns)) where
       where
         go : (x : Show) → T (every ref? (show_refs x)) → T (every short_ref (show_refs x)) → (show_of ns [] x 0).unknown ≡ not (every (ref_declared (schema_of ns)) (show_refs x))
         go G.everything t u = unfold show_of shown_all every in refl
-        go (G.listed rs) t u = unfold show_of shown_listed columns_read in columns_unknown ns sound rs t u
+        go (G.listed rs) t u = unfold show_of shown_listed columns_seen in columns_unknown ns sound rs t u
 
     tests_declared : every (ref_declared (schema_of ns)) (gather cond_refs g.when) ≡ every (test_declared ns) (grant_tests g)
     unfolding cond_refs test_declared
@@ -164,7 +164,7 @@ module _ (ns : List ℕ) (sound : T (schema_sound ns)) where
     all_declared = every (declared (schema_of ns)) g.of && every (ref_declared (schema_of ns)) (show_refs g.show ++ gather cond_refs g.when)
 
     pub unknown_is : (((streams ns g).unknown || (shows ns g).unknown) || some? (test_unknown ns) (grant_tests g)) ≡ not all_declared
-    unfolding streams_read
+    unfolding streams_seen
     unknown_is =
         ap₂ ◌||◌ (ap₂ ◌||◌ (streams_unknown ns sound g.of (of_names g good bounded) (of_short g good bounded)) shows_unknown)
         (some_good (test_unknown ns) (test_declared ns) good_test test_known (grant_tests g) (tests_good g good bounded))
@@ -196,10 +196,10 @@ module _ (ns : List ℕ) (sound : T (schema_sound ns)) where
         where
           go : (x : Show) → T (every (fine ns) (show_refs x)) → entries (show_refs x) ≤ 72 → (show_of ns [] x 0).repeated ≡ not (distinct same_ref (show_refs x))
           go G.everything t h = unfold show_of shown_all distinct in refl
-          go (G.listed rs) t h = unfold show_of shown_listed columns_read in repeats_once ns sound rs t h
+          go (G.listed rs) t h = unfold show_of shown_listed columns_seen in repeats_once ns sound rs t h
 
       pub repeated_is : entries (show_refs g.show) ≤ 72 → ((streams ns g).repeated || (shows ns g).repeated) ≡ not (distinct same_list g.of && distinct same_ref (show_refs g.show))
-      unfolding streams_read
+      unfolding streams_seen
       repeated_is h = ap₂ ◌||◌ (ap not (places_once ns sound g.of of_declared)) (shows_repeated h) ∙ not_both (distinct same_list g.of) (distinct same_ref (show_refs g.show))
 
 -- a grant line has room for so many profile entries among the columns that it shows

@@ -37,7 +37,7 @@ use Rattle.terms.proofs.Resolving.{code_alone, code_self, code_low, code_column,
 use Rattle.terms.proofs.Numbers.{biased_back}
 use Rattle.nodes.specs.declared.Node.{Node}
 use Rattle.nodes.specs.Nodes.{unbiased, coded_term, numbered_op, node_compare, in_mask, column_in, terms_sound}
-use Rattle.columns.specs.Columns.{columns_read}
+use Rattle.columns.specs.Columns.{columns_seen}
 use Rattle.columns.proofs.ColumnBits.{operand_fine, listed_bit, bit_above, refs_inside}
 use Rattle.conditions.specs.Seeing.{test_node, nodes_of}
 use Rattle.grant.specs.Grants.{column_codes, streams_mask}
@@ -105,7 +105,7 @@ module _ (ns : List ℕ) (sound : T (schema_sound ns)) (ss : List ℕ) (b : T (e
   listed_shown rs t figure g = absurd g
 
   pub shown_back : (x : Show) → T (every (fine ns) (show_refs x)) → select (column_in (cond (show_of ns [] x 0).all mask (show_of ns [] x 0).mask)) theirs ≡ shown_columns d ss x
-  unfolding show_of shown_all shown_listed columns_read show_refs shown_columns
+  unfolding show_of shown_all shown_listed columns_seen show_refs shown_columns
   shown_back G.everything t = all_shown
   shown_back (G.listed rs) t = select_good (column_in (mask_of (map (ref_code ns) rs))) (λ c. has (map (column_of d) rs) c) (low (streams_in ns)) (listed_shown rs t) theirs (cols_low ns ss b)
 
@@ -241,6 +241,6 @@ module _ (ns : List ℕ) (sound : T (schema_sound ns)) (ss : List ℕ) (b : T (e
       same false = refl
 
   pub shown_inside : (x : Show) → T (every (fine ns) (show_refs x)) → T (within (map (column_of d) (show_refs x)) theirs) → T (inside (cond (show_of ns [] x 0).all mask (show_of ns [] x 0).mask) mask)
-  unfolding show_of shown_all shown_listed columns_read show_refs streams_mask column_codes
+  unfolding show_of shown_all shown_listed columns_seen show_refs streams_mask column_codes
   shown_inside G.everything t u = self_inside mask
   shown_inside (G.listed rs) t u = subst T (sym (refs_inside ns ss b sound rs t)) u

@@ -31,13 +31,13 @@ use Rattle.masks.specs.Masks.{mask_of, inside}
 use Rattle.terms.specs.Terms.{left_code, right_code}
 use Rattle.terms.proofs.Resolving.{fine, stream_below}
 use Rattle.items.specs.Items.{first_of}
-use Rattle.columns.specs.Columns.{stream_place, streams_read, columns_read}
+use Rattle.columns.specs.Columns.{stream_place, streams_seen, columns_seen}
 use Rattle.columns.proofs.Declared.{places_numbers}
 use Rattle.columns.proofs.ColumnBits.{refs_inside, left_bit, right_bit}
 use Rattle.conditions.specs.declared.Seen.{Seen}
 use Rattle.conditions.specs.Seeing.{seen_of}
 use Rattle.grant.specs.Grants.{no_time, places_of, column_codes, streams_mask}
-use Rattle.grant_line.specs.Parts.{holder_read, shown_all, shown_listed, show_of, limit_kept, limit_of, window_of}
+use Rattle.grant_line.specs.Parts.{holder_seen, shown_all, shown_listed, show_of, limit_kept, limit_seen, window_of}
 use Rattle.grant_line.specs.Lines.{misplaced_read}
 use Rattle.grant_line.proofs.Folds.{every_gathered}
 use Rattle.grant_line.proofs.Bounds.{holder, streams, shows, first_time, last_time, span, grant_tests}
@@ -74,7 +74,7 @@ module _ (ns : List ℕ) (sound : T (schema_sound ns)) (ss : List ℕ) (b : T (e
   -- ---- what is shown
 
   show_inside : (x : Show) → T (every (fine ns) (show_refs x)) → (not (show_of ns [] x 0).all && not (inside (show_of ns [] x 0).mask mask)) ≡ not (within (map (column_of d) (show_refs x)) theirs)
-  unfolding show_of shown_all shown_listed columns_read show_refs within every streams_mask column_codes
+  unfolding show_of shown_all shown_listed columns_seen show_refs within every streams_mask column_codes
   show_inside G.everything t = refl
   show_inside (G.listed rs) t = ap not (refs_inside ns ss b sound rs t)
 
@@ -204,7 +204,7 @@ module _ (ns : List ℕ) (sound : T (schema_sound ns)) (g : GrantLine) (good : T
   columns = streams_mask ns (places_of (streams ns g).count (streams ns g).places)
 
   pub columns_are : length g.of ≤ 2 → columns ≡ streams_mask ns numbers
-  unfolding streams_read
+  unfolding streams_seen
   columns_are h = ap (streams_mask ns) (places_are ns sound g.of streams_known h)
 
   module _ (n : ℕ) where
@@ -218,7 +218,7 @@ module _ (ns : List ℕ) (sound : T (schema_sound ns)) (g : GrantLine) (good : T
     rights = inside (mask_of (map (right_code ns) (grant_tests g))) (bit_or (streams_mask ns numbers) 201326592)
 
     parts_are : misplaced_read (streams_mask ns numbers) (holder g) (streams ns g) (shows ns g) told (first_time g) (last_time g) (span g) ≡ (not few || (not shows_theirs || (not lefts || (not rights || (not ordered || not allowed)))))
-    unfolding misplaced_read seen_of streams_read holder_read limit_of
+    unfolding misplaced_read seen_of streams_seen holder_seen limit_seen
     parts_are =
         or_six (not lefts) (not rights) (few_streams (length g.of)) (show_inside ns sound numbers below g.show (shown_fine ns sound g good bounded known)) (order_is g.from g.to limits.0 limits.1) (window_is g.right g.window)
 
@@ -233,7 +233,7 @@ module _ (ns : List ℕ) (sound : T (schema_sound ns)) (g : GrantLine) (good : T
     none_placed false = refl
 
     misplaced_many : few ≡ false → misplaced_read columns (holder g) (streams ns g) (shows ns g) told (first_time g) (last_time g) (span g) ≡ not placed
-    unfolding misplaced_read streams_read
+    unfolding misplaced_read streams_seen
     misplaced_many e =
         let z : (shows_theirs && (((((true && few) && true) && conds_theirs) && ordered) && allowed)) ≡ false = rw e (none_placed shows_theirs) in
         rw (few_streams (length g.of) ∙ ap not e) (ap not (sym (placed_is ∙ z)))

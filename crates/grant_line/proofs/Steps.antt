@@ -48,7 +48,7 @@ use Rattle.masks.specs.Masks.{bit?, mask_of, inside}
 use Rattle.masks.proofs.Lists.{inside_every}
 use Rattle.terms.specs.Terms.{left_code}
 use Rattle.terms.proofs.Resolving.{fine}
-use Rattle.columns.specs.Columns.{streams_read}
+use Rattle.columns.specs.Columns.{streams_seen}
 use Rattle.nodes.specs.Nodes.{conditions_of, column_in, nodes_sound}
 use Rattle.nodes.specs.Storing.{store_list}
 use Rattle.nodes.proofs.Sizes.{length_store_list}
@@ -67,7 +67,7 @@ use Rattle.grant.proofs.Laid.{nodes_are}
 use Rattle.grant.proofs.Valid.{valid_sound}
 use Rattle.grant.proofs.Catalogues.{catalogue_length, catalogue_valid, catalogue_add, catalogue_sound_add}
 use Rattle.grant_line.specs.declared.Granted.{Granted}
-use Rattle.grant_line.specs.Parts.{holder_read, limit_of}
+use Rattle.grant_line.specs.Parts.{holder_seen, limit_seen}
 use Rattle.grant_line.specs.Lines.{grant_read, line_read, no_grant, read_line, stored_of}
 use Rattle.grant_line.specs.Granting.{lent_sound, grant_table, grant_made, words_made, with_words, granted, words_after, grants_after, Grants}
 use Rattle.grant_line.proofs.Bounds.{holder, streams, shows, first_time, last_time, span, grant_tests, grant_size, flat_enough, seen_flat}
@@ -270,7 +270,7 @@ module _ (ns : List ℕ) (count : ℕ) (bs : Bytes) (ws ws' : List ℕ) (r : Gra
       read_is = struct_is ∙ ap (λ c. grant_read columns (holder g) (streams ns g) (shows ns g) c (first_time g) (last_time g) (span g)) (seen_flat ns g flat fits)
 
       streams_is : places_of (streams ns g).count (streams ns g).places ≡ numbers
-      unfolding streams_read
+      unfolding streams_seen
       streams_is = places_are ns accepted_lent g.of ok.streams few
 
       role_is : name_of (code_short g.role) ≡ g.role
@@ -278,7 +278,7 @@ module _ (ns : List ℕ) (count : ℕ) (bs : Bytes) (ws ws' : List ℕ) (r : Gra
 
       read_means : (us : List ℕ) → conditions_of us (grant_size ns g) ≡ conds
           → grant_of ns (grant_read columns (holder g) (streams ns g) (shows ns g) (seen_of ns (grant_tests g) 0 (grant_size ns g)) (first_time g) (last_time g) (span g)) us ≡ resolve_grant (schema_of ns) g
-      unfolding grant_of grant_read streams_of holder_read limit_of seen_of resolve_grant
+      unfolding grant_of grant_read streams_of holder_seen limit_seen seen_of resolve_grant
       read_means us e =
           rw (
             streams_is,
@@ -335,7 +335,7 @@ module _ (ns : List ℕ) (count : ℕ) (bs : Bytes) (ws ws' : List ℕ) (r : Gra
       ruleset wholes = (and_both)
 
       read_tidy : T (grant_tidy ns (grant_read columns (holder g) (streams ns g) (shows ns g) (seen_of ns (grant_tests g) 0 (grant_size ns g)) (first_time g) (last_time g) (span g)) (words_in ws' count))
-      unfolding grant_tidy grant_read streams_of holder_read limit_of seen_of
+      unfolding grant_tidy grant_read streams_of holder_seen limit_seen seen_of
       read_tidy =
           let a = le→leb (right_number g.right) 5 (right_low g.right) in
           let b = limit_tidy g.from limits.0 in

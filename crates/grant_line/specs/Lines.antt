@@ -1,18 +1,19 @@
 -- What is read of a grant line: what is wrong with it by itself, and its grant.
 use Rattle.std.specs.Prelude.{◌≡◌, List, [], map, Bool, true, false, ◌&&◌, ◌||◌, not, cond, ℕ, ltb, eqb, ℤ, length, drop, replicate}
 use Rattle.std.proofs.Math.Option.{Option, none, some}
+use Rattle.std.specs.Prelude.{unwrap_or}
 use Rattle.std.specs.Int.Bits.{bit_or}
 use Rattle.refusal.specs.Checks.{unread, shown}
 use Rattle.syntax.specs.Grammar as G
-use Rattle.syntax.specs.Grammar.{Bytes, bytes}
+use Rattle.syntax.specs.Grammar.{Bytes, bytes, Test, Cond}
 use Rattle.syntax.specs.Limits.{max_line, max_streams, max_granted}
 use Rattle.syntax.specs.Readers.{Reader, ◌>>=◌, give, read_limit, read_window, parse_as}
 use Rattle.text.specs.Readings.{closed}
 use Rattle.masks.specs.Masks.{inside}
 use Rattle.nodes.specs.Storing.{store_list}
-use Rattle.conditions.specs.Seeing.{nodes_of, list_seen}
+use Rattle.conditions.specs.Seeing.{nodes_of, begun, list_seen}
 use Rattle.conditions.specs.declared.Seen.{Seen}
-use Rattle.columns.specs.Columns.{streams_read}
+use Rattle.columns.specs.Columns.{streams_seen}
 use Rattle.columns.specs.declared.Streams.{Streams}
 use Rattle.grant.specs.Grants.{grant_words, no_time, places_of, streams_mask}
 use Rattle.grant.specs.declared.Grant.{Grant}
@@ -21,7 +22,7 @@ use Rattle.grant_line.specs.declared.Shown.{Shown}
 use Rattle.grant_line.specs.declared.Limit.{Limit}
 use Rattle.grant_line.specs.declared.Window.{Window}
 use Rattle.grant_line.specs.declared.GrantLine.{GrantLine}
-use Rattle.grant_line.specs.Parts.{holder_read, show_of, when_level, limit_of, window_of}
+use Rattle.grant_line.specs.Parts.{holder_seen, show_of, when_level, limit_seen, window_of}
 
 -- ---- by the parts as the code reads them
 
@@ -70,16 +71,20 @@ no_grant = record { role = 0; right = 0; count = 0; streams = replicate max_stre
 unfoldable pub unread_line : Bool → GrantLine
 unread_line long = record { checks = unread long; grant = no_grant }
 
+-- what is seen of its conditions, which is nothing where their words have no room
+unfoldable pub whens_seen : List ℕ → List (Cond Test) → Seen
+whens_seen ns cs = unwrap_or (list_seen ns [] grant_words when_level (some (record { what = cs; left = [] }))) (begun 0 0)
+
 -- where each part ends plays no part
 unfoldable pub read_line : List ℕ → G.GrantLine → GrantLine
 read_line ns g =
     line_read ns
-    (holder_read [] (some (record { what = record { role = g.role; right = g.right }; left = [] })))
-    (streams_read ns [] (some (record { what = g.of; left = [] })))
+    (holder_seen [] (record { what = record { role = g.role; right = g.right }; left = [] }))
+    (streams_seen ns [] (record { what = g.of; left = [] }))
     (show_of ns [] g.show 0)
-    (list_seen ns [] grant_words when_level (some (record { what = g.when; left = [] })))
-    (limit_of [] (some (record { what = g.from; left = [] })))
-    (limit_of [] (some (record { what = g.to; left = [] })))
+    (whens_seen ns g.when)
+    (limit_seen [] (record { what = g.from; left = [] }))
+    (limit_seen [] (record { what = g.to; left = [] }))
     (window_of g.window 0)
 
 unfoldable pub line_of : List ℕ → Option G.GrantLine → GrantLine
@@ -105,7 +110,7 @@ read_after = do
 unfoldable pub rest_read : List ℕ → Holder → Streams → Shown → Seen → Option After → GrantLine
 rest_read ns h o w c none = unread_line false
 rest_read ns h o w c (some a) =
-    line_read ns h o w c (limit_of [] (some (record { what = a.from; left = [] }))) (limit_of [] (some (record { what = a.to; left = [] }))) (window_of a.window 0)
+    line_read ns h o w c (limit_seen [] (record { what = a.from; left = [] })) (limit_seen [] (record { what = a.to; left = [] })) (window_of a.window 0)
 
 -- its conditions in the words
 unfoldable pub stored_of : List ℕ → Option G.GrantLine → List ℕ → List ℕ

@@ -8,7 +8,7 @@ ghost use Rattle.text.specs.Words.{name_of};
 ghost use Rattle.masks.specs.Masks.{inside};
 ghost use Rattle.refusal.specs.declared.Verdict.TheVariants.{Refused};
 ghost use Rattle.grant.specs.Grants.{grant_words, no_time};
-ghost use Rattle.grant_line.specs.Parts.{no_holder, holder_at, closed_streams, of_at, no_shown, shown_all, shown_listed, star_at, show_at, WhenRead, no_limit, limit_at, no_window, span_at, window_at};
+ghost use Rattle.grant_line.specs.Parts.{holder_at, of_at, shown_all, shown_listed, star_at, show_at, WhenRead, limit_at, span_at, window_at};
 ghost use Rattle.grant_line.specs.Lines.{over_read, misplaced_read, grant_read, line_read, no_grant, unread_line, RestRead, LineRead};
 ghost use Rattle.grant_line.specs.Granting.{lent_sound, Grants};
 
@@ -22,7 +22,6 @@ use text::{Line, Word};
 // Whose a grant is, and its right by number.
 #[derive(Clone, Copy)]
 pub struct Holder {
-    pub ok: bool,
     pub long: bool,
     pub role: u64,
     pub right: u32,
@@ -32,7 +31,6 @@ pub struct Holder {
 // What a grant shows: all columns, or those of a mask.
 #[derive(Clone, Copy)]
 pub struct Shown {
-    pub ok: bool,
     pub all: bool,
     pub over: bool,
     pub unknown: bool,
@@ -44,7 +42,6 @@ pub struct Shown {
 // A first or a last time.
 #[derive(Clone, Copy)]
 pub struct Limit {
-    pub ok: bool,
     pub over: bool,
     pub value: u32,
     pub next: usize,
@@ -53,7 +50,6 @@ pub struct Limit {
 // A window.
 #[derive(Clone, Copy)]
 pub struct Window {
-    pub ok: bool,
     pub given: bool,
     pub over: bool,
     pub size: u32,
@@ -85,96 +81,34 @@ pub struct Granted {
 
 // ---- the parts
 
-fn no_holder() -> Holder
-    ensures { result ≡ no_holder }
-{
-    Holder {
-        ok: false,
-        long: false,
-        role: 0,
-        right: 0,
-        next: 0,
-    }
-}
-
 // A role and a right, each after a space.
-fn holder_at(s: &[u8], at: usize) -> Holder
+fn holder_at(s: &[u8], at: usize) -> Option<Holder>
     ensures { result ≡ holder_at s.now at }
 {
-    if text::byte(s, at) != b' ' {
-        return no_holder();
-    }
-    let n = text::name_at(s, at + 1);
-    if !n.ok {
-        return no_holder();
-    }
-    let p = n.next;
-    if text::byte(s, p) != b' ' {
-        return no_holder();
-    }
-    let w = text::word_at(s, p + 1);
-    let right = Word::right(w.code);
-    if Grant::SUM < right {
-        return no_holder();
-    }
-    Holder {
-        ok: true,
+    let p = text::skip(s, at, b' ')?;
+    let n = text::read_name(s, p)?;
+    let q = text::skip(s, n.next, b' ')?;
+    let w = text::read_word(s, q)?;
+    let right = w.as_right()?;
+    Some(Holder {
         long: n.long,
         role: n.code,
         right: right,
         next: w.next,
-    }
-}
-
-// The streams, closed by their bracket.
-fn closed_streams(s: &[u8], o: Streams) -> Streams
-    ensures { result ≡ closed_streams s.now o }
-{
-    let places = o.places;
-    if text::byte(s, o.next) != b')' {
-        return columns::no_streams();
-    }
-    Streams {
-        ok: true,
-        next: o.next + 1,
-        over: o.over,
-        unknown: o.unknown,
-        repeated: o.repeated,
-        count: o.count,
-        places: places,
-    }
+    })
 }
 
 // The streams of a grant.
-fn of_at(s: &[u8], at: usize, names: &[u64]) -> Streams
+fn of_at(s: &[u8], at: usize, names: &[u64]) -> Option<Streams>
     ensures { result ≡ of_at names.now s.now at }
 {
-    let p = text::part_at(s, at, Word::OF);
-    if p == 0 {
-        return columns::no_streams();
-    }
-    let o = columns::streams_at(s, p, names);
-    if !o.ok {
-        return columns::no_streams();
-    }
+    let p = text::part(s, at, Word::OF)?;
+    let o = columns::streams_at(s, p, names)?;
     if o.count == 0 {
-        return columns::no_streams();
+        return None;
     }
-    closed_streams(s, o)
-}
-
-fn no_shown() -> Shown
-    ensures { result ≡ no_shown }
-{
-    Shown {
-        ok: false,
-        all: false,
-        over: false,
-        unknown: false,
-        repeated: false,
-        mask: 0,
-        next: 0,
-    }
+    let end = text::skip(s, o.next, b')')?;
+    Some(Streams { next: end, ..o })
 }
 
 // Every column is shown.
@@ -182,7 +116,6 @@ fn shown_all(next: usize) -> Shown
     ensures { result ≡ shown_all next }
 {
     Shown {
-        ok: true,
         all: true,
         over: false,
         unknown: false,
@@ -197,7 +130,6 @@ fn shown_listed(c: Columns, next: usize) -> Shown
     ensures { result ≡ shown_listed c next }
 {
     Shown {
-        ok: true,
         all: false,
         over: c.over,
         unknown: c.unknown,
@@ -208,175 +140,104 @@ fn shown_listed(c: Columns, next: usize) -> Shown
 }
 
 // `*` before a closing bracket.
-fn star_at(s: &[u8], at: usize) -> Shown
+fn star_at(s: &[u8], at: usize) -> Option<Shown>
     ensures { result ≡ star_at s.now at }
 {
-    let w = text::word_at(s, at);
+    let w = text::read_word(s, at)?;
     if w.code != Word::STAR {
-        return no_shown();
+        return None;
     }
-    if text::byte(s, w.next) != b')' {
-        return no_shown();
-    }
-    shown_all(w.next + 1)
+    let end = text::skip(s, w.next, b')')?;
+    Some(shown_all(end))
 }
 
 // What a grant shows.
-fn show_at(s: &[u8], at: usize, names: &[u64]) -> Shown
+fn show_at(s: &[u8], at: usize, names: &[u64]) -> Option<Shown>
     ensures { result ≡ show_at names.now s.now at }
 {
-    let p = text::part_at(s, at, Word::SHOW);
-    if p == 0 {
-        return no_shown();
-    }
-    if text::byte(s, p) != b' ' {
-        return no_shown();
-    }
-    let first = p + 1;
+    let p = text::part(s, at, Word::SHOW)?;
+    let first = text::skip(s, p, b' ')?;
     if text::byte(s, first) == b'*' {
         return star_at(s, first);
     }
-    let c = columns::columns_at(s, p, names, false);
-    if !c.ok {
-        return no_shown();
-    }
-    shown_listed(c, c.next + 1)
+    let c = columns::columns_at(s, p, names, false)?;
+    Some(shown_listed(c, c.next + 1))
 }
 
 // The conditions of a grant, where it has some.
-fn when_at(s: &[u8], at: usize, names: &[u64], words: &mut [u32]) -> Seen
+fn when_at(s: &[u8], at: usize, names: &[u64], words: &mut [u32]) -> Option<Seen>
     requires { (length s.now ≤ max_line) × (at ≤ length s.now) }
     ensures { WhenRead names.now s.now at words.old words.new result }
 {
-    let p = text::part_at(s, at, Word::WHEN);
-    if p == 0 {
-        return conditions::begun(at, 0);
-    }
+    let Some(p) = text::part(s, at, Word::WHEN) else {
+        return Some(conditions::begun(at, 0));
+    };
     // The brackets of the line and of this part are open.
-    let i = conditions::read_list(s, p, names, words, Node::NESTING as u32);
-    if !i.ok {
-        return conditions::nothing_seen();
-    }
-    Seen {
-        ok: true,
+    let i = conditions::read_list(s, p, names, words, Node::NESTING as u32)?;
+    Some(Seen {
         next: i.next + 1,
-        count: i.count,
-        over: i.over,
-        unknown: i.unknown,
-        deep: i.deep,
-        lefts: i.lefts,
-        rights: i.rights,
-    }
-}
-
-fn no_limit() -> Limit
-    ensures { result ≡ no_limit }
-{
-    Limit {
-        ok: false,
-        over: false,
-        value: 0,
-        next: 0,
-    }
+        ..i
+    })
 }
 
 // A first or a last time by its word, where it is given.
-fn limit_at(s: &[u8], at: usize, word: u64) -> Limit
+fn limit_at(s: &[u8], at: usize, word: u64) -> Option<Limit>
     requires { (0 < word) × (at ≤ length s.now) }
     ensures { result ≡ limit_at s.now at (name_of word) }
 {
-    let p = text::part_at(s, at, word);
-    if p == 0 {
-        return Limit {
-            ok: true,
+    let Some(p) = text::part(s, at, word) else {
+        return Some(Limit {
             over: false,
             value: Grant::NONE,
             next: at,
-        };
-    }
-    if text::byte(s, p) != b' ' {
-        return no_limit();
-    }
-    let n = text::number_at(s, p + 1);
-    if !n.ok {
-        return no_limit();
-    }
-    if text::byte(s, n.next) != b')' {
-        return no_limit();
-    }
+        });
+    };
+    let q = text::skip(s, p, b' ')?;
+    let n = text::read_number(s, q)?;
+    let end = text::skip(s, n.next, b')')?;
     let t = n.time();
-    Limit {
-        ok: true,
-        over: t.beyond,
-        value: t.value,
-        next: n.next + 1,
-    }
-}
-
-fn no_window() -> Window
-    ensures { result ≡ no_window }
-{
-    Window {
-        ok: false,
-        given: false,
-        over: false,
-        size: 0,
-        offset: 0,
-        next: 0,
-    }
+    Some(Limit {
+        over: t.is_none(),
+        value: t.unwrap_or(0),
+        next: end,
+    })
 }
 
 // The two numbers of a window, each after a space, and its bracket.
-fn span_at(s: &[u8], at: usize) -> Window
+fn span_at(s: &[u8], at: usize) -> Option<Window>
     ensures { result ≡ span_at s.now at }
 {
-    if text::byte(s, at) != b' ' {
-        return no_window();
-    }
-    let a = text::number_at(s, at + 1);
-    if !a.ok {
-        return no_window();
-    }
-    let p = a.next;
-    if text::byte(s, p) != b' ' {
-        return no_window();
-    }
-    let b = text::number_at(s, p + 1);
-    if !b.ok {
-        return no_window();
-    }
-    if text::byte(s, b.next) != b')' {
-        return no_window();
-    }
+    let p = text::skip(s, at, b' ')?;
+    let a = text::read_number(s, p)?;
+    let q = text::skip(s, a.next, b' ')?;
+    let b = text::read_number(s, q)?;
+    let end = text::skip(s, b.next, b')')?;
     let t = a.time();
     let u = b.time();
-    let over = text::either(t.beyond, u.beyond);
-    Window {
-        ok: true,
+    let over = text::either(t.is_none(), u.is_none());
+    Some(Window {
         given: true,
         over: over,
-        size: t.value,
-        offset: u.value,
-        next: b.next + 1,
-    }
+        size: t.unwrap_or(0),
+        offset: u.unwrap_or(0),
+        next: end,
+    })
 }
 
 // The window of a grant, where it has one.
-fn window_at(s: &[u8], at: usize) -> Window
+fn window_at(s: &[u8], at: usize) -> Option<Window>
     requires { at ≤ length s.now }
     ensures { result ≡ window_at s.now at }
 {
-    let p = text::part_at(s, at, Word::WINDOW);
-    if p == 0 {
-        return Window {
-            ok: true,
+    let Some(p) = text::part(s, at, Word::WINDOW) else {
+        return Some(Window {
             given: false,
             over: false,
             size: 0,
             offset: 0,
             next: at,
-        };
-    }
+        });
+    };
     span_at(s, p)
 }
 
@@ -533,18 +394,15 @@ fn read_rest(s: &[u8], names: &[u64], h: Holder, o: Streams, w: Shown, c: Seen) 
     requires { c.next ≤ length s.now }
     ensures { RestRead names.now s.now h o w c result }
 {
-    let f = limit_at(s, c.next, Word::FROM);
-    if !f.ok {
+    let Some(f) = limit_at(s, c.next, Word::FROM) else {
         return unread(false);
-    }
-    let t = limit_at(s, f.next, Word::TO);
-    if !t.ok {
+    };
+    let Some(t) = limit_at(s, f.next, Word::TO) else {
         return unread(false);
-    }
-    let x = window_at(s, t.next);
-    if !x.ok {
+    };
+    let Some(x) = window_at(s, t.next) else {
         return unread(false);
-    }
+    };
     if !text::closes_at(s, x.next) {
         return unread(false);
     }
@@ -561,27 +419,22 @@ fn read(s: &[u8], names: &[u64], words: &mut [u32]) -> GrantLine
     requires { length words.old ≡ grant_words }
     ensures { LineRead names.now s.now words.old words.new result }
 {
-    let l = Line::open(s, Word::GRANT);
-    let at = l.at;
-    if at == 0 {
-        return unread(l.long);
-    }
-    let h = holder_at(s, at);
-    if !h.ok {
+    let at = match Line::after(s, Word::GRANT) {
+        Ok(at) => at,
+        Err(e) => return unread(e.long()),
+    };
+    let Some(h) = holder_at(s, at) else {
         return unread(false);
-    }
-    let o = of_at(s, h.next, names);
-    if !o.ok {
+    };
+    let Some(o) = of_at(s, h.next, names) else {
         return unread(false);
-    }
-    let w = show_at(s, o.next, names);
-    if !w.ok {
+    };
+    let Some(w) = show_at(s, o.next, names) else {
         return unread(false);
-    }
-    let c = when_at(s, w.next, names, words);
-    if !c.ok {
+    };
+    let Some(c) = when_at(s, w.next, names, words) else {
         return unread(false);
-    }
+    };
     read_rest(s, names, h, o, w, c)
 }
 
@@ -605,11 +458,7 @@ fn copy(words: &mut [u32], at: usize, from: &[u32], n: usize)
     requires { (n ≤ length from.now) × (at + n ≤ length words.old) }
     ensures { words.new ≡ paste words.old at from.now n }
 {
-    let mut i: usize = 0;
-    while i < n {
-        words[at + i] = from[i];
-        i += 1;
-    }
+    words[at..at + n].copy_from_slice(&from[..n]);
 }
 
 // A refusal, with no grant.

@@ -2,7 +2,6 @@
 use mathlib.Core.Path.{◌≡◌, refl, sym, ap, ap₂, ◌∙◌}
 use mathlib.Core.List.{List, [], ◌∷◌, append-nil}
 use mathlib.Core.Bool.{Bool, true, false, ◌&&◌, ◌||◌, not, cond}
-use mathlib.Core.Option.{some}
 use Prim.Native.Nat.{ℕ, suc, ◌+◌, ◌≤◌, ◌<◌, min}
 use native.Mathlib.Omega.{arith}
 use native.Mathlib.Decide.{dec_lt}
@@ -23,7 +22,7 @@ use Rattle.conditions.specs.Seeing.{nodes_of, seen_of, deep_seen}
 use Rattle.grant_line.proofs.Folds.{every_pair, every_gathered, some_not}
 use Rattle.grant_line.proofs.Bounds.{tests_over}
 use Rattle.query_read.specs.Parts.{Part, rows, pick, keep, join, aggregate, Inner, parts}
-use Rattle.query_read.specs.Seeing.{deep, level, span_of, rows_own, pick_own, keep_own, join_own, aggregate_own, picked, own_of, with_own, with_part, with_parts, no_reading, reading_ended, form_read}
+use Rattle.query_read.specs.Seeing.{deep, level, span_of, rows_own, pick_own, keep_own, join_own, aggregate_own, picked, own_of, with_own, with_part, with_parts, no_reading, reading_ended, form_seen}
 use Rattle.query_read.specs.declared.Reading.{Reading}
 use Rattle.query_read.proofs.Answering.{conds_in}
 use Rattle.query_line.proofs.Parts.{streams_in, refs_in, spans_in, streams_are, refs_are, conds_are, spans_are, count_is, shallow_part, depth_is}
@@ -168,8 +167,8 @@ unfolding no_reading
 nothing_yet = (refl, refl)
 
 -- out of bounds: deeper than brackets may nest, or something above its bound
-pub over_is : (ns : List ℕ) (s : Bytes) (q : Read Form) → (form_read ns s (some q)).over ≡ not (leb (form_depth q.what) 8 && form_bounded q.what)
-unfolding form_read reading_ended form_bounded
+pub over_is : (ns : List ℕ) (s : Bytes) (q : Read Form) → (form_seen ns s q).over ≡ not (leb (form_depth q.what) 8 && form_bounded q.what)
+unfolding form_seen reading_ended form_bounded
 over_is ns s q =
     let n = nothing_yet in
     let c = count_is 0 q.what in

@@ -2,7 +2,6 @@
 use mathlib.Core.Path.{◌≡◌, refl, sym, ap, ap₂, ◌∙◌}
 use mathlib.Core.List.{List, [], ◌∷◌, append-nil}
 use mathlib.Core.Bool.{Bool, true, false, ◌&&◌, ◌||◌, not, or-false, and-true}
-use mathlib.Core.Option.{some}
 use Prim.Native.Nat.{ℕ, suc, ◌-◌, ◌≤◌}
 use native.Mathlib.Omega.{arith}
 use lib.IntN.{ℤ}
@@ -28,7 +27,7 @@ use Rattle.grant_line.proofs.Bounds.{test_bounded, conds_bounded}
 use Rattle.grant_line.proofs.Known.{good_test, test_declared, test_known, ref_known}
 use Rattle.query_read.specs.Parts as R
 use Rattle.query_read.specs.Parts.{Part, rows, pick, keep, join, aggregate, Inner, inner}
-use Rattle.query_read.specs.Seeing.{level, rows_own, pick_own, keep_own, join_own, aggregate_own, picked, own_of, with_own, with_part, with_parts, no_reading, reading_ended, form_read}
+use Rattle.query_read.specs.Seeing.{level, rows_own, pick_own, keep_own, join_own, aggregate_own, picked, own_of, with_own, with_part, with_parts, no_reading, reading_ended, form_seen}
 use Rattle.query_read.specs.declared.Reading.{Reading}
 use Rattle.query_read.proofs.Answering.{conds_in}
 use Rattle.query_line.proofs.Parts.{streams_in, refs_in, keeps_in, spans_in, streams_are, refs_are, keeps_are, shallow_part}
@@ -165,8 +164,8 @@ module _ (ns : List ℕ) (sound : T (schema_sound ns)) where
     unfolding no_reading
     nothing_unknown = refl
 
-    pub unknown_is : (s left : Bytes) → (form_read ns s (some (record { what = q; left = left }))).unknown ≡ not (query_declared (schema_of ns) q)
-    unfolding form_read reading_ended
+    pub unknown_is : (s left : Bytes) → (form_seen ns s (record { what = q; left = left })).unknown ≡ not (query_declared (schema_of ns) q)
+    unfolding form_seen reading_ended
     unknown_is s left =
         parts_unknown (R.parts 0 q) no_reading all_sane ∙ ap₂ (λ a b. a || not b) nothing_unknown all_declared
 
@@ -218,8 +217,8 @@ module _ (ns : List ℕ) (sound : T (schema_sound ns)) where
     unfolding no_reading
     nothing_repeated = refl
 
-    pub repeated_is : (s left : Bytes) → (form_read ns s (some (record { what = q; left = left }))).repeated ≡ not (every (distinct same_ref) (form_keeps q))
-    unfolding form_read reading_ended part_once
+    pub repeated_is : (s left : Bytes) → (form_seen ns s (record { what = q; left = left })).repeated ≡ not (every (distinct same_ref) (form_keeps q))
+    unfolding form_seen reading_ended part_once
     repeated_is s left =
         parts_repeated (R.parts 0 q) no_reading all_known
         ∙ ap₂ (λ a b. a || not b) nothing_repeated

@@ -2,7 +2,6 @@
 use mathlib.Core.Path.{◌≡◌, refl, ap, ◌∙◌}
 use mathlib.Core.List.{List, [], ◌∷◌, ◌++◌, map}
 use mathlib.Core.Bool.{Bool, true, false, cond}
-use mathlib.Core.Option.{some}
 use Prim.Native.Nat.{ℕ, zero, suc, ◌+◌, ◌-◌, ◌≤◌, ◌<◌, min}
 use native.Mathlib.Omega.{arith}
 use lib.Dec.{T, leb, ltb}
@@ -21,7 +20,7 @@ use Rattle.conditions.specs.Seeing.{seen_of}
 use Rattle.query.specs.declared.Form as Q
 use Rattle.query.specs.Tables.{blank}
 use Rattle.query_read.specs.Parts.{Part, rows, pick, keep, join, aggregate, Inner, parts}
-use Rattle.query_read.specs.Seeing.{level, span_kept, span_of, rows_own, pick_own, keep_own, join_own, aggregate_own, picked, own_of, put_at, with_own, with_part, with_parts, no_form, no_reading, reading_ended, form_read}
+use Rattle.query_read.specs.Seeing.{level, span_kept, span_of, rows_own, pick_own, keep_own, join_own, aggregate_own, picked, own_of, put_at, with_own, with_part, with_parts, no_form, no_reading, reading_ended, form_seen}
 use Rattle.query_read.specs.declared.Reading.{Reading}
 use Rattle.query_line.specs.declared.Placing.{Placing}
 use Rattle.query_line.specs.Placing.{begun, with_rows, with_pick, with_keep, with_join, with_aggregate, with_form, placed_from}
@@ -141,8 +140,8 @@ module _ (ns : List ℕ) where
   nothing_counted = refl
 
   pub placing_is : (s left : Bytes) (q : Form) → length (parts 0 q) ≤ 12 → T (every (λ i. part_fine i.around i.part) (parts 0 q))
-      → placing_of ns (form_read ns s (some (record { what = q; left = left }))) ≡ run_parts ns (parts 0 q) begun
-  unfolding placing_of form_read reading_ended placed_from
+      → placing_of ns (form_seen ns s (record { what = q; left = left })) ≡ run_parts ns (parts 0 q) begun
+  unfolding placing_of form_seen reading_ended placed_from
   placing_is s left q h t =
       let c = nothing_counted in
       from_parts (parts 0 q) no_reading begun (omega arith) nothing_full t

@@ -7,9 +7,10 @@ use Prim.Native.Nat.{ℕ, ◌-◌, ◌≤◌, suc}
 use native.Mathlib.Omega.{arith}
 use lib.Dec.{T, leb, ltb}
 use lib.ListN.{length, drop, get_or, length-drop}
-use borrow.Author.Tests.{not-true, not-false, leb-true, ltb-false}
+use borrow.Author.Tests.{leb-true, ltb-false}
 use Rattle.refusal.specs.Checks.{Check, refuse, first, table, shown}
 use Rattle.refusal.specs.declared.Refusal.TheVariants.{Bound, Undeclared, Repeated, Misplaced, WindowSize}
+use Rattle.std.proofs.lemmas.Option.{same_Some}
 use Rattle.lists.specs.Lists.{every, distinct}
 use Rattle.lists.proofs.Laws.{and_both, true_T, T_true, every_both, never, by_test}
 use Rattle.syntax.specs.Grammar.{Bytes, Form, Entry, form?, put_form}
@@ -24,6 +25,8 @@ use Rattle.calls.specs.Bounds.{form_bounded}
 use Rattle.calls.specs.Tables.{same_ref, query_declared, query_checks}
 use Rattle.claims.proofs.Known.{placed_allowed}
 use Rattle.claims.proofs.Resolved.{resolved_distinct}
+use Rattle.text.specs.Words.{Found, Some, None, seen, left_at}
+use Rattle.text.proofs.Views.{no_some}
 use Rattle.text.specs.Readings.{any_form}
 use Rattle.schema.specs.Schemas.{schema_of, schema_sound}
 use Rattle.nodes.specs.Nodes.{linked_from, all_sound}
@@ -36,7 +39,7 @@ use Rattle.query.specs.Tables.{query_forms}
 use Rattle.query.proofs.Shapes.{Laid, laid_query, laid_one}
 use Rattle.query_read.specs.Parts as R
 use Rattle.query_read.specs.Parts.{Inner}
-use Rattle.query_read.specs.Seeing.{with_own, with_part, with_parts, no_reading, reading_ended, form_read, form_stored, readable, FormRead}
+use Rattle.query_read.specs.Seeing.{with_own, with_part, with_parts, no_reading, reading_ended, form_seen, form_stored, readable, FormRead}
 use Rattle.query_read.specs.declared.Reading.{Reading}
 use Rattle.query_read.proofs.Answering.{store_parts, parts_stored}
 use Rattle.query_read.proofs.Answering as A
@@ -126,11 +129,11 @@ module _ (ns : List ℕ) (sound : T (schema_sound ns)) (s : Bytes) (at : ℕ) (w
         every_both (sane ns sound) (λ i. part_declared ns i.part) (known ns sound) (λ i x y. and_both (sane ns sound i) (part_declared ns i.part) x y) (R.parts 0 f) (all_sane ns sound f text.0 fine)
         (true_T (every (λ i. part_declared ns i.part) (R.parts 0 f)) (all_declared ns sound f text.0 fine ∙ k))
 
-    passed_is : placing_of ns (form_read ns s (some q)) ≡ run_parts ns (R.parts 0 f) begun
+    passed_is : placing_of ns (form_seen ns s q) ≡ run_parts ns (R.parts 0 f) begun
     passed_is = placing_is ns s q.left f few fine
 
   -- the checks
-  verdict : first (table (asked_of (form_read ns s (some q)) (placing_of ns (form_read ns s (some q)))).checks) ≡ first (form_checks (schema_of ns) f)
+  verdict : first (table (asked_of (form_seen ns s q) (placing_of ns (form_seen ns s q))).checks) ≡ first (form_checks (schema_of ns) f)
   unfolding asked_of form_checks query_checks
   verdict =
       first_is shallow (form_bounded f) (query_declared (schema_of ns) f) (every (distinct same_ref) (form_keeps f)) (placed (schema_of ns) (resolve (schema_of ns) f)) (sized (resolve (schema_of ns) f))
@@ -143,7 +146,7 @@ module _ (ns : List ℕ) (sound : T (schema_sound ns)) (s : Bytes) (at : ℕ) (w
   -- the table
   module _ (db : (shallow && form_bounded f) ≡ true) where
     read_over : (with_parts ns no_reading (R.parts 0 f)).over ≡ false
-    unfolding form_read reading_ended
+    unfolding form_seen reading_ended
     read_over = over_is ns s q ∙ ap not db
 
     no_words : no_reading.words ≡ 0
@@ -166,8 +169,8 @@ module _ (ns : List ℕ) (sound : T (schema_sound ns)) (s : Bytes) (at : ℕ) (w
     unfolding Agrees
     agrees i h = ap (λ vs. get_or vs i 0) stored_all
 
-    forms_there : query_forms (asked_of (form_read ns s (some q)) (placing_of ns (form_read ns s (some q)))).query ≡ forms_run ns no_reading (R.parts 0 f)
-    unfolding asked_of form_read reading_ended
+    forms_there : query_forms (asked_of (form_seen ns s q) (placing_of ns (form_seen ns s q))).query ≡ forms_run ns no_reading (R.parts 0 f)
+    unfolding asked_of form_seen reading_ended
     forms_there =
         let c = nothing_counted ns in
         let l = few db in
@@ -177,7 +180,7 @@ module _ (ns : List ℕ) (sound : T (schema_sound ns)) (s : Bytes) (at : ℕ) (w
   stored = form_stored ns (some q) ws
 
   abbrev table_read : Query
-  table_read = (asked_of (form_read ns s (some q)) (placing_of ns (form_read ns s (some q)))).query
+  table_read = (asked_of (form_seen ns s q) (placing_of ns (form_seen ns s q))).query
 
   linked_none : T (linked_from (suc no_reading.words) stored no_reading.words)
   unfolding linked_from all_sound no_reading
@@ -216,10 +219,6 @@ module _ (ns : List ℕ) (sound : T (schema_sound ns)) (s : Bytes) (at : ℕ) (w
 
 -- ---- what is answered
 
-unread_ok : (ns : List ℕ) (s : Bytes) → (form_read ns s none).ok ≡ false
-unfolding form_read no_reading
-unread_ok ns s = refl
-
 asked_ok : (r : Reading) (p : Placing) → (asked_of r p).ok ≡ true
 unfolding asked_of
 asked_ok r p = refl
@@ -228,12 +227,12 @@ asked_bound : (r : Reading) (p : Placing) → (asked_of r p).checks.bound ≡ r.
 unfolding asked_of
 asked_bound r p = refl
 
-form_asked : (ns : List ℕ) (s : Bytes) (q : Read Form) → asked_of (form_read ns s (some q)) (placing_of ns (form_read ns s (some q))) ≡ asked_form ns q.what (length s - length q.left)
-unfolding asked_form form_read
+form_asked : (ns : List ℕ) (s : Bytes) (q : Read Form) → asked_of (form_seen ns s q) (placing_of ns (form_seen ns s q)) ≡ asked_form ns q.what (length s - length q.left)
+unfolding asked_form form_seen left_at
 form_asked ns s q = refl
 
-asked_next : (ns : List ℕ) (s : Bytes) (q : Read Form) (p : Placing) → (asked_of (form_read ns s (some q)) p).next ≡ length s - length q.left
-unfolding asked_of form_read reading_ended
+asked_next : (ns : List ℕ) (s : Bytes) (q : Read Form) (p : Placing) → (asked_of (form_seen ns s q) p).next ≡ length s - length q.left
+unfolding asked_of form_seen left_at reading_ended
 asked_next ns s q p = refl
 
 with_most : (ns : List ℕ) (is : List Inner) (r : Reading) → r.count ≤ 12 → (with_parts ns r is).count ≤ 12
@@ -241,21 +240,22 @@ unfolding with_parts with_part with_own
 with_most ns [] r h = h
 with_most ns (i ∷ is) r h = with_most ns is (with_part ns r i) (omega arith)
 
-counted_most : (ns : List ℕ) (s : Bytes) (q : Read Form) → (form_read ns s (some q)).count ≤ 12
-unfolding form_read reading_ended
+counted_most : (ns : List ℕ) (s : Bytes) (q : Read Form) → (form_seen ns s q).count ≤ 12
+unfolding form_seen reading_ended
 counted_most ns s q = let c = nothing_counted ns in with_most ns (R.parts 0 q.what) no_reading (omega arith)
 
-module _ (ns : List ℕ) (s : Bytes) (at : ℕ) (ws vs : List ℕ) (r : Reading) (h : FormRead ns s at ws vs r) where
-  read_is : T (readable s ws) → (q : Read Form) → any_form (drop at s) ≡ some q → r ≡ form_read ns s (some q)
-  read_is rd q e = h.is ∙ rw (T_true (readable s ws) rd, e)
+module _ (ns : List ℕ) (s : Bytes) (at : ℕ) (ws vs : List ℕ) where
+  module _ {o : Found Reading} (h : FormRead ns s at ws vs o) where
+    read_is : T (readable s ws) → (q : Read Form) → any_form (drop at s) ≡ some q → o ≡ Some (form_seen ns s q)
+    unfolding seen
+    read_is rd q e = h.is ∙ rw (T_true (readable s ws) rd, e)
 
-  read_ok : (q : Read Form) → (form_read ns s (some q)).ok ≡ true
-  unfolding form_read reading_ended
-  read_ok q = refl
+    read_not : readable s ws ≡ false → o ≡ None
+    read_not a = h.is ∙ rw a
 
-  nothing_ok : no_reading.ok ≡ false
-  unfolding no_reading
-  nothing_ok = refl
+    unread : any_form (drop at s) ≡ none → o ≡ None
+    unfolding seen
+    unread e = by_test (readable s ws) (λ a. h.is ∙ rw (a, e)) (λ a. read_not a)
 
   -- what is answered, by whether the line may be read and by what stands there
   answered_by : {x : Asked} → (readable s ws ≡ false → x ≡ unread_asked false) → (any_form (drop at s) ≡ none → x ≡ unread_asked false)
@@ -267,58 +267,52 @@ module _ (ns : List ℕ) (s : Bytes) (at : ℕ) (ws vs : List ℕ) (r : Reading)
       go a none e = g e ∙ rw (a, e)
       go a (some q) e = k (true_T (readable s ws) a) q e ∙ rw (a, e)
 
-  pub asks_none : {x : Asked} → not r.ok ≡ true → x ≡ unread_asked false → Asks ns s at ws vs x
+  pub asks_none : {x : Asked} → FormRead ns s at ws vs None → x ≡ unread_asked false → Asks ns s at ws vs x
   unfolding unread_asked
-  asks_none {x} z d =
+  asks_none {x} h d =
       record {
-        is = answered_by (λ a. d) (λ e. d) (λ rd q e. never (sym (read_ok q) ∙ sym (ap (λ y. y.ok) (read_is rd q e)) ∙ not-true r.ok z));
+        is = answered_by (λ a. d) (λ e. d) (λ rd q e. absurd (no_some (read_is h rd q e)));
         stored = λ k o. never (sym k ∙ ap (λ y. y.ok) d);
         none_read = λ e. ap (λ y. y.ok) d;
-        some_read = λ sound rd q e. never (sym (read_ok q) ∙ sym (ap (λ y. y.ok) (read_is rd q e)) ∙ not-true r.ok z);
+        some_read = λ sound rd q e. absurd (no_some (read_is h rd q e));
         kept = h.kept;
       }
 
-  read_not : readable s ws ≡ false → r ≡ no_reading
-  read_not a = h.is ∙ rw a
+  module _ {r : Reading} (h : FormRead ns s at ws vs (Some r)) where
+    r_is : T (readable s ws) → (q : Read Form) → any_form (drop at s) ≡ some q → r ≡ form_seen ns s q
+    r_is rd q e = same_Some r (form_seen ns s q) (read_is h rd q e)
 
-  read_none : readable s ws ≡ true → any_form (drop at s) ≡ none → r ≡ form_read ns s none
-  read_none a e = h.is ∙ rw (a, e)
+    pub asks_few : r.count ≤ 12
+    asks_few = by_test (readable s ws) (λ a. some_few a (any_form (drop at s)) refl) (λ a. absurd (no_some (sym (read_not h a))))
+      where
+        some_few : readable s ws ≡ true → (o : Option (Read Form)) → any_form (drop at s) ≡ o → r.count ≤ 12
+        some_few a none e = absurd (no_some (sym (unread h e)))
+        some_few a (some q) e = let k = ap (λ y. y.count) (r_is (true_T (readable s ws) a) q e) in let m = counted_most ns s q in omega arith
 
-  unread : any_form (drop at s) ≡ none → r.ok ≡ false
-  unread e = by_test (readable s ws) (λ a. ap (λ y. y.ok) (read_none a e) ∙ unread_ok ns s) (λ a. ap (λ y. y.ok) (read_not a) ∙ nothing_ok)
+    pub asks_some : {x : Asked} {p : Placing} → p ≡ placing_of ns r → x ≡ asked_of r p → Asks ns s at ws vs x
+    asks_some {x} {p} f d =
+        record {
+          is = answered_by (λ a. absurd (no_some (sym (read_not h a)))) (λ e. absurd (no_some (sym (unread h e)))) (λ rd q e. made rd q e ∙ form_asked ns s q);
+          stored = λ k o. h.stored r refl (sym (asked_bound r p) ∙ sym (ap (λ y. y.checks.bound) d) ∙ o);
+          none_read = λ e. absurd (no_some (sym (unread h e)));
+          some_read = λ sound rd q e. told sound rd q e;
+          kept = h.kept;
+        }
+      where
+        made : T (readable s ws) → (q : Read Form) → any_form (drop at s) ≡ some q → x ≡ asked_of (form_seen ns s q) (placing_of ns (form_seen ns s q))
+        made rd q e = d ∙ rw (f, r_is rd q e)
 
-  pub asks_few : not r.ok ≡ false → r.count ≤ 12
-  asks_few z = by_test (readable s ws) (λ a. some_few a (any_form (drop at s)) refl) (λ a. never (sym (not-false r.ok z) ∙ ap (λ y. y.ok) (read_not a) ∙ nothing_ok))
-    where
-      some_few : readable s ws ≡ true → (o : Option (Read Form)) → any_form (drop at s) ≡ o → r.count ≤ 12
-      some_few a none e = never (sym (not-false r.ok z) ∙ unread e)
-      some_few a (some q) e = let k = ap (λ y. y.count) (read_is (true_T (readable s ws) a) q e) in let m = counted_most ns s q in omega arith
-
-  pub asks_some : {x : Asked} {p : Placing} → not r.ok ≡ false → p ≡ placing_of ns r → x ≡ asked_of r p → Asks ns s at ws vs x
-  asks_some {x} {p} z f d =
-      record {
-        is = answered_by (λ a. never (sym (not-false r.ok z) ∙ ap (λ y. y.ok) (read_not a) ∙ nothing_ok)) (λ e. never (sym (not-false r.ok z) ∙ unread e))
-            (λ rd q e. made rd q e ∙ form_asked ns s q);
-        stored = λ k o. h.stored (not-false r.ok z) (sym (asked_bound r p) ∙ sym (ap (λ y. y.checks.bound) d) ∙ o);
-        none_read = λ e. never (sym (not-false r.ok z) ∙ unread e);
-        some_read = λ sound rd q e. told sound rd q e;
-        kept = h.kept;
-      }
-    where
-      made : T (readable s ws) → (q : Read Form) → any_form (drop at s) ≡ some q → x ≡ asked_of (form_read ns s (some q)) (placing_of ns (form_read ns s (some q)))
-      made rd q e = d ∙ rw (f, read_is rd q e)
-
-      told : (sound : T (schema_sound ns)) (rd : T (readable s ws)) (q : Read Form) → any_form (drop at s) ≡ some q → Tells ns s vs q x
-      told sound rd q e =
-          let i = read_is rd q e in
-          let y = made rd q e in
-          record {
-            ok = ap (λ a. a.ok) y ∙ asked_ok (form_read ns s (some q)) (placing_of ns (form_read ns s (some q)));
-            next = ap (λ a. a.next) y ∙ asked_next ns s q (placing_of ns (form_read ns s (some q)));
-            checks = ap (λ a. first (table a.checks)) y ∙ verdict ns sound s at ws rd q e;
-            query = λ none_fails.
-                let db = passing ns sound s at ws rd q e none_fails in
-                let over : r.over ≡ false = ap (λ a. a.over) i ∙ over_is ns s q ∙ ap not db in
-                let w : vs ≡ form_stored ns (some q) ws = h.stored (ap (λ a. a.ok) i ∙ read_ok q) over ∙ rw e in
-                rw (w, y) (meaning ns sound s at ws rd q e none_fails);
-          }
+        told : (sound : T (schema_sound ns)) (rd : T (readable s ws)) (q : Read Form) → any_form (drop at s) ≡ some q → Tells ns s vs q x
+        told sound rd q e =
+            let i = r_is rd q e in
+            let y = made rd q e in
+            record {
+              ok = ap (λ a. a.ok) y ∙ asked_ok (form_seen ns s q) (placing_of ns (form_seen ns s q));
+              next = ap (λ a. a.next) y ∙ asked_next ns s q (placing_of ns (form_seen ns s q));
+              checks = ap (λ a. first (table a.checks)) y ∙ verdict ns sound s at ws rd q e;
+              query = λ none_fails.
+                  let db = passing ns sound s at ws rd q e none_fails in
+                  let over : r.over ≡ false = ap (λ a. a.over) i ∙ over_is ns s q ∙ ap not db in
+                  let w : vs ≡ form_stored ns (some q) ws = h.stored r refl over ∙ rw e in
+                  rw (w, y) (meaning ns sound s at ws rd q e none_fails);
+            }

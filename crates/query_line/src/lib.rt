@@ -296,9 +296,7 @@ fn placed(r: Reading, names: &[u64]) -> Placing
     ensures { result ≡ placing_of names.now r }
 {
     let mut p = begun();
-    let mut n = r.count as usize;
-    while 0 < n {
-        n -= 1;
+    for n in (0..r.count as usize).rev() {
         let f = r.forms[n];
         p = with_form(p, names, f, r.lefts[n], r.rights[n]);
     }
@@ -342,10 +340,9 @@ fn asked_of(r: Reading, p: Placing) -> Asked
 pub fn read(s: &[u8], at: usize, names: &[u64], words: &mut [u32]) -> Asked
     ensures { Asks names.now s.now at words.old words.new result }
 {
-    let r = query_read::read(s, at, names, words);
-    if !r.ok {
+    let Some(r) = query_read::read(s, at, names, words) else {
         return unread(false);
-    }
+    };
     let p = placed(r, names);
     asked_of(r, p)
 }

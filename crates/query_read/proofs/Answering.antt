@@ -1,13 +1,14 @@
 -- What is read of all forms: what is read so far, joined to what is still to be read; each end of the loop, and the way on.
 use mathlib.Core.Path.{◌≡◌, refl, sym, ap, ap₂, ◌∙◌}
 use mathlib.Core.List.{List, [], ◌∷◌, ◌++◌, map, append-nil, map-append}
-use mathlib.Core.Bool.{Bool, true, false, ◌||◌, not}
+use mathlib.Core.Bool.{Bool, true, false, ◌||◌}
 use mathlib.Core.Option.{Option, none, some}
 use Prim.Native.Nat.{ℕ, zero, suc, ◌+◌, ◌*◌, ◌-◌, ◌≤◌, ◌<◌}
 use native.Mathlib.Omega.{arith}
 use lib.Dec.{eqb, leb}
 use lib.ListN.{length, drop, set, replicate, length-drop, length-set, length-replicate, drop_of_length-le}
-use borrow.Author.Tests.{le-leb, lt-leb, le-ltb, lt-ltb, not-true, not-false}
+use borrow.Author.Tests.{le-leb, lt-leb, le-ltb, lt-ltb}
+use Rattle.std.proofs.lemmas.Option.{same_Some}
 use Rattle.lists.specs.Lists.{gather}
 use Rattle.lists.proofs.Laws.{gather_append, never, by_test, or_first, or_last}
 use Rattle.syntax.specs.Grammar as G
@@ -16,25 +17,27 @@ use Rattle.syntax.specs.Limits.{cond_depth}
 use Rattle.syntax.specs.Readers as R
 use Rattle.syntax.specs.Readers.{Read, bind}
 use Rattle.calls.specs.Names.{form_conds}
+use Rattle.text.specs.Words.{Found, Some, None, seen, left_at}
 use Rattle.text.specs.Readings.{any_form}
-use Rattle.text.proofs.Views.{left_drop}
+use Rattle.text.proofs.Views.{no_some, seen_none, seen_some, left_drop}
 use Rattle.nodes.specs.Storing.{size, store_list}
 use Rattle.nodes.specs.declared.Node.{Node}
 use Rattle.conditions.specs.Seeing.{nodes_of, seen_of, deep_seen}
 use Rattle.conditions.proofs.Skipping.{stack, stack_push}
 use Rattle.query_read.specs.declared.Own.{Own}
 use Rattle.query_read.specs.declared.Next.{Next}
+use Rattle.query_read.specs.declared.Next.TheVariants.{Ended, Inside}
 use Rattle.query_read.specs.declared.Reading.{Reading}
 use Rattle.query_read.specs.Parts.{Part, rows, pick, keep, join, aggregate, Inner, inner, parts, read_own}
-use Rattle.query_read.specs.Seeing.{level, no_own, rows_own, pick_own, keep_own, join_own, aggregate_own, picked, own_of, own_read, own_at, part_stored, own_stored, with_own, with_part, with_parts, no_reading, reading_ended, form_read, form_stored, readable, FormRead}
+use Rattle.query_read.specs.Seeing.{level, rows_own, pick_own, keep_own, join_own, aggregate_own, picked, own_of, own_seen, own_at, part_stored, own_stored, with_own, with_part, with_parts, no_reading, reading_ended, form_seen, form_stored, readable, FormRead}
 use Rattle.query_read.specs.Steps.{OwnRead, after_form}
-use Rattle.query_read.proofs.Walking.{ahead, rest, within, then_own, within_own, cost, own_leaves, own_cost, After, after_law}
+use Rattle.query_read.proofs.Walking.{ahead, rest, within, then_own, within_own, cost, own_leaves, own_cost, Goes, After, after_law}
 
 -- ---- the answer by what is read so far and what is read on
 
-unfoldable pub answer : List ℕ → Bytes → Reading → Option (Read (List Inner)) → Reading
-answer ns s r none = no_reading
-answer ns s r (some x) = reading_ended (with_parts ns r x.what) (length s - length x.left)
+unfoldable pub answer : List ℕ → Bytes → Reading → Option (Read (List Inner)) → Found Reading
+answer ns s r none = None
+answer ns s r (some x) = Some (reading_ended (with_parts ns r x.what) (length s - length x.left))
 
 answer_ahead : (ns : List ℕ) (s : Bytes) (r : Reading) (i : Inner) (o : Option (Read (List Inner))) → answer ns s r (ahead (i ∷ []) o) ≡ answer ns s (with_part ns r i) o
 unfolding answer ahead with_parts
@@ -78,13 +81,13 @@ conds_are n (G.aggregate f c z w q) = conds_are (suc n) q
 -- ---- one part more
 
 module _ (ns : List ℕ) where
-  pub own_ok : (b n : ℕ) (x : Part) (next : ℕ) → ((own_of ns b n x next).ok ≡ true) × ((own_of ns b n x next).next ≡ next)
+  own_next : (b n : ℕ) (x : Part) (next : ℕ) → (own_of ns b n x next).next ≡ next
   unfolding own_of rows_own pick_own keep_own join_own aggregate_own
-  own_ok b n (rows s) next = (refl, refl)
-  own_ok b n (pick c) next = (refl, refl)
-  own_ok b n (keep rs) next = (refl, refl)
-  own_ok b n (join a c) next = (refl, refl)
-  own_ok b n (aggregate f c z w) next = (refl, refl)
+  own_next b n (rows s) next = refl
+  own_next b n (pick c) next = refl
+  own_next b n (keep rs) next = refl
+  own_next b n (join a c) next = refl
+  own_next b n (aggregate f c z w) next = refl
 
   -- where it ends plays no part
   placeless : (r : Reading) (b n : ℕ) (x : Part) (next : ℕ) → with_own r (own_of ns b n x next) ≡ with_own r (own_of ns b n x 0)
@@ -150,10 +153,10 @@ module _ (ns : List ℕ) where
 
 -- ---- nothing yet
 
-started : (ns : List ℕ) (s : Bytes) (o : Option (Read Form)) → form_read ns s o ≡ answer ns s no_reading (bind o (λ q. ahead (parts 0 q.what) (some (record { what = []; left = q.left }))))
-unfolding form_read answer bind ahead
+started : (ns : List ℕ) (s : Bytes) (o : Option (Read Form)) → seen (form_seen ns s) o ≡ answer ns s no_reading (bind o (λ q. ahead (parts 0 q.what) (some (record { what = []; left = q.left }))))
+unfolding seen form_seen left_at answer bind ahead
 started ns s none = refl
-started ns s (some q) = ap (λ r. reading_ended r (length s - length q.left)) (sym (ap (with_parts ns no_reading) (append-nil (parts 0 q.what))))
+started ns s (some q) = ap (λ r. Some (reading_ended r (length s - length q.left))) (sym (ap (with_parts ns no_reading) (append-nil (parts 0 q.what))))
 
 nothing_few : (at : ℕ) → 5 * no_reading.words ≤ at
 unfolding no_reading
@@ -173,36 +176,25 @@ cost_some ns (aggregate f c z w) = omega arith
 
 -- ---- a form as the code reads it
 
-module _ (ns : List ℕ) (s : Bytes) (b n p : ℕ) {ws vs : List ℕ} {o : Own} (q : OwnRead ns s b n p ws vs o) where
-  own_none : not o.ok ≡ true → read_own (drop p s) ≡ none
-  unfolding own_at own_read
-  own_none z = go (read_own (drop p s)) refl
-    where
-      go : (x : Option (Read Part)) → read_own (drop p s) ≡ x → x ≡ none
-      go none e = refl
-      go (some r) e =
-          let a : o ≡ own_of ns b n r.what (length s - length r.left) = q.is ∙ rw e in
-          never (sym (own_ok ns b n r.what (length s - length r.left)).0 ∙ sym (ap (λ y. y.ok) a) ∙ not-true o.ok z)
+own_none : (ns : List ℕ) (s : Bytes) (b n p : ℕ) {ws vs : List ℕ} → OwnRead ns s b n p ws vs None → read_own (drop p s) ≡ none
+unfolding own_at
+own_none ns s b n p q = seen_none (own_seen ns s b n) (read_own (drop p s)) q.is
 
-  own_some : {X : Type 0} → not o.ok ≡ false
-      → ((x : Part) → read_own (drop p s) ≡ some (record { what = x; left = drop o.next s }) → o ≡ own_of ns b n x o.next → p + cost ns x ≤ o.next → o.next ≤ length s → (o.over ≡ false → vs ≡ part_stored ns b x ws) → X) → X
-  unfolding own_at own_read no_own own_stored
-  own_some {X} z f = go (read_own (drop p s)) refl
-    where
-      go : (x : Option (Read Part)) → read_own (drop p s) ≡ x → X
-      go none e = let a : o ≡ no_own = q.is ∙ rw e in never (sym (not-false o.ok z) ∙ ap (λ y. y.ok) a)
-      go (some r) e =
-          let a : o ≡ own_of ns b n r.what (length s - length r.left) = q.is ∙ rw e in
-          let c : o.next ≡ length s - length r.left = ap (λ y. y.next) a ∙ (own_ok ns b n r.what (length s - length r.left)).1 in
-          let d : drop o.next s ≡ r.left = ap (λ y. drop y s) c ∙ left_drop own_leaves s p r e in
-          let k = own_cost ns (drop p s) r e in
-          let m = cost_some ns r.what in
-          f r.what (e ∙ ap (λ y. some (record { what = r.what; left = y })) (sym d)) (a ∙ rw (sym c)) (omega (arith, length-drop p s)) (omega arith) (λ v. q.stored (not-false o.ok z) v ∙ rw e)
+own_some : (ns : List ℕ) (s : Bytes) (b n p : ℕ) {ws vs : List ℕ} {o : Own} → OwnRead ns s b n p ws vs (Some o) → {X : Type 0}
+    → ((x : Part) → read_own (drop p s) ≡ some (record { what = x; left = drop o.next s }) → o ≡ own_of ns b n x o.next → p + cost ns x ≤ o.next → o.next ≤ length s → (o.over ≡ false → vs ≡ part_stored ns b x ws) → X) → X
+unfolding own_at own_seen left_at own_stored
+own_some ns s b n p {ws} {vs} {o} q f =
+    seen_some (own_seen ns s b n) (read_own (drop p s)) q.is (λ r e a.
+    let c : o.next ≡ length s - length r.left = ap (λ y. y.next) a ∙ own_next ns b n r.what (length s - length r.left) in
+    let d : drop o.next s ≡ r.left = ap (λ y. drop y s) c ∙ left_drop own_leaves s p r e in
+    let k = own_cost ns (drop p s) r e in
+    let m = cost_some ns r.what in
+    f r.what (e ∙ ap (λ y. some (record { what = r.what; left = y })) (sym d)) (a ∙ rw (sym c)) (omega (arith, length-drop p s)) (omega arith) (λ v. q.stored o refl v ∙ rw e))
 
 -- ---- the loop
 
 pub record Walked (ns : List ℕ) (s : Bytes) (at : ℕ) (ws₀ ws : List ℕ) (second : List Bool) (nest p : ℕ) (r : Reading) : Type 0 where
-  pub read : form_read ns s (any_form (drop at s)) ≡ answer ns s r (within (stack second nest) (drop p s))
+  pub read : seen (form_seen ns s) (any_form (drop at s)) ≡ answer ns s r (within (stack second nest) (drop p s))
   pub stored : r.over ≡ false → stored_on ns no_reading ws₀ (within [] (drop at s)) ≡ stored_on ns r ws (within (stack second nest) (drop p s))
   pub kept : length ws ≡ length ws₀
   pub nested : 5 * nest ≤ p
@@ -223,7 +215,7 @@ walk_start ns s at ws {r} e =
       places = length-replicate 128 false;
     })
   where
-    start : (o : Option (Read Form)) → form_read ns s o ≡ answer ns s no_reading (bind o (λ q. ahead (parts 0 q.what) (some (record { what = []; left = q.left }))))
+    start : (o : Option (Read Form)) → seen (form_seen ns s) o ≡ answer ns s no_reading (bind o (λ q. ahead (parts 0 q.what) (some (record { what = []; left = q.left }))))
     start o = started ns s o
 
     few : 5 * no_reading.words ≤ at
@@ -268,86 +260,68 @@ within_some : (st : List Bool) (bs l : Bytes) (x : Part) → read_own bs ≡ som
 unfolding bind
 within_some st bs l x e = within_own st bs ∙ rw e
 
-answer_none : (ns : List ℕ) (s : Bytes) (r : Reading) → answer ns s r none ≡ no_reading
+answer_none : (ns : List ℕ) (s : Bytes) (r : Reading) → answer ns s r none ≡ None
 unfolding answer
 answer_none ns s r = refl
 
 -- ---- the end
 
-last_answer : (ns : List ℕ) (s : Bytes) (v : Reading) (i : ℕ) → i ≤ length s → answer ns s v (some (record { what = []; left = drop i s })) ≡ reading_ended v i
+last_answer : (ns : List ℕ) (s : Bytes) (v : Reading) (i : ℕ) → i ≤ length s → answer ns s v (some (record { what = []; left = drop i s })) ≡ Some (reading_ended v i)
 unfolding answer with_parts
-last_answer ns s v i h = let e : length s - length (drop i s) ≡ i = omega (arith, length-drop i s) in ap (reading_ended v) e
+last_answer ns s v i h = let e : length s - length (drop i s) ≡ i = omega (arith, length-drop i s) in ap (λ j. Some (reading_ended v j)) e
 
 ended_over : (v : Reading) (i : ℕ) → (reading_ended v i).over ≡ v.over
 unfolding reading_ended
 ended_over v i = refl
 
-answer_over : (ns : List ℕ) (s : Bytes) (v : Reading) (l : Bytes) → (answer ns s v (some (record { what = []; left = l }))).over ≡ v.over
-unfolding answer with_parts reading_ended
-answer_over ns s v l = refl
-
-answer_ok : (ns : List ℕ) (s : Bytes) (v : Reading) (l : Bytes) → (answer ns s v (some (record { what = []; left = l }))).ok ≡ true
-unfolding answer with_parts reading_ended
-answer_ok ns s v l = refl
-
 last_words : (ns : List ℕ) (v : Reading) (vs : List ℕ) (l : Bytes) → stored_on ns v vs (some (record { what = []; left = l })) ≡ vs
 unfolding stored_on store_parts
 last_words ns v vs l = refl
-
-nothing_read : no_reading.ok ≡ false
-unfolding no_reading
-nothing_read = refl
 
 no_words : no_reading.words ≡ 0
 unfolding no_reading
 no_words = refl
 
-words_of : (ns : List ℕ) (s : Bytes) (ws : List ℕ) (o : Option (Read Form)) {vs : List ℕ} → (form_read ns s o).over ≡ false → (form_read ns s o).ok ≡ true
+words_of : (ns : List ℕ) (s : Bytes) (ws : List ℕ) (o : Option (Read Form)) {vs : List ℕ} {x : Reading} → seen (form_seen ns s) o ≡ Some x → x.over ≡ false
     → stored_on ns no_reading ws (bind o (λ q. ahead (parts 0 q.what) (some (record { what = []; left = q.left })))) ≡ vs → form_stored ns o ws ≡ vs
-unfolding form_read form_stored stored_on bind ahead
-words_of ns s ws none e d f = never (sym d ∙ unread)
-  where
-    unread : no_reading.ok ≡ false
-    unread = nothing_read
-words_of ns s ws (some q) e d f =
+unfolding seen form_seen form_stored stored_on bind ahead
+words_of ns s ws none d e f = absurd (no_some d)
+words_of ns s ws (some q) {vs} {x} d e f =
+    let m : form_seen ns s q ≡ x = same_Some (form_seen ns s q) x d in
     sym (ap (λ is. store_parts ns no_reading ws is) (append-nil (parts 0 q.what))
-    ∙ parts_stored ns (parts 0 q.what) no_reading ws (sym (ended_over (with_parts ns no_reading (parts 0 q.what)) (length s - length q.left)) ∙ e)
+    ∙ parts_stored ns (parts 0 q.what) no_reading ws (sym (ended_over (with_parts ns no_reading (parts 0 q.what)) (left_at s q)) ∙ ap (λ y. y.over) m ∙ e)
     ∙ ap₂ (λ cs b. store_list (map (nodes_of ns) cs) b ws) (conds_are 0 q.what) no_words) ∙ f
 
 -- the words of a form's conditions
-form_words : (ns : List ℕ) (s : Bytes) (ws : List ℕ) (bs : Bytes) {vs : List ℕ} → (form_read ns s (any_form bs)).over ≡ false → (form_read ns s (any_form bs)).ok ≡ true → stored_on ns no_reading ws (within [] bs) ≡ vs → form_stored ns (any_form bs) ws ≡ vs
+form_words : (ns : List ℕ) (s : Bytes) (ws : List ℕ) (bs : Bytes) {vs : List ℕ} {x : Reading} → seen (form_seen ns s) (any_form bs) ≡ Some x → x.over ≡ false → stored_on ns no_reading ws (within [] bs) ≡ vs → form_stored ns (any_form bs) ws ≡ vs
 unfolding within rest bind
-form_words ns s ws bs {vs} = go (any_form bs)
-  where
-    go : (o : Option (Read Form)) → (form_read ns s o).over ≡ false → (form_read ns s o).ok ≡ true → stored_on ns no_reading ws (bind o (λ q. ahead (parts 0 q.what) (some (record { what = []; left = q.left })))) ≡ vs → form_stored ns o ws ≡ vs
-    go o = words_of ns s ws o
+form_words ns s ws bs d e f = words_of ns s ws (any_form bs) d e f
 
 module _ (ns : List ℕ) (s : Bytes) (at : ℕ) (ws₀ ws : List ℕ) (second : List Bool) (nest p : ℕ) (r : Reading) (inv : Walked ns s at ws₀ ws second nest p r) (line : length s ≤ 512) (lent : 102 ≤ length ws₀) where
   lined : readable s ws₀ ≡ true
   unfolding readable
   lined = rw (le-ltb 512 (length s) line, le-leb 102 (length ws₀) lent)
 
-  nothing : {x : Reading} {vs : List ℕ} → form_read ns s (any_form (drop at s)) ≡ no_reading → length vs ≡ length ws₀ → x ≡ no_reading → FormRead ns s at ws₀ vs x
-  unfolding no_reading
-  nothing e l d = record { is = d ∙ sym (rw lined e); stored = λ o v. never (sym o ∙ ap (λ y. y.ok) d); kept = l }
+  nothing : {x : Found Reading} {vs : List ℕ} → seen (form_seen ns s) (any_form (drop at s)) ≡ None → length vs ≡ length ws₀ → x ≡ None → FormRead ns s at ws₀ vs x
+  nothing e l d = record { is = d ∙ sym (rw lined e); stored = λ y o v. absurd (no_some (sym d ∙ o)); kept = l }
 
-  pub walk_over : {x : Reading} → length s ≤ p → x ≡ no_reading → FormRead ns s at ws₀ ws x
-  walk_over h d = nothing (inv.read ∙ ap (λ bs. answer ns s r (within (stack second nest) bs)) (drop_of_length-le s h) ∙ ap (answer ns s r) (within_end (stack second nest)) ∙ answer_none ns s r) inv.kept d
+  pub walk_over : length s ≤ p → FormRead ns s at ws₀ ws None
+  walk_over h = nothing (inv.read ∙ ap (λ bs. answer ns s r (within (stack second nest) bs)) (drop_of_length-le s h) ∙ ap (answer ns s r) (within_end (stack second nest)) ∙ answer_none ns s r) inv.kept refl
 
-  module _ {vs : List ℕ} {o : Own} (q : OwnRead ns s r.words nest p ws vs o) where
+  pub walk_unread : {vs : List ℕ} {x : Found Reading} → OwnRead ns s r.words nest p ws vs None → x ≡ None → FormRead ns s at ws₀ vs x
+  walk_unread q d = nothing (inv.read ∙ ap (answer ns s r) (within_none (stack second nest) (drop p s) (own_none ns s r.words nest p q)) ∙ answer_none ns s r) (q.kept ∙ inv.kept) d
+
+  module _ {vs : List ℕ} {o : Own} (q : OwnRead ns s r.words nest p ws vs (Some o)) where
     same : length vs ≡ length ws₀
     same = q.kept ∙ inv.kept
 
-    pub walk_unread : {x : Reading} → not o.ok ≡ true → x ≡ no_reading → FormRead ns s at ws₀ vs x
-    walk_unread z d = nothing (inv.read ∙ ap (answer ns s r) (within_none (stack second nest) (drop p s) (own_none ns s r.words nest p q z)) ∙ answer_none ns s r) same d
-
-    module _ (ok : not o.ok ≡ false) {v : Reading} (w : v ≡ with_own r o) where
+    module _ {v : Reading} (w : v ≡ with_own r o) where
       -- the part that was read, and what follows it
       stepped : {X : Type 0} → ((x : Part) → within (stack second nest) (drop p s) ≡ then_own (stack second nest) x (drop o.next s) → o ≡ own_of ns r.words nest x o.next → p + cost ns x ≤ o.next → o.next ≤ length s
           → v ≡ with_part ns r (inner (length (stack second nest)) x) → (v.over ≡ false → (r.over ≡ false) × (vs ≡ part_stored ns r.words x ws)) → X) → X
       unfolding with_part inner with_own
       stepped f =
-          own_some ns s r.words nest p q ok (λ x e a c l t.
+          own_some ns s r.words nest p q (λ x e a c l t.
           f x (within_some (stack second nest) (drop p s) (drop o.next s) x e) a c l
           (w ∙ ap (with_own r) a ∙ placeless ns r r.words nest x o.next ∙ ap (λ m. with_own r (own_of ns r.words m x 0)) (sym (stack_length second nest)))
           (λ u. let y : (r.over || (o.over || leb 12 r.count)) ≡ false = sym (ap (λ g. g.over) w) ∙ u in (or_first r.over _ y, t (or_first o.over _ (or_last r.over _ y)))))
@@ -366,7 +340,7 @@ module _ (ns : List ℕ) (s : Bytes) (at : ℕ) (ws₀ ws : List ℕ) (second : 
 
       -- on by what follows in front of the rest
       on_read : (X : Option (Read (List Inner))) (x : Part) → within (stack second nest) (drop p s) ≡ ahead (inner (length (stack second nest)) x ∷ []) X → v ≡ with_part ns r (inner (length (stack second nest)) x)
-          → form_read ns s (any_form (drop at s)) ≡ answer ns s v X
+          → seen (form_seen ns s) (any_form (drop at s)) ≡ answer ns s v X
       on_read X x e g = inv.read ∙ ap (answer ns s r) e ∙ answer_ahead ns s r (inner (length (stack second nest)) x) X ∙ ap (λ y. answer ns s y X) (sym g)
 
       on_stored : (X : Option (Read (List Inner))) (x : Part) → within (stack second nest) (drop p s) ≡ ahead (inner (length (stack second nest)) x ∷ []) X → v ≡ with_part ns r (inner (length (stack second nest)) x)
@@ -413,78 +387,84 @@ module _ (ns : List ℕ) (s : Bytes) (at : ℕ) (ws₀ ws : List ℕ) (second : 
             let k : (own_of ns r.words nest x o.next).form.kind ≡ 0 = sym (ap (λ y. y.form.kind) a) ∙ row in
             rows_only ns r.words nest x o.next k (λ m z. f x (e ∙ rw z) a c l g h))
 
-        module _ {k : Next} (a : k ≡ after_form s second o.next nest) where
-          afterwards : o.next ≤ length s → After s second o.next nest k
-          afterwards b = rw a (after_law s second nest o.next b)
+        pub walk_stuck : {x : Found Reading} → None ≡ after_form s second o.next nest → x ≡ None → FormRead ns s at ws₀ vs x
+        unfolding After
+        walk_stuck a d =
+            ended (λ x e b c l g h.
+            nothing (on_read (rest (stack second nest) (drop o.next s)) x e g ∙ ap (answer ns s v) (rw (← a) at (after_law s second nest o.next l)) ∙ answer_none ns s v) same d)
 
-          pub walk_stuck : {x : Reading} → not k.ok ≡ true → x ≡ no_reading → FormRead ns s at ws₀ vs x
-          walk_stuck z d = ended (λ x e b c l g h. nothing (on_read (rest (stack second nest) (drop o.next s)) x e g ∙ ap (answer ns s v) ((afterwards l).halts (not-true k.ok z)) ∙ answer_none ns s v) same d)
+        module _ {k : Next} (a : Some k ≡ after_form s second o.next nest) where
+          afterwards : {j : Next} → k ≡ j → o.next ≤ length s → After s second o.next nest (Some j)
+          afterwards i b = rw (← (ap Some (sym i) ∙ a)) at (after_law s second nest o.next b)
 
-          module _ (go : not k.ok ≡ false) where
-            pub walk_ended : {y : Reading} → k.nest ≡ 0 → y ≡ reading_ended v k.at → FormRead ns s at ws₀ vs y
-            walk_ended {y} z d =
+          pub walk_ended : {y : Reading} {i : ℕ} → k ≡ Ended i → y ≡ reading_ended v i → FormRead ns s at ws₀ vs (Some y)
+          unfolding After
+          walk_ended {y} {i} z d =
+              ended (λ x e b c l g h.
+              let t = afterwards z l in
+              let whole : seen (form_seen ns s) (any_form (drop at s)) ≡ Some y = on_read (rest (stack second nest) (drop o.next s)) x e g ∙ ap (answer ns s v) t.0 ∙ last_answer ns s v i t.2 ∙ ap Some (sym d) in
+              record {
+                is = sym (rw lined whole);
+                stored = λ w m n.
+                    let same_y : y ≡ w = same_Some y w m in
+                    let over : y.over ≡ false = ap (λ w. w.over) same_y ∙ n in
+                    sym (form_words ns s ws₀ (drop at s) whole over
+                    (on_stored (rest (stack second nest) (drop o.next s)) x e g h (sym (ended_over v i) ∙ sym (ap (λ w. w.over) d) ∙ over) ∙ ap (stored_on ns v vs) t.0 ∙ last_words ns v vs (drop i s)));
+                kept = same;
+              })
+
+          module _ {i m : ℕ} (z : k ≡ Inside i m) where
+            goes : o.next ≤ length s → Goes s second o.next nest i m
+            unfolding After
+            goes l = afterwards z l
+
+            pub walk_again : Walked ns s at ws₀ vs (set second (m - 1) false) m i v
+            walk_again =
                 ended (λ x e b c l g h.
-                let t = (afterwards l).ends (not-false k.ok go) z in
-                let i = (afterwards l).inside (not-false k.ok go) in
-                let u = on_read (rest (stack second nest) (drop o.next s)) x e g ∙ ap (answer ns s v) t in
-                record {
-                  is = d ∙ sym (rw lined (u ∙ last_answer ns s v k.at i));
-                  stored = λ m n. last_stored m n x e g h t;
-                  kept = same;
-                })
-              where
-                last_stored : y.ok ≡ true → y.over ≡ false → (x : Part) → within (stack second nest) (drop p s) ≡ ahead (inner (length (stack second nest)) x ∷ []) (rest (stack second nest) (drop o.next s))
-                    → v ≡ with_part ns r (inner (length (stack second nest)) x) → (v.over ≡ false → (r.over ≡ false) × (vs ≡ part_stored ns r.words x ws)) → rest (stack second nest) (drop o.next s) ≡ some (record { what = []; left = drop k.at s })
-                    → vs ≡ form_stored ns (any_form (drop at s)) ws₀
-                last_stored m n x e g h t =
-                    let over : v.over ≡ false = sym (ended_over v k.at) ∙ sym (ap (λ w. w.over) d) ∙ n in
-                    let all = on_stored (rest (stack second nest) (drop o.next s)) x e g h over ∙ ap (stored_on ns v vs) t ∙ last_words ns v vs (drop k.at s) in
-                    let whole = on_read (rest (stack second nest) (drop o.next s)) x e g ∙ ap (answer ns s v) t in
-                    sym (form_words ns s ws₀ (drop at s) (ap (λ w. w.over) whole ∙ answer_over ns s v (drop k.at s) ∙ over) (ap (λ w. w.ok) whole ∙ answer_ok ns s v (drop k.at s)) all)
-
-            pub walk_again : (k.nest ≡ 0 → ⊥) → Walked ns s at ws₀ vs (set second (k.nest - 1) false) k.nest k.at v
-            walk_again z =
-                ended (λ x e b c l g h.
-                let t = (afterwards l).goes (not-false k.ok go) (omega arith) in
+                let t = goes l in
+                let on = t.on in
                 let n = inv.nested in
-                let i = inv.places in
-                let f = (afterwards l).fewer in
-                let j = (afterwards l).further (not-false k.ok go) in
+                let j = inv.places in
+                let f = t.fewer in
+                let w = t.forward in
+                let q = t.least in
                 let y = few x b c in
-                let u : k.nest - 1 + 1 ≡ k.nest = omega arith in
-                let m : stack (set second (k.nest - 1) false) k.nest ≡ false ∷ stack second (k.nest - 1) = ap (stack (set second (k.nest - 1) false)) (sym u) ∙ stack_push second (k.nest - 1) false (open_few k.nest f n (cost ns x) c l) in
+                let u : m - 1 + 1 ≡ m = omega arith in
+                let z : stack (set second (m - 1) false) m ≡ false ∷ stack second (m - 1) = ap (stack (set second (m - 1) false)) (sym u) ∙ stack_push second (m - 1) false (open_few f n (cost ns x) c l) in
                 record {
-                  read = on_read (rest (stack second nest) (drop o.next s)) x e g ∙ ap (answer ns s v) t ∙ ap (λ st. answer ns s v (within st (drop k.at s))) (sym m);
-                  stored = λ q. on_stored (rest (stack second nest) (drop o.next s)) x e g h q ∙ ap (stored_on ns v vs) t ∙ ap (λ st. stored_on ns v vs (within st (drop k.at s))) (sym m);
+                  read = on_read (rest (stack second nest) (drop o.next s)) x e g ∙ ap (answer ns s v) on ∙ ap (λ st. answer ns s v (within st (drop i s))) (sym z);
+                  stored = λ q. on_stored (rest (stack second nest) (drop o.next s)) x e g h q ∙ ap (stored_on ns v vs) on ∙ ap (λ st. stored_on ns v vs (within st (drop i s))) (sym z);
                   kept = same;
                   nested = omega arith;
                   words = omega arith;
                   count = counted;
-                  places = length-set second (k.nest - 1) false ∙ inv.places;
+                  places = length-set second (m - 1) false ∙ inv.places;
                 })
               where
-                open_few : (m : ℕ) → m ≤ nest → 5 * nest ≤ p → (c : ℕ) → p + c ≤ o.next → o.next ≤ length s → m - 1 < length second
-                open_few m f n c h l = let i = inv.places in omega arith
+                open_few : m ≤ nest → 5 * nest ≤ p → (c : ℕ) → p + c ≤ o.next → o.next ≤ length s → m - 1 < length second
+                open_few f n c h l = let i = inv.places in omega arith
 
-            pub walk_less : (k.nest ≡ 0 → ⊥) → p < length s → length s - k.at < length s - p
-            walk_less z i = ended (λ x e b c l g h. let f = (afterwards l).forward (not-false k.ok go) (omega arith) in let t = cost_some ns x in omega arith)
+            pub walk_less : p < length s → length s - i < length s - p
+            walk_less h = ended (λ x e b c l g h. let f = (goes l).forward in let t = cost_some ns x in omega arith)
 
-            pub walk_places : (k.nest ≡ 0 → ⊥) → k.nest - 1 < 128
-            walk_places z = ended (λ x e b c l g h. let f = (afterwards l).fewer in let n = inv.nested in omega arith)
+            pub walk_nested : 1 ≤ m
+            walk_nested = ended (λ x e b c l g h. (goes l).least)
+
+            pub walk_places : m - 1 < 128
+            walk_places = ended (λ x e b c l g h. let f = (goes l).fewer in let n = inv.nested in omega arith)
 
 pub ruleset Walk_Ends = (walk_start, walk_over, walk_unread, walk_deeper, walk_falls, walk_stuck, walk_ended, walk_again, walk_less)
 
 -- ---- a line that is too long, and words that are too few
 
 module _ (ns : List ℕ) (s : Bytes) (at : ℕ) (ws : List ℕ) where
-  unreadable : {x : Reading} → readable s ws ≡ false → x ≡ no_reading → FormRead ns s at ws ws x
-  unfolding no_reading
-  unreadable e d = record { is = d ∙ sym (rw e); stored = λ o v. never (sym o ∙ ap (λ y. y.ok) d); kept = refl }
+  unreadable : readable s ws ≡ false → FormRead ns s at ws ws None
+  unreadable e = record { is = sym (rw e); stored = λ x o v. absurd (no_some o); kept = refl }
 
-  pub read_long : {x : Reading} → 512 < length s → x ≡ no_reading → FormRead ns s at ws ws x
+  pub read_long : 512 < length s → FormRead ns s at ws ws None
   unfolding readable
-  read_long h d = unreadable (rw (lt-ltb 512 (length s) h)) d
+  read_long h = unreadable (rw (lt-ltb 512 (length s) h))
 
-  pub read_few : {x : Reading} → length s ≤ 512 → length ws < 102 → x ≡ no_reading → FormRead ns s at ws ws x
+  pub read_few : length s ≤ 512 → length ws < 102 → FormRead ns s at ws ws None
   unfolding readable
-  read_few h k d = unreadable (rw (le-ltb 512 (length s) h, lt-leb 102 (length ws) k)) d
+  read_few h k = unreadable (rw (le-ltb 512 (length s) h, lt-leb 102 (length ws) k))

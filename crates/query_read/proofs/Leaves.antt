@@ -23,7 +23,7 @@ use Rattle.query.specs.Forms.{keep_of}
 use Rattle.query.specs.declared.Form.{Form}
 use Rattle.query_read.specs.declared.Own.{Own}
 use Rattle.query_read.specs.declared.Reading.{Reading}
-use Rattle.query_read.specs.Seeing.{deep, level, span_kept, span_of, no_form, no_own, no_reading, rows_own, pick_own, keep_own, join_own, aggregate_own, put_at, with_own}
+use Rattle.query_read.specs.Seeing.{deep, level, span_kept, span_of, no_form, no_reading, rows_own, pick_own, keep_own, join_own, aggregate_own, put_at, with_own}
 
 -- ---- depth
 
@@ -96,31 +96,31 @@ span_is z {t} e d = e ∙ rw (d, clamp_above z) (go (not_above z) refl)
 -- ---- one form
 
 pub rows_made : (b n place next : ℕ) (long : Bool) {d o : Bool} → d ≡ deep n → o ≡ (d || long)
-    → ◌≡◌ {A = Own} (record { ok = true; next = next; over = o; unknown = eqb place 4; repeated = false; words = b; lefts = 0; rights = 0; form = record { kind = 0; first = place; second = 0; third = 0; fourth = 0 } })
+    → ◌≡◌ {A = Own} (record { next = next; over = o; unknown = eqb place 4; repeated = false; words = b; lefts = 0; rights = 0; form = record { kind = 0; first = place; second = 0; third = 0; fourth = 0 } })
     (rows_own b n long place next)
 unfolding rows_own
 rows_made b n place next long e f = rw (f, e)
 
 pub pick_made : (i : Seen) (next : ℕ) {o : Bool} → o ≡ (i.deep || i.over)
-    → ◌≡◌ {A = Own} (record { ok = true; next = next; over = o; unknown = i.unknown; repeated = false; words = i.count; lefts = i.lefts; rights = i.rights; form = record { kind = 1; first = i.count; second = 0; third = 0; fourth = 0 } })
+    → ◌≡◌ {A = Own} (record { next = next; over = o; unknown = i.unknown; repeated = false; words = i.count; lefts = i.lefts; rights = i.rights; form = record { kind = 1; first = i.count; second = 0; third = 0; fourth = 0 } })
     (pick_own i next)
 unfolding pick_own
 pick_made i next f = rw f
 
 pub keep_made : (b n next : ℕ) (c : Columns) {d o : Bool} {f : Form} → d ≡ deep n → o ≡ (d || c.over) → f ≡ keep_of c.order
-    → ◌≡◌ {A = Own} (record { ok = true; next = next; over = o; unknown = c.unknown; repeated = c.repeated; words = b; lefts = c.mask; rights = 0; form = f })
+    → ◌≡◌ {A = Own} (record { next = next; over = o; unknown = c.unknown; repeated = c.repeated; words = b; lefts = c.mask; rights = 0; form = f })
     (keep_own b n c.over c.unknown c.repeated c.mask c.order next)
 unfolding keep_own
 keep_made b n next c e f g = rw (f, e, g)
 
 pub join_made : (b n left right next : ℕ) (over : Bool) {d o u : Bool} → d ≡ deep n → o ≡ (d || over) → u ≡ (eqb left 28 || eqb right 28)
-    → ◌≡◌ {A = Own} (record { ok = true; next = next; over = o; unknown = u; repeated = false; words = b; lefts = 0; rights = 0; form = record { kind = 3; first = left; second = right; third = 0; fourth = 0 } })
+    → ◌≡◌ {A = Own} (record { next = next; over = o; unknown = u; repeated = false; words = b; lefts = 0; rights = 0; form = record { kind = 3; first = left; second = right; third = 0; fourth = 0 } })
     (join_own b n over left right next)
 unfolding join_own
 join_made b n left right next over e f g = rw (f, e, g)
 
 pub aggregate_made : (b n fn code next : ℕ) (size offset : Time) (over : Bool) {d o v w : Bool} → v ≡ (size.beyond || offset.beyond) → d ≡ deep n → w ≡ (over || v) → o ≡ (d || w)
-    → ◌≡◌ {A = Own} (record { ok = true; next = next; over = o; unknown = eqb code 28; repeated = false; words = b; lefts = 0; rights = 0; form = record { kind = 4; first = fn; second = code; third = size.value; fourth = offset.value } })
+    → ◌≡◌ {A = Own} (record { next = next; over = o; unknown = eqb code 28; repeated = false; words = b; lefts = 0; rights = 0; form = record { kind = 4; first = fn; second = code; third = size.value; fourth = offset.value } })
     (aggregate_own b n over fn code size offset next)
 unfolding aggregate_own
 aggregate_made b n fn code next size offset over e f g h = rw (h, f, g, e)
@@ -134,14 +134,14 @@ over_all false false = refl
 
 module _ (r : Reading) (o : Own) {u t : Bool} (f : u ≡ (r.unknown || o.unknown)) (g : t ≡ (r.repeated || o.repeated)) where
   pub own_full : 12 ≤ r.count → r.count ≤ 12
-      → record { ok = r.ok; next = r.next; over = true; unknown = u; repeated = t; words = o.words; count = r.count; forms = r.forms; lefts = r.lefts; rights = r.rights } ≡ with_own r o
+      → record { next = r.next; over = true; unknown = u; repeated = t; words = o.words; count = r.count; forms = r.forms; lefts = r.lefts; rights = r.rights } ≡ with_own r o
   unfolding with_own put_at
   own_full h k =
       let z : min (suc r.count) 12 ≡ r.count = omega arith in
       rw (f, g, z, le-leb 12 r.count h, over_all r.over o.over, le-ltb r.count 12 h)
 
   pub own_room : {v : Bool} → v ≡ (r.over || o.over) → r.count < 12
-      → record { ok = r.ok; next = r.next; over = v; unknown = u; repeated = t; words = o.words; count = r.count + 1; forms = set r.forms r.count o.form; lefts = set r.lefts r.count o.lefts; rights = set r.rights r.count o.rights } ≡ with_own r o
+      → record { next = r.next; over = v; unknown = u; repeated = t; words = o.words; count = r.count + 1; forms = set r.forms r.count o.form; lefts = set r.lefts r.count o.lefts; rights = set r.rights r.count o.rights } ≡ with_own r o
   unfolding with_own put_at
   own_room e h =
       let z : min (suc r.count) 12 ≡ r.count + 1 = omega arith in
@@ -151,11 +151,7 @@ pub ruleset with_ends = (own_full, own_room)
 
 -- ---- nothing
 
-pub own_nothing : {f : Form} → f ≡ no_form → ◌≡◌ {A = Own} (record { ok = false; next = 0; over = false; unknown = false; repeated = false; words = 0; lefts = 0; rights = 0; form = f }) no_own
-unfolding no_own
-own_nothing e = rw e
-
 pub reading_nothing : {f : Form} → f ≡ no_form
-    → ◌≡◌ {A = Reading} (record { ok = false; next = 0; over = false; unknown = false; repeated = false; words = 0; count = 0; forms = replicate 12 f; lefts = replicate 12 0; rights = replicate 12 0 }) no_reading
+    → ◌≡◌ {A = Reading} (record { next = 0; over = false; unknown = false; repeated = false; words = 0; count = 0; forms = replicate 12 f; lefts = replicate 12 0; rights = replicate 12 0 }) no_reading
 unfolding no_reading
 reading_nothing e = rw e

@@ -8,13 +8,13 @@ use native.Mathlib.Omega.{arith}
 use lib.Dec.{eqb}
 use lib.ListN.{length, drop, get_or, length-append}
 use borrow.Author.Tests.{eqb-true, eqb-false}
-use Rattle.lists.proofs.Laws.{never}
 use Rattle.syntax.specs.Grammar as G
 use Rattle.syntax.specs.Grammar.{Bytes, Form, Fn, Ref, fn_word, put_open}
 use Rattle.syntax.specs.Readers.{Read, Reader, bind, ◌>>=◌, ◌>>◌, give, byte, read_head, read_open, read_name, read_int, read_ref, form_next, Kind, k_in, k_pick, k_keep, k_join, k_fn, kind_word, kinds, read_rest}
 use Rattle.syntax.proofs.Steps.{from, done, bind_bind, head_read}
 use Rattle.syntax.proofs.Conditions.{cond_read}
 use Rattle.syntax.proofs.Leaving.{Leaves, left_within, ends_both, byte_less, leaves_byte, leaves_item, leaves_give, head_leaves, open_leaves, name_leaves, int_leaves, ref_leaves}
+use Rattle.text.specs.Words.{Found, Some, None}
 use Rattle.text.specs.Readings.{any_cond, any_some, any_form}
 use Rattle.text.proofs.Runs.{inside as in-text}
 use Rattle.text.proofs.Places.{byte_is, byte_not}
@@ -24,8 +24,9 @@ use Rattle.conditions.specs.Seeing.{nodes_of}
 use Rattle.conditions.proofs.Capacity.{cond_bytes}
 use Rattle.conditions.proofs.Skipping.{stack}
 use Rattle.query_read.specs.declared.Next.{Next}
+use Rattle.query_read.specs.declared.Next.TheVariants.{Ended, Inside}
 use Rattle.query_read.specs.Parts.{Part, rows, pick, keep, join, aggregate, Inner, inner, parts, read_part, read_own}
-use Rattle.query_read.specs.Steps.{stuck, after_form}
+use Rattle.query_read.specs.Steps.{after_form}
 
 -- ---- a form by its own part and the forms inside it
 
@@ -235,70 +236,56 @@ close_none : (second : List Bool) (n : ℕ) (bs : Bytes) → get_or second n fal
 unfolding stack rest bind
 close_none second n bs v e = rw (v, e)
 
+pub record Goes (s : Bytes) (second : List Bool) (p n q m : ℕ) : Type 0 where
+  pub least : 0 < m
+  pub on : rest (stack second n) (drop p s) ≡ within (false ∷ stack second (m - 1)) (drop q s)
+  pub fewer : m ≤ n
+  pub forward : p < q
+  pub inside : q ≤ length s
+
+unfoldable pub After : Bytes → List Bool → ℕ → ℕ → Found Next → Type 0
+After s second p n None = rest (stack second n) (drop p s) ≡ none
+After s second p n (Some (Ended q)) = (rest (stack second n) (drop p s) ≡ some (record { what = []; left = drop q s })) × (p ≤ q) × (q ≤ length s)
+After s second p n (Some (Inside q m)) = Goes s second p n q m
+
 module _ (s : Bytes) (second : List Bool) where
-  pub record After (p n : ℕ) (k : Next) : Type 0 where
-    pub halts : k.ok ≡ false → rest (stack second n) (drop p s) ≡ none
-    pub ends : k.ok ≡ true → k.nest ≡ 0 → rest (stack second n) (drop p s) ≡ some (record { what = []; left = drop k.at s })
-    pub goes : k.ok ≡ true → 0 < k.nest → rest (stack second n) (drop p s) ≡ within (false ∷ stack second (k.nest - 1)) (drop k.at s)
-    pub fewer : k.nest ≤ n
-    pub further : k.ok ≡ true → p ≤ k.at
-    pub forward : k.ok ≡ true → 0 < k.nest → p < k.at
-    pub inside : k.ok ≡ true → k.at ≤ length s
+  after_end : (p : ℕ) → p ≤ length s → After s second p 0 (Some (Ended p))
+  unfolding After stack rest
+  after_end p h = (refl, omega arith, h)
 
-  after_stuck : (p n : ℕ) → rest (stack second n) (drop p s) ≡ none → After p n stuck
-  unfolding stuck
-  after_stuck p n e = record { halts = λ h. e; ends = λ h. never (sym h); goes = λ h. never (sym h); fewer = omega arith; further = λ h. never (sym h); forward = λ h. never (sym h); inside = λ h. never (sym h) }
+  after_close : (p n : ℕ) (k : Found Next) → get_or second n false ≡ false → get_or s p 0 ≡ 41 → After s second (p + 1) n k → After s second p (suc n) k
+  unfolding After stack rest bind
+  after_close p n k v z a = go k a
+    where
+      d : byte 41 (drop p s) ≡ some (record { what = tt; left = drop (p + 1) s })
+      d = byte_is s p refl 41 z (omega arith)
 
-  after_end : (p : ℕ) → p ≤ length s → After p 0 (record { ok = true; at = p; nest = 0 })
-  unfolding stack rest
-  after_end p h = record { halts = λ e. never e; ends = λ e f. refl; goes = λ e f. absurd (omega arith); fewer = omega arith; further = λ e. omega arith; forward = λ e f. absurd (omega arith); inside = λ e. h }
+      go : (k : Found Next) → After s second (p + 1) n k → After s second p (suc n) k
+      go None a = rw (v, d) a
+      go (Some (Ended q)) a = let f = a.1 in (rw (v, d) a.0, omega arith, a.2)
+      go (Some (Inside q m)) a = let f = a.fewer in let g = a.forward in record { least = a.least; on = rw (v, d) a.on; fewer = omega arith; forward = omega arith; inside = a.inside }
 
-  after_close : (p n : ℕ) (k : Next) → get_or second n false ≡ false → get_or s p 0 ≡ 41 → After (p + 1) n k → After p (suc n) k
-  unfolding stack rest bind
-  after_close p n k v z a =
-      let d = byte_is s p refl 41 z (omega arith) in
-      record {
-        halts = λ e. rw (v, d) (a.halts e);
-        ends = λ e f. rw (v, d) (a.ends e f);
-        goes = λ e f. rw (v, d) (a.goes e f);
-        fewer = let f = a.fewer in omega arith;
-        further = λ e. let f = a.further e in omega arith;
-        forward = λ e g. let f = a.forward e g in omega arith;
-        inside = λ e. a.inside e;
-      }
-
-  after_space : (p n : ℕ) → get_or second n false ≡ true → get_or s p 0 ≡ 32 → After p (suc n) (record { ok = true; at = p + 1; nest = suc n })
-  unfolding stack rest within bind
+  after_space : (p n : ℕ) → get_or second n false ≡ true → get_or s p 0 ≡ 32 → After s second p (suc n) (Some (Inside (p + 1) (suc n)))
+  unfolding After stack rest within bind
   after_space p n v z =
       let d = byte_is s p refl 32 z (omega arith) in
       let l = in-text s p (omega arith) in
       let m : suc n - 1 ≡ n = omega arith in
-      record {
-        halts = λ e. never e;
-        ends = λ e f. absurd (omega arith);
-        goes = λ e f. rw (v, d, m);
-        fewer = omega arith;
-        further = λ e. omega arith;
-        forward = λ e f. omega arith;
-        inside = λ e. omega arith;
-      }
+      record { least = omega arith; on = rw (v, d, m); fewer = omega arith; forward = omega arith; inside = omega arith }
 
-  pub after_law : (n p : ℕ) → p ≤ length s → After p n (after_form s second p n)
-  unfolding after_form
+  pub after_law : (n p : ℕ) → p ≤ length s → After s second p n (after_form s second p n)
+  unfolding After after_form
   after_law zero p h = after_end p h
   after_law (suc n) p h = go (λ l. after_law n (p + 1) l) (get_or second n false) refl (eqb (get_or s p 0) 32) refl (eqb (get_or s p 0) 41) refl
     where
-      spaceless : get_or second n false ≡ true → (get_or s p 0 ≡ 32 → ⊥) → After p (suc n) stuck
-      spaceless v f = after_stuck p (suc n) (shut v (byte_not s p refl 32 f))
-        where
-          shut : get_or second n false ≡ true → byte 32 (drop p s) ≡ none → rest (stack second (suc n)) (drop p s) ≡ none
-          shut v e = open_none second n (drop p s) v e
+      spaceless : get_or second n false ≡ true → (get_or s p 0 ≡ 32 → ⊥) → After s second p (suc n) None
+      spaceless v f = open_none second n (drop p s) v (byte_not s p refl 32 f)
 
-      closeless : get_or second n false ≡ false → (get_or s p 0 ≡ 41 → ⊥) → After p (suc n) stuck
-      closeless v f = after_stuck p (suc n) (close_none second n (drop p s) v (byte_not s p refl 41 f))
+      closeless : get_or second n false ≡ false → (get_or s p 0 ≡ 41 → ⊥) → After s second p (suc n) None
+      closeless v f = close_none second n (drop p s) v (byte_not s p refl 41 f)
 
-      go : (p + 1 ≤ length s → After (p + 1) n (after_form s second (p + 1) n)) → (v : Bool) → get_or second n false ≡ v → (a : Bool) → eqb (get_or s p 0) 32 ≡ a → (b : Bool) → eqb (get_or s p 0) 41 ≡ b
-          → After p (suc n) (cond v (cond a (record { ok = true; at = p + 1; nest = suc n }) stuck) (cond b (after_form s second (p + 1) n) stuck))
+      go : (p + 1 ≤ length s → After s second (p + 1) n (after_form s second (p + 1) n)) → (v : Bool) → get_or second n false ≡ v → (a : Bool) → eqb (get_or s p 0) 32 ≡ a → (b : Bool) → eqb (get_or s p 0) 41 ≡ b
+          → After s second p (suc n) (cond v (cond a (Some (Inside (p + 1) (suc n))) None) (cond b (after_form s second (p + 1) n) None))
       go r true v true a b c = after_space p n v (eqb-true (get_or s p 0) 32 a)
       go r true v false a b c = spaceless v (eqb-false (get_or s p 0) 32 a)
       go r false v a d true c =

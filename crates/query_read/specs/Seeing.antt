@@ -1,5 +1,5 @@
 -- What is read of the forms of a query: what is wrong with them by themselves, the table of them, and the words of their conditions.
-use Rattle.std.specs.Prelude.{◌≡◌, List, [], ◌∷◌, map, Bool, true, false, ◌||◌, not, cond, ℕ, suc, ◌+◌, ◌-◌, min, ℤ, leb, ltb, eqb, length, drop, set, replicate}
+use Rattle.std.specs.Prelude.{◌≡◌, List, [], ◌∷◌, map, Bool, false, ◌||◌, not, cond, ℕ, suc, ◌+◌, ◌-◌, min, ℤ, leb, ltb, eqb, length, drop, set, replicate}
 use Rattle.std.proofs.Math.Option.{Option, none, some}
 use Rattle.lists.specs.Lists.{some?, every}
 use Rattle.syntax.specs.Grammar.{Bytes, Test, Cond, Form, fn_number}
@@ -7,6 +7,7 @@ use Rattle.syntax.specs.Limits.{max_line, max_depth, max_forms, max_streams, sho
 use Rattle.syntax.specs.Readers.{Read}
 use Rattle.model.specs.Conditions.{tests}
 use Rattle.calls.specs.Names.{form_conds}
+use Rattle.text.specs.Words.{Found, Some, None, seen, left_at}
 use Rattle.text.specs.Readings.{any_form}
 use Rattle.text.specs.declared.Time.{Time}
 use Rattle.masks.specs.Masks.{mask_of}
@@ -42,14 +43,10 @@ span_of z = record { beyond = not (not_above z); value = span_kept z }
 unfoldable pub no_form : Q.Form
 no_form = record { kind = 0; first = 0; second = 0; third = 0; fourth = 0 }
 
-unfoldable pub no_own : Own
-no_own = record { ok = false; next = 0; over = false; unknown = false; repeated = false; words = 0; lefts = 0; rights = 0; form = no_form }
-
 -- a stream's rows: whether its name is too long and where it stands
 unfoldable pub rows_own : ℕ → ℕ → Bool → ℕ → ℕ → Own
 rows_own b n long place next =
     record {
-      ok = true;
       next = next;
       over = deep n || long;
       unknown = eqb place max_streams;
@@ -64,7 +61,6 @@ rows_own b n long place next =
 unfoldable pub pick_own : Seen → ℕ → Own
 pick_own i next =
     record {
-      ok = true;
       next = next;
       over = i.deep || i.over;
       unknown = i.unknown;
@@ -78,7 +74,6 @@ pick_own i next =
 unfoldable pub keep_own : ℕ → ℕ → Bool → Bool → Bool → ℕ → ℕ → ℕ → Own
 keep_own b n over unknown repeated mask order next =
     record {
-      ok = true;
       next = next;
       over = deep n || over;
       unknown = unknown;
@@ -92,7 +87,6 @@ keep_own b n over unknown repeated mask order next =
 unfoldable pub join_own : ℕ → ℕ → Bool → ℕ → ℕ → ℕ → Own
 join_own b n over left right next =
     record {
-      ok = true;
       next = next;
       over = deep n || over;
       unknown = eqb left unknown_code || eqb right unknown_code;
@@ -106,7 +100,6 @@ join_own b n over left right next =
 unfoldable pub aggregate_own : ℕ → ℕ → Bool → ℕ → ℕ → Time → Time → ℕ → Own
 aggregate_own b n over fn code size offset next =
     record {
-      ok = true;
       next = next;
       over = deep n || (over || (size.beyond || offset.beyond));
       unknown = eqb code unknown_code;
@@ -130,12 +123,11 @@ own_of ns b n (keep rs) next =
 own_of ns b n (join a c) next = join_own b n (not (short_ref a) || not (short_ref c)) (ref_code ns a) (ref_code ns c) next
 own_of ns b n (aggregate f c size offset) next = aggregate_own b n (not (short_ref c)) (fn_number f) (ref_code ns c) (span_of size) (span_of offset) next
 
-unfoldable pub own_read : List ℕ → Bytes → ℕ → ℕ → Option (Read Part) → Own
-own_read ns s b n none = no_own
-own_read ns s b n (some r) = own_of ns b n r.what (length s - length r.left)
+unfoldable pub own_seen : List ℕ → Bytes → ℕ → ℕ → Read Part → Own
+own_seen ns s b n r = own_of ns b n r.what (left_at s r)
 
-unfoldable pub own_at : List ℕ → Bytes → ℕ → ℕ → ℕ → Own
-own_at ns s b n at = own_read ns s b n (read_own (drop at s))
+unfoldable pub own_at : List ℕ → Bytes → ℕ → ℕ → ℕ → Found Own
+own_at ns s b n at = seen (own_seen ns s b n) (read_own (drop at s))
 
 -- the words of its condition
 unfoldable pub part_stored : List ℕ → ℕ → Part → List ℕ → List ℕ
@@ -159,7 +151,6 @@ put_at xs n x = cond (ltb n max_forms) (set xs n x) xs
 unfoldable pub with_own : Reading → Own → Reading
 with_own r o =
     record {
-      ok = r.ok;
       next = r.next;
       over = r.over || (o.over || leb max_forms r.count);
       unknown = r.unknown || o.unknown;
@@ -178,10 +169,10 @@ unfoldable pub with_parts : List ℕ → Reading → List Inner → Reading
 with_parts ns r [] = r
 with_parts ns r (i ∷ is) = with_parts ns (with_part ns r i) is
 
+-- none yet
 unfoldable pub no_reading : Reading
 no_reading =
     record {
-      ok = false;
       next = 0;
       over = false;
       unknown = false;
@@ -196,11 +187,10 @@ no_reading =
 -- what is read, where the outermost form ends at a place
 unfoldable pub reading_ended : Reading → ℕ → Reading
 reading_ended r at =
-    record { ok = true; next = at; over = r.over; unknown = r.unknown; repeated = r.repeated; words = r.words; count = r.count; forms = r.forms; lefts = r.lefts; rights = r.rights }
+    record { next = at; over = r.over; unknown = r.unknown; repeated = r.repeated; words = r.words; count = r.count; forms = r.forms; lefts = r.lefts; rights = r.rights }
 
-unfoldable pub form_read : List ℕ → Bytes → Option (Read Form) → Reading
-form_read ns s none = no_reading
-form_read ns s (some q) = reading_ended (with_parts ns no_reading (parts 0 q.what)) (length s - length q.left)
+unfoldable pub form_seen : List ℕ → Bytes → Read Form → Reading
+form_seen ns s q = reading_ended (with_parts ns no_reading (parts 0 q.what)) (left_at s q)
 
 unfoldable pub form_stored : List ℕ → Option (Read Form) → List ℕ → List ℕ
 form_stored ns none ws = ws
@@ -215,7 +205,7 @@ unfoldable pub readable : Bytes → List ℕ → Bool
 readable s ws = cond (ltb max_line (length s)) false (leb max_words (length ws))
 
 -- what is read of the form at a place, and the words with its conditions where nothing of it is out of bounds
-pub record FormRead (ns : List ℕ) (s : Bytes) (at : ℕ) (ws ws' : List ℕ) (r : Reading) : Type 0 where
-  pub is : r ≡ cond (readable s ws) (form_read ns s (any_form (drop at s))) no_reading
-  pub stored : r.ok ≡ true → r.over ≡ false → ws' ≡ form_stored ns (any_form (drop at s)) ws
+pub record FormRead (ns : List ℕ) (s : Bytes) (at : ℕ) (ws ws' : List ℕ) (r : Found Reading) : Type 0 where
+  pub is : r ≡ cond (readable s ws) (seen (form_seen ns s) (any_form (drop at s))) None
+  pub stored : (x : Reading) → r ≡ Some x → x.over ≡ false → ws' ≡ form_stored ns (any_form (drop at s)) ws
   pub kept : length ws' ≡ length ws

@@ -5,21 +5,20 @@ ghost use Rattle.std.specs.Prelude.{◌≡◌, ◌+◌, ◌*◌, ◌≤◌, ◌<
 ghost use Rattle.syntax.specs.Grammar.{numbered_fn};
 ghost use Rattle.syntax.specs.Limits.{max_line, max_forms};
 ghost use Rattle.syntax.specs.Readers.{k_in, k_pick, k_keep, k_join, k_fn};
-ghost use Rattle.query_read.specs.Seeing.{deep, level, span_of, no_form, no_own, rows_own, pick_own, keep_own, join_own, aggregate_own, with_own, no_reading, reading_ended, max_words, FormRead};
-ghost use Rattle.query_read.specs.Steps.{part_at, PartRead, OwnRead, max_open, stuck, after_form};
+ghost use Rattle.query_read.specs.Seeing.{deep, level, span_of, no_form, rows_own, pick_own, keep_own, join_own, aggregate_own, with_own, no_reading, reading_ended, max_words, FormRead};
+ghost use Rattle.query_read.specs.Steps.{part_at, PartRead, OwnRead, max_open, after_form};
 
 use columns::Columns;
 use conditions::Seen;
 use query::{Form, Query};
 use schema::Stream;
 use terms::Term;
-use text::{Line, Number, Time, Word};
+use text::{Line, Number, NumberAt, Time, Word};
 
 // One form by itself, up to its closing bracket or to the form inside it. `over`: it is out of bounds. `words` words are stored after it;
 // `lefts` and `rights` are the codes of its condition's terms as bits, and `lefts` those of a keep's columns.
 #[derive(Clone, Copy)]
 pub struct Own {
-    pub ok: bool,
     pub next: usize,
     pub over: bool,
     pub unknown: bool,
@@ -40,7 +39,6 @@ pub struct Spans {
 // The forms of a query, the first Query::FORMS of them in a table, and what is wrong with them by themselves.
 #[derive(Clone, Copy)]
 pub struct Reading {
-    pub ok: bool,
     pub next: usize,
     pub over: bool,
     pub unknown: bool,
@@ -66,12 +64,11 @@ impl Reading {
     }
 }
 
-// Where the next form begins, inside how many; `nest` 0: where the outermost ended.
+// After a form: the outermost ended at a place, or the next one begins there, with so many forms open.
 #[derive(Clone, Copy)]
-pub struct Next {
-    pub ok: bool,
-    pub at: usize,
-    pub nest: usize,
+pub enum Next {
+    Ended(usize),
+    Inside { at: usize, nest: usize },
 }
 
 impl Next {
@@ -93,24 +90,6 @@ fn no_form() -> Form
     }
 }
 
-// No form was read.
-fn no_own() -> Own
-    ensures { result ≡ no_own }
-{
-    let form = no_form();
-    Own {
-        ok: false,
-        next: 0,
-        over: false,
-        unknown: false,
-        repeated: false,
-        words: 0,
-        lefts: 0,
-        rights: 0,
-        form: form,
-    }
-}
-
 // Whether a form inside n others nests too deep by its own bracket.
 fn is_deep(n: usize) -> bool
     ensures { result ≡ deep n }
@@ -129,7 +108,7 @@ fn level(n: usize) -> u32
 }
 
 // A SIZE or an OFFSET up to the highest, and else 0; below 0 it counts as 0.
-fn span_of(n: Number) -> Time
+fn span_of(n: NumberAt) -> Time
     ensures { result ≡ span_of n.value }
 {
     let v = n.value;
@@ -164,7 +143,6 @@ fn rows_own(b: u32, n: usize, long: bool, place: u32, next: usize) -> Own
         fourth: 0,
     };
     Own {
-        ok: true,
         next: next,
         over: over,
         unknown: place == Stream::MOST as u32,
@@ -189,7 +167,6 @@ fn pick_own(i: Seen, next: usize) -> Own
         fourth: 0,
     };
     Own {
-        ok: true,
         next: next,
         over: over,
         unknown: i.unknown,
@@ -208,7 +185,6 @@ fn keep_own(b: u32, n: usize, c: Columns, next: usize) -> Own
     let over = text::either(is_deep(n), c.over);
     let form = Form::keep(c.order);
     Own {
-        ok: true,
         next: next,
         over: over,
         unknown: c.unknown,
@@ -234,7 +210,6 @@ fn join_own(b: u32, n: usize, over: bool, left: u32, right: u32, next: usize) ->
         fourth: 0,
     };
     Own {
-        ok: true,
         next: next,
         over: bound,
         unknown: unknown,
@@ -260,7 +235,6 @@ fn aggregate_own(b: u32, n: usize, over: bool, f: u32, code: u32, spans: Spans, 
         fourth: spans.offset.value,
     };
     Own {
-        ok: true,
         next: next,
         over: bound,
         unknown: code == Term::UNKNOWN,
@@ -273,145 +247,84 @@ fn aggregate_own(b: u32, n: usize, over: bool, f: u32, code: u32, spans: Spans, 
 }
 
 // A stream's rows after `(in`.
-fn rows_at(s: &[u8], at: usize, names: &[u64], b: u32, n: usize) -> Own
+fn rows_at(s: &[u8], at: usize, names: &[u64], b: u32, n: usize) -> Option<Own>
     ensures { result ≡ part_at names.now s.now b n k_in at }
 {
-    if text::byte(s, at) != b' ' {
-        return no_own();
-    }
-    let m = text::name_at(s, at + 1);
-    if !m.ok {
-        return no_own();
-    }
-    let p = m.next;
-    if text::byte(s, p) != b')' {
-        return no_own();
-    }
+    let p = text::skip(s, at, b' ')?;
+    let m = text::read_name(s, p)?;
+    let end = text::skip(s, m.next, b')')?;
     let place = terms::stream_place(names, m.code);
-    rows_own(b, n, m.long, place, p + 1)
+    Some(rows_own(b, n, m.long, place, end))
 }
 
 // A pick after its first word, up to the form inside it, its condition's words after the first b.
-fn pick_at(s: &[u8], at: usize, names: &[u64], words: &mut [u32], b: u32, n: usize) -> Own
+fn pick_at(s: &[u8], at: usize, names: &[u64], words: &mut [u32], b: u32, n: usize) -> Option<Own>
     requires { (length s.now ≤ max_line) × (max_words ≤ length words.old) × (5 * b ≤ at) }
     ensures { PartRead names.now s.now b n k_pick at words.old words.new result }
 {
-    if text::byte(s, at) != b' ' {
-        return no_own();
-    }
-    let i = conditions::read_cond(s, at + 1, names, words, b, level(n));
-    if !i.ok {
-        return no_own();
-    }
-    let p = i.next;
-    if text::byte(s, p) != b' ' {
-        return no_own();
-    }
-    pick_own(i, p + 1)
+    let p = text::skip(s, at, b' ')?;
+    let i = conditions::read_cond(s, p, names, words, b, level(n))?;
+    let next = text::skip(s, i.next, b' ')?;
+    Some(pick_own(i, next))
 }
 
 // A keep after its first word, up to the form inside it.
-fn keep_at(s: &[u8], at: usize, names: &[u64], b: u32, n: usize) -> Own
+fn keep_at(s: &[u8], at: usize, names: &[u64], b: u32, n: usize) -> Option<Own>
     ensures { result ≡ part_at names.now s.now b n k_keep at }
 {
-    let c = columns::columns_at(s, at, names, true);
-    if !c.ok {
-        return no_own();
-    }
+    let c = columns::columns_at(s, at, names, true)?;
     let p = c.next;
     if p == at {
-        return no_own();
+        return None;
     }
-    keep_own(b, n, c, p + 1)
+    Some(keep_own(b, n, c, p + 1))
 }
 
 // A join after its first word, up to the first form inside it.
-fn join_at(s: &[u8], at: usize, names: &[u64], b: u32, n: usize) -> Own
+fn join_at(s: &[u8], at: usize, names: &[u64], b: u32, n: usize) -> Option<Own>
     ensures { result ≡ part_at names.now s.now b n k_join at }
 {
-    let o = text::part_at(s, at, Word::EQUAL);
-    if o == 0 {
-        return no_own();
-    }
-    if text::byte(s, o) != b' ' {
-        return no_own();
-    }
-    let l = terms::ref_at(s, o + 1);
-    if !l.ok {
-        return no_own();
-    }
-    let i = l.next;
-    if text::byte(s, i) != b' ' {
-        return no_own();
-    }
-    let r = terms::ref_at(s, i + 1);
-    if !r.ok {
-        return no_own();
-    }
-    let j = r.next;
-    if text::byte(s, j) != b')' {
-        return no_own();
-    }
-    let k = j + 1;
-    if text::byte(s, k) != b' ' {
-        return no_own();
-    }
+    let o = text::part(s, at, Word::EQUAL)?;
+    let p = text::skip(s, o, b' ')?;
+    let l = terms::ref_at(s, p)?;
+    let q = text::skip(s, l.next, b' ')?;
+    let r = terms::ref_at(s, q)?;
+    let end = text::skip(s, r.next, b')')?;
+    let next = text::skip(s, end, b' ')?;
     let left = terms::term_code(names, l.first, l.second);
     let right = terms::term_code(names, r.first, r.second);
     let over = text::either(l.over, r.over);
-    join_own(b, n, over, left, right, k + 1)
+    Some(join_own(b, n, over, left, right, next))
 }
 
 // An aggregate after its first word, up to the form inside it.
-fn aggregate_at(s: &[u8], at: usize, names: &[u64], f: u32, b: u32, n: usize) -> Own
+fn aggregate_at(s: &[u8], at: usize, names: &[u64], f: u32, b: u32, n: usize) -> Option<Own>
     requires { (1 ≤ f) × (f ≤ 5) }
     ensures { result ≡ part_at names.now s.now b n (k_fn (numbered_fn f)) at }
 {
-    if text::byte(s, at) != b' ' {
-        return no_own();
-    }
-    let c = terms::ref_at(s, at + 1);
-    if !c.ok {
-        return no_own();
-    }
-    let i = c.next;
-    if text::byte(s, i) != b' ' {
-        return no_own();
-    }
-    let z = text::number_at(s, i + 1);
-    if !z.ok {
-        return no_own();
-    }
-    let j = z.next;
-    if text::byte(s, j) != b' ' {
-        return no_own();
-    }
-    let w = text::number_at(s, j + 1);
-    if !w.ok {
-        return no_own();
-    }
-    let k = w.next;
-    if text::byte(s, k) != b' ' {
-        return no_own();
-    }
+    let p = text::skip(s, at, b' ')?;
+    let c = terms::ref_at(s, p)?;
+    let q = text::skip(s, c.next, b' ')?;
+    let z = text::read_number(s, q)?;
+    let r = text::skip(s, z.next, b' ')?;
+    let w = text::read_number(s, r)?;
+    let next = text::skip(s, w.next, b' ')?;
     let code = terms::term_code(names, c.first, c.second);
     let spans = Spans {
         size: span_of(z),
         offset: span_of(w),
     };
-    aggregate_own(b, n, c.over, f, code, spans, k + 1)
+    Some(aggregate_own(b, n, c.over, f, code, spans, next))
 }
 
 // The form at a place by itself, inside n others, its condition's words after the first b.
-fn own_at(s: &[u8], at: usize, names: &[u64], words: &mut [u32], b: u32, n: usize) -> Own
+fn own_at(s: &[u8], at: usize, names: &[u64], words: &mut [u32], b: u32, n: usize) -> Option<Own>
     requires { (length s.now ≤ max_line) × (max_words ≤ length words.old) × (5 * b ≤ at) }
     ensures { OwnRead names.now s.now b n at words.old words.new result }
 {
-    if text::byte(s, at) != b'(' {
-        return no_own();
-    }
-    let w = text::word_at(s, at + 1);
-    let k = Word::form(w.code);
+    let o = text::skip(s, at, b'(')?;
+    let w = text::read_word(s, o)?;
+    let k = w.as_form()?;
     let p = w.next;
     if k == Form::ROWS {
         return rows_at(s, p, names, b, n);
@@ -425,21 +338,17 @@ fn own_at(s: &[u8], at: usize, names: &[u64], words: &mut [u32], b: u32, n: usiz
     if k == Form::JOIN {
         return join_at(s, p, names, b, n);
     }
-    if k == Word::FORMLESS {
-        return no_own();
-    }
     aggregate_at(s, p, names, k - Form::AGGREGATE, b, n)
 }
 
 // ---- all forms
 
-// Nothing was read, or nothing yet.
+// No form is read yet.
 fn no_reading() -> Reading
     ensures { result ≡ no_reading }
 {
     let form = no_form();
     Reading {
-        ok: false,
         next: 0,
         over: false,
         unknown: false,
@@ -460,30 +369,24 @@ fn with_own(r: Reading, o: Own) -> Reading
     let unknown = text::either(r.unknown, o.unknown);
     let repeated = text::either(r.repeated, o.repeated);
     let at = r.count as usize;
-    let mut forms = r.forms;
-    let mut lefts = r.lefts;
-    let mut rights = r.rights;
     if Reading::FORMS <= at {
         return Reading {
-            ok: r.ok,
-            next: r.next,
             over: true,
             unknown: unknown,
             repeated: repeated,
             words: o.words,
-            count: r.count,
-            forms: forms,
-            lefts: lefts,
-            rights: rights,
+            ..r
         };
     }
+    let mut forms = r.forms;
+    let mut lefts = r.lefts;
+    let mut rights = r.rights;
     let form = o.form;
     forms[at] = form;
     lefts[at] = o.lefts;
     rights[at] = o.rights;
     let over = text::either(r.over, o.over);
     Reading {
-        ok: r.ok,
         next: r.next,
         over: over,
         unknown: unknown,
@@ -500,36 +403,11 @@ fn with_own(r: Reading, o: Own) -> Reading
 fn ended(r: Reading, at: usize) -> Reading
     ensures { result ≡ reading_ended r at }
 {
-    let forms = r.forms;
-    let lefts = r.lefts;
-    let rights = r.rights;
-    Reading {
-        ok: true,
-        next: at,
-        over: r.over,
-        unknown: r.unknown,
-        repeated: r.repeated,
-        words: r.words,
-        count: r.count,
-        forms: forms,
-        lefts: lefts,
-        rights: rights,
-    }
-}
-
-// No form goes on.
-fn stuck() -> Next
-    ensures { result ≡ stuck }
-{
-    Next {
-        ok: false,
-        at: 0,
-        nest: 0,
-    }
+    Reading { next: at, ..r }
 }
 
 // After a form that ended at a place: the brackets that close, up to where the next form begins or the outermost ends.
-fn after(s: &[u8], second: &[bool; Next::MOST], at: usize, nest: usize) -> Next
+fn after(s: &[u8], second: &[bool; Next::MOST], at: usize, nest: usize) -> Option<Next>
     requires { nest ≤ max_open }
     ensures { result ≡ after_form s.now second.now at nest }
 {
@@ -539,29 +417,21 @@ fn after(s: &[u8], second: &[bool; Next::MOST], at: usize, nest: usize) -> Next
         let b = text::byte(s, p);
         if second[n - 1] {
             if b != b' ' {
-                return stuck();
+                return None;
             }
-            return Next {
-                ok: true,
-                at: p + 1,
-                nest: n,
-            };
+            return Some(Next::Inside { at: p + 1, nest: n });
         }
         if b != b')' {
-            return stuck();
+            return None;
         }
         p += 1;
         n -= 1;
     }
-    Next {
-        ok: true,
-        at: p,
-        nest: 0,
-    }
+    Some(Next::Ended(p))
 }
 
 // The forms from a place on, where the line and the words have room.
-fn forms_at(s: &[u8], at: usize, names: &[u64], words: &mut [u32]) -> Reading
+fn forms_at(s: &[u8], at: usize, names: &[u64], words: &mut [u32]) -> Option<Reading>
     requires { (length s.now ≤ max_line) × (max_words ≤ length words.old) }
     ensures { FormRead names.now s.now at words.old words.new result }
 {
@@ -570,10 +440,7 @@ fn forms_at(s: &[u8], at: usize, names: &[u64], words: &mut [u32]) -> Reading
     let mut p = at;
     let mut r = no_reading();
     while p < s.len() {
-        let o = own_at(s, p, names, words, r.words, nest);
-        if !o.ok {
-            return no_reading();
-        }
+        let o = own_at(s, p, names, words, r.words, nest)?;
         r = with_own(r, o);
         let kind = o.form.kind;
         if kind != Form::ROWS {
@@ -582,30 +449,32 @@ fn forms_at(s: &[u8], at: usize, names: &[u64], words: &mut [u32]) -> Reading
             p = o.next;
             continue;
         }
-        let k = after(s, &second, o.next, nest);
-        if !k.ok {
-            return no_reading();
+        let k = after(s, &second, o.next, nest)?;
+        match k {
+            Next::Ended(end) => return Some(ended(r, end)),
+            Next::Inside {
+                at: next,
+                nest: open,
+            } => {
+                p = next;
+                nest = open;
+                second[nest - 1] = false;
+            }
         }
-        if k.nest == 0 {
-            return ended(r, k.at);
-        }
-        p = k.at;
-        nest = k.nest;
-        second[nest - 1] = false;
     }
-    no_reading()
+    None
 }
 
-// Returns the forms of the query at a place of a line, and the place after it; `ok` is false where there is none, the line is too long or fewer than Reading::WORDS words are lent.
+// Returns the forms of the query at a place of a line, and the place after it; None where there is none, the line is too long or fewer than Reading::WORDS words are lent.
 // Leaves the words of its conditions from the first word on, and all others as they were; where it is not read or out of bounds, as many words, of any value.
-pub fn read(s: &[u8], at: usize, names: &[u64], words: &mut [u32]) -> Reading
+pub fn read(s: &[u8], at: usize, names: &[u64], words: &mut [u32]) -> Option<Reading>
     ensures { FormRead names.now s.now at words.old words.new result }
 {
     if Line::BYTES < s.len() {
-        return no_reading();
+        return None;
     }
     if words.len() < Reading::WORDS {
-        return no_reading();
+        return None;
     }
     forms_at(s, at, names, words)
 }

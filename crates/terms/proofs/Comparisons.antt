@@ -1,21 +1,20 @@
 -- A comparison at a place as the code reads it.
-use mathlib.Core.Path.{◌≡◌, refl, sym, ◌∙◌}
+use mathlib.Core.Path.{◌≡◌, refl, sym, ap, ◌∙◌}
 use mathlib.Core.List.{List}
-use mathlib.Core.Bool.{true, false, not}
 use mathlib.Core.Option.{Option, none, some}
-use Prim.Native.Nat.{ℕ, ◌+◌, ◌-◌, ◌≤◌}
+use Prim.Native.Nat.{ℕ, ◌-◌, ◌≤◌}
 use native.Mathlib.Omega.{arith}
-use lib.ListN.{length, drop, get_or, length-drop}
+use lib.ListN.{length, drop, length-drop}
 use Rattle.syntax.specs.Grammar.{Bytes, eq, Ref, Operand, Test, Cond, test}
 use Rattle.syntax.specs.Readers.{Read, bind, ◌>>=◌, ◌>>◌, give, byte, read_ref, read_operand, read_test}
-use Rattle.text.proofs.Views.{view_none, view_some, view_left}
-use Rattle.text.proofs.Places.{byte_inside, space_is, space_not, close_is, close_not}
+use Rattle.text.specs.Words.{Found, Some, None, left_at, read_end}
+use Rattle.text.proofs.Views.{read_none, read_here, skip_none, skip_is, skip_within}
 use Rattle.terms.specs.declared.Reference.{Reference}
 use Rattle.terms.specs.declared.Term.{Term}
 use Rattle.terms.specs.declared.Comparison.{Comparison}
-use Rattle.terms.specs.Terms.{ref_read, ref_at, code_in, ref_code, operand_read, operand_at, test_over, left_code, right_code, test_value, no_comparison, comparison_of, comparison_from, comparison_read, comparison_at, compared}
-use Rattle.terms.proofs.References.{ref_view}
-use Rattle.terms.proofs.Operands.{operand_view}
+use Rattle.terms.specs.Terms.{ref_seen, ref_at, code_in, ref_code, operand_seen, operand_at, test_over, left_code, right_code, test_value, comparison_of, comparison_from, comparison_read, comparison_at, compared}
+use Rattle.terms.proofs.References.{ref_reading}
+use Rattle.terms.proofs.Operands.{operand_reading}
 
 -- ---- the reader, step by step
 
@@ -37,71 +36,64 @@ test_steps bs = refl
 
 module _ (ns : List ℕ) (s : Bytes) (at : ℕ) where
   -- where nothing is read
-  missing : {x : Comparison} → read_test eq (drop at s) ≡ none → x ≡ no_comparison → x ≡ comparison_at ns s at
+  missing : read_test eq (drop at s) ≡ none → None ≡ comparison_at ns s at
   unfolding comparison_at comparison_read
-  missing e d = d ∙ sym (rw e)
+  missing e = sym (rw e)
 
   -- where a comparison is read, up to a place
-  made : (a : Read Ref) (w : Read Operand) (i : ℕ) {l : Reference} {c : ℕ} {t : Term} → i ≤ length s → l ≡ ref_read s (some a) → c ≡ code_in ns l.first l.second → t ≡ operand_read ns s (some w)
-      → read_test eq (drop at s) ≡ some (record { what = test (record { op = eq; left = a.what; right = w.what }); left = drop i s }) → compared l c t i ≡ comparison_at ns s at
-  unfolding comparison_at comparison_read comparison_from comparison_of compared ref_read operand_read test_over left_code right_code test_value ref_code
+  made : (a : Read Ref) (w : Read Operand) (i : ℕ) {l : Reference} {c : ℕ} {t : Term} → i ≤ length s → l ≡ ref_seen s a → c ≡ code_in ns l.first l.second → t ≡ operand_seen ns s w
+      → read_test eq (drop at s) ≡ some (record { what = test (record { op = eq; left = a.what; right = w.what }); left = drop i s }) → Some (compared l c t i) ≡ comparison_at ns s at
+  unfolding comparison_at comparison_read comparison_from comparison_of compared ref_seen operand_seen left_at test_over left_code right_code test_value ref_code
   made a w i g m k n e =
       let o : length s - length (drop i s) ≡ i = omega (arith, length-drop i s) in
       rw (k, m, n, e, o)
 
-  module _ {b : ℕ} (p : b ≡ get_or s at 0) where
-    pub test_unspaced : {x : Comparison} → (b ≡ 32 → ⊥) → x ≡ no_comparison → x ≡ comparison_at ns s at
+  pub test_unspaced : {x : Found Comparison} → None ≡ read_end s (byte 32 (drop at s)) → x ≡ None → x ≡ comparison_at ns s at
+  unfolding bind
+  test_unspaced p d = d ∙ missing (test_steps (drop at s) ∙ rw (skip_none s at 32 p))
+
+  module _ {p : ℕ} (sp : Some p ≡ read_end s (byte 32 (drop at s))) where
+    test_begun : read_test eq (drop at s) ≡ begun (drop p s)
     unfolding bind
-    test_unspaced f d = missing (test_steps (drop at s) ∙ rw (space_not s at p f)) d
+    test_begun = test_steps (drop at s) ∙ rw (skip_is s at 32 sp)
 
-    module _ (q : b ≡ 32) where
-      test_begun : read_test eq (drop at s) ≡ begun (drop (at + 1) s)
-      unfolding bind
-      test_begun = test_steps (drop at s) ∙ rw (space_is s at p q)
+    pub test_leftless : {x : Found Comparison} → None ≡ ref_at s p → x ≡ None → x ≡ comparison_at ns s at
+    unfolding begun bind ref_at ref_reading
+    test_leftless g d = d ∙ missing (test_begun ∙ rw (read_none (ref_reading s) p g))
 
-      module _ {l : Reference} (g : l ≡ ref_at s (at + 1)) where
-        pub test_leftless : {x : Comparison} → not l.ok ≡ true → x ≡ no_comparison → x ≡ comparison_at ns s at
-        unfolding begun bind ref_at ref_view
-        test_leftless v d = missing (test_begun ∙ rw (view_none (ref_view s) (at + 1) g v)) d
+    module _ {l : Reference} (g : Some l ≡ ref_at s p) where
+      test_spaced : {X : Type 0} → ((a : Read Ref) → l ≡ ref_seen s a → read_test eq (drop at s) ≡ spaced a.what (drop l.next s) → X) → X
+      unfolding begun bind ref_at ref_reading
+      test_spaced f = read_here (ref_reading s) p g (λ x z m. f (record { what = x; left = drop l.next s }) m (test_begun ∙ rw z))
 
-        module _ (v : not l.ok ≡ false) {u : ℕ} (c : u ≡ get_or s l.next 0) where
-          test_spaced : {X : Type 0} → ((a : Read Ref) → l ≡ ref_read s (some a) → read_test eq (drop at s) ≡ spaced a.what (drop l.next s) → X) → X
-          unfolding begun bind ref_at ref_view
-          test_spaced f =
-              view_some (ref_view s) (at + 1) g v (λ a z m d.
-              f a m (test_begun ∙ rw (z, view_left (ref_view s) (at + 1) g v a z)))
+      pub test_joined : {x : Found Comparison} → None ≡ read_end s (byte 32 (drop l.next s)) → x ≡ None → x ≡ comparison_at ns s at
+      unfolding spaced bind
+      test_joined u d = test_spaced (λ a m h. d ∙ missing (h ∙ rw (skip_none s l.next 32 u)))
 
-          pub test_joined : {x : Comparison} → (u ≡ 32 → ⊥) → x ≡ no_comparison → x ≡ comparison_at ns s at
-          unfolding spaced bind
-          test_joined f d = test_spaced (λ a m h. missing (h ∙ rw (space_not s l.next c f)) d)
+      module _ {q : ℕ} (sq : Some q ≡ read_end s (byte 32 (drop l.next s))) where
+        test_sided : {X : Type 0} → ((a : Read Ref) → l ≡ ref_seen s a → read_test eq (drop at s) ≡ sided a.what (drop q s) → X) → X
+        unfolding spaced bind
+        test_sided f = test_spaced (λ a m h. f a m (h ∙ rw (skip_is s l.next 32 sq)))
 
-          module _ (e : u ≡ 32) where
-            test_sided : {X : Type 0} → ((a : Read Ref) → l ≡ ref_read s (some a) → read_test eq (drop at s) ≡ sided a.what (drop (l.next + 1) s) → X) → X
-            unfolding spaced bind
-            test_sided f = test_spaced (λ a m h. f a m (h ∙ rw (space_is s l.next c e)))
+        pub test_rightless : {x : Found Comparison} → None ≡ operand_at ns s q → x ≡ None → x ≡ comparison_at ns s at
+        unfolding sided bind operand_at operand_reading
+        test_rightless r d = test_sided (λ a m h. d ∙ missing (h ∙ rw (read_none (operand_reading ns s) q r)))
 
-            module _ {t : Term} (r : t ≡ operand_at ns s (l.next + 1)) where
-              pub test_rightless : {x : Comparison} → not t.ok ≡ true → x ≡ no_comparison → x ≡ comparison_at ns s at
-              unfolding sided bind operand_at operand_view
-              test_rightless j d = test_sided (λ a m h. missing (h ∙ rw (view_none (operand_view ns s) (l.next + 1) r j)) d)
+        module _ {t : Term} (r : Some t ≡ operand_at ns s q) where
+          test_closed : {X : Type 0} → ((a : Read Ref) (w : Read Operand) → l ≡ ref_seen s a → t ≡ operand_seen ns s w
+              → read_test eq (drop at s) ≡ closed a.what w.what (drop t.next s) → X) → X
+          unfolding sided bind operand_at operand_reading
+          test_closed f =
+              test_sided (λ a m h. read_here (operand_reading ns s) q r (λ x z i.
+              f a (record { what = x; left = drop t.next s }) m i (h ∙ rw z)))
 
-              module _ (j : not t.ok ≡ false) {k : ℕ} (y : k ≡ get_or s t.next 0) where
-                test_closed : {X : Type 0} → ((a : Read Ref) (w : Read Operand) → l ≡ ref_read s (some a) → t ≡ operand_read ns s (some w)
-                    → read_test eq (drop at s) ≡ closed a.what w.what (drop t.next s) → X) → X
-                unfolding sided bind operand_at operand_view
-                test_closed f =
-                    test_sided (λ a m h. view_some (operand_view ns s) (l.next + 1) r j (λ w z i d.
-                    f a w m i (h ∙ rw (z, view_left (operand_view ns s) (l.next + 1) r j w z))))
+          pub test_unclosed : {x : Found Comparison} → None ≡ read_end s (byte 41 (drop t.next s)) → x ≡ None → x ≡ comparison_at ns s at
+          unfolding closed bind
+          test_unclosed u d = test_closed (λ a w m i h. d ∙ missing (h ∙ rw (skip_none s t.next 41 u)))
 
-                pub test_unclosed : {x : Comparison} → (k ≡ 41 → ⊥) → x ≡ no_comparison → x ≡ comparison_at ns s at
-                unfolding closed bind
-                test_unclosed f d = test_closed (λ a w m i h. missing (h ∙ rw (close_not s t.next y f)) d)
-
-                pub test_whole : {o : ℕ} {x : Comparison} → k ≡ 41 → o ≡ code_in ns l.first l.second → x ≡ compared l o t (t.next + 1) → x ≡ comparison_at ns s at
-                unfolding closed bind
-                test_whole z n d =
-                    test_closed (λ a w m i h.
-                    let f = byte_inside s t.next y z (omega arith) in
-                    d ∙ made a w (t.next + 1) (omega arith) m n i (h ∙ rw (close_is s t.next y z)))
+          pub test_whole : {e o : ℕ} {x : Comparison} → Some e ≡ read_end s (byte 41 (drop t.next s)) → o ≡ code_in ns l.first l.second → x ≡ compared l o t e → Some x ≡ comparison_at ns s at
+          unfolding closed bind
+          test_whole {e} u n d =
+              test_closed (λ a w m i h. ap Some d ∙ made a w e (skip_within s t.next 41 u) m n i (h ∙ rw (skip_is s t.next 41 u)))
 
 pub ruleset test_ends = (test_unspaced, test_leftless, test_joined, test_rightless, test_unclosed, test_whole)

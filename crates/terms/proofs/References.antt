@@ -1,57 +1,52 @@
 -- What stands at a place where a column may, as the code reads it.
 use mathlib.Core.Path.{◌≡◌, refl, sym, ap, ap₂, ◌∙◌}
-use mathlib.Core.Bool.{Bool, true, false, not}
-use mathlib.Core.Option.{none, some}
-use Prim.Native.Nat.{ℕ, ◌+◌, ◌-◌, ◌<◌}
-use native.Mathlib.Omega.{arith}
-use lib.Dec.{T, eqb, ltb, not_T}
-use lib.ListN.{length, drop, get_or, drop_of_length-le}
-use borrow.Author.Tests.{eq-eqb, ne_eqb, ltb-true, ltb-false, not-true, not-false}
+use mathlib.Core.List.{[], ◌∷◌}
+use mathlib.Core.Bool.{Bool, true, false, cond}
+use mathlib.Core.Option.{none, some, none-ne-some}
+use Prim.Native.Nat.{ℕ}
+use lib.Dec.{T, eqb, not_T}
+use lib.ListN.{drop}
+use borrow.Author.Tests.{eq-eqb, ne_eqb, not-true, not-false}
 use Rattle.lists.specs.Lists.{every, same_list}
 use Rattle.lists.proofs.Laws.{T_false, same_list→eq, not_both}
 use Rattle.syntax.specs.Grammar.{Bytes, bytes, Ref, dotted, time, figure, digit, letter, alnum, name?}
 use Rattle.syntax.specs.Limits.{short, short_ref}
-use Rattle.syntax.specs.Readers.{Read, bind, ensure, lone, read_dotted, after_name, read_ref}
+use Rattle.syntax.specs.Readers.{Read, bind, ensure, byte, lone, read_dotted, after_name, read_ref}
 use Rattle.syntax.proofs.Lexical as X
+use Rattle.syntax.proofs.Steps.{done}
 use Rattle.syntax.proofs.Leaving.{ref_leaves}
-use Rattle.text.specs.declared.Name.{Name}
-use Rattle.text.specs.Words as W
-use Rattle.text.specs.Words.{code_from, code_of, name_at}
+use Rattle.text.specs.declared.NameAt.{NameAt}
+use Rattle.text.specs.Words.{Found, Some, None, seen, left_at, read_end, code_from, code_of, name_seen, name_found}
 use Rattle.text.proofs.Codes.{names_same}
-use Rattle.text.proofs.Views.{View, view_none, view_some, view_left, name_view}
-use Rattle.text.proofs.Places.{byte_here, byte_inside}
+use Rattle.text.proofs.Views.{Reading, read_here, skip_none, skip_is, name_reading}
+use Rattle.text.proofs.Found.{name_none}
 use Rattle.items.specs.Items.{code_short}
 use Rattle.terms.specs.declared.Reference.{Reference}
-use Rattle.terms.specs.Terms.{first_code, second_code, ref_read, ref_at, no_ref, dotted_of, alone_of}
+use Rattle.terms.specs.Terms.{first_code, second_code, ref_seen, ref_at, dotted_of, alone_of}
 
-unfoldable pub ref_view : (s : Bytes) → View Ref Reference s
-unfolding ref_read
-ref_view s =
-    record {
-      item = read_ref;
-      leaves = ref_leaves;
-      seen = ref_read s;
-      ok = λ r. r.ok;
-      next = λ r. r.next;
-      unseen = refl;
-      ok_seen = λ a. refl;
-      next_seen = λ a. refl;
-    }
+unfoldable pub ref_reading : (s : Bytes) → Reading Ref Reference s
+unfolding ref_seen
+ref_reading s = record { item = read_ref; leaves = ref_leaves; made = ref_seen s; next = λ r. r.next; next_made = λ a. refl }
 
 -- ---- what follows a name
 
-module _ (w s : Bytes) (i : ℕ) where
-  after_dot : get_or s i 0 ≡ 46 → i < length s → after_name w (drop i s) ≡ read_dotted w (drop (i + 1) s)
-  unfolding after_name
-  after_dot e h = rw (byte_here s i h e)
+after_dot : (w bs l : Bytes) → byte 46 bs ≡ some (record { what = tt; left = l }) → after_name w bs ≡ read_dotted w l
+unfolding after_name byte ensure
+after_dot w [] l e = absurd (none-ne-some _ e)
+after_dot w (x ∷ xs) l e = go (eqb 46 x) e
+  where
+    go : (b : Bool) → ensure {A = Read (Unit {0})} b (record { what = tt; left = xs }) ≡ some (record { what = tt; left = l }) → cond b (read_dotted w xs) (lone w (x ∷ xs)) ≡ read_dotted w l
+    go true e = done (λ y. read_dotted w xs ≡ read_dotted w y.left) e refl
+    go false e = absurd (none-ne-some _ e)
 
-  after_other : (get_or s i 0 ≡ 46 → ⊥) → after_name w (drop i s) ≡ lone w (drop i s)
-  unfolding after_name
-  after_other f = go (ltb i (length s)) refl
-    where
-      go : (t : Bool) → ltb i (length s) ≡ t → after_name w (drop i s) ≡ lone w (drop i s)
-      go true t = rw (byte_here s i (ltb-true i (length s) t) refl, ne_eqb 46 (get_or s i 0) (λ e. f (sym e)))
-      go false t = rw (drop_of_length-le s (ltb-false i (length s) t))
+after_other : (w bs : Bytes) → byte 46 bs ≡ none → after_name w bs ≡ lone w bs
+unfolding after_name byte ensure
+after_other w [] e = refl
+after_other w (x ∷ xs) e = go (eqb 46 x) e
+  where
+    go : (b : Bool) → ensure {A = Read (Unit {0})} b (record { what = tt; left = xs }) ≡ none → cond b (read_dotted w xs) (lone w (x ∷ xs)) ≡ lone w (x ∷ xs)
+    go true e = absurd (none-ne-some _ (sym e))
+    go false e = refl
 
 -- ---- a name that stands alone
 
@@ -86,82 +81,76 @@ module _ (w l : Bytes) (t : T (name? w)) (u : T (short w)) where
 
 -- ---- each return
 
-two_names : (s : Bytes) (a w : Read Bytes) → dotted_of (W.name_read s (some a)) (W.name_read s (some w)) ≡ ref_read s (some (record { what = dotted a.what w.what; left = w.left }))
-unfolding dotted_of W.name_read ref_read short_ref first_code second_code code_short
+two_names : (s : Bytes) (a w : Read Bytes) → dotted_of (name_seen s a) (name_seen s w) ≡ ref_seen s (record { what = dotted a.what w.what; left = w.left })
+unfolding dotted_of name_seen ref_seen short_ref first_code second_code code_short left_at
 two_names s a w = rw (not_both (short a.what) (short w.what))
 
 module _ (s : Bytes) (at : ℕ) where
   -- where nothing is read
-  missing : {x : Reference} → read_ref (drop at s) ≡ none → x ≡ no_ref → x ≡ ref_at s at
-  unfolding ref_at ref_read no_ref
-  missing e d = d ∙ sym (rw e)
+  missing : read_ref (drop at s) ≡ none → None ≡ ref_at s at
+  unfolding ref_at seen
+  missing e = sym (rw e)
 
   -- where something is
-  present : {x : Reference} (r : Read Ref) → read_ref (drop at s) ≡ some r → x ≡ ref_read s (some r) → x ≡ ref_at s at
-  unfolding ref_at
-  present r e d = d ∙ sym (ap (ref_read s) e)
+  present : {x : Reference} (r : Read Ref) → read_ref (drop at s) ≡ some r → x ≡ ref_seen s r → Some x ≡ ref_at s at
+  unfolding ref_at seen
+  present r e d = ap Some d ∙ sym (ap (seen (ref_seen s)) e)
 
-  module _ {n : Name} (p : n ≡ name_at s at) where
-    pub ref_nameless : {x : Reference} → not n.ok ≡ true → x ≡ no_ref → x ≡ ref_at s at
-    unfolding read_ref bind name_at name_view
-    ref_nameless q d = missing (rw (view_none (name_view s) at p q)) d
+  pub ref_nameless : {x : Found Reference} → None ≡ name_found s at → x ≡ None → x ≡ ref_at s at
+  unfolding read_ref bind
+  ref_nameless p d = d ∙ missing (rw (name_none s at p))
 
-    module _ (q : not n.ok ≡ false) where
-      ref_after : {X : Type 0} → ((a : Read Bytes) → T (name? a.what) → n ≡ W.name_read s (some a) → drop n.next s ≡ a.left → read_ref (drop at s) ≡ after_name a.what (drop n.next s) → X) → X
-      unfolding read_ref bind name_at name_view
-      ref_after f =
-          view_some (name_view s) at p q (λ a z m d.
-          let l = view_left (name_view s) at p q a z in
-          f a ((X.name_read).taken (drop at s) a z).0 m l (rw (z, l)))
+  module _ {n : NameAt} (p : Some n ≡ name_found s at) where
+    ref_after : {X : Type 0} → ((a : Read Bytes) → T (name? a.what) → n ≡ name_seen s a → drop n.next s ≡ a.left → read_ref (drop at s) ≡ after_name a.what (drop n.next s) → X) → X
+    unfolding read_ref bind name_found name_reading
+    ref_after f = read_here (name_reading s) at p (λ x z m. let a : Read Bytes = record { what = x; left = drop n.next s } in f a ((X.name_read).taken (drop at s) a z).0 m refl (rw z))
 
-      module _ {b : ℕ} (c : b ≡ get_or s n.next 0) where
-        module _ (e : b ≡ 46) where
-          ref_second : {X : Type 0} → ((a : Read Bytes) → n ≡ W.name_read s (some a) → read_ref (drop at s) ≡ read_dotted a.what (drop (n.next + 1) s) → X) → X
-          ref_second f = ref_after (λ a t m l h. f a m (h ∙ after_dot a.what s n.next (sym c ∙ e) (byte_inside s n.next c e (omega arith))))
+    module _ {q : ℕ} (e : Some q ≡ read_end s (byte 46 (drop n.next s))) where
+      ref_second : {X : Type 0} → ((a : Read Bytes) → n ≡ name_seen s a → read_ref (drop at s) ≡ read_dotted a.what (drop q s) → X) → X
+      ref_second f = ref_after (λ a t m l h. f a m (h ∙ after_dot a.what (drop n.next s) (drop q s) (skip_is s n.next 46 e)))
 
-          module _ {m : Name} (r : m ≡ name_at s (n.next + 1)) where
-            pub ref_undotted : {x : Reference} → not m.ok ≡ true → x ≡ no_ref → x ≡ ref_at s at
-            unfolding read_dotted bind name_at name_view
-            ref_undotted v d = ref_second (λ a i h. missing (h ∙ rw (view_none (name_view s) (n.next + 1) r v)) d)
+      pub ref_undotted : {x : Found Reference} → None ≡ name_found s q → x ≡ None → x ≡ ref_at s at
+      unfolding read_dotted bind
+      ref_undotted v d = ref_second (λ a i h. d ∙ missing (h ∙ rw (name_none s q v)))
 
-            pub ref_dotted : {x : Reference} → not m.ok ≡ false → x ≡ dotted_of n m → x ≡ ref_at s at
-            unfolding read_dotted bind name_at name_view
-            ref_dotted v d =
-                ref_second (λ a i h. view_some (name_view s) (n.next + 1) r v (λ w z j o.
-                present (record { what = dotted a.what w.what; left = w.left }) (h ∙ rw z) (d ∙ ap₂ dotted_of i j ∙ two_names s a w)))
+      pub ref_dotted : {m : NameAt} {x : Reference} → Some m ≡ name_found s q → x ≡ dotted_of n m → Some x ≡ ref_at s at
+      unfolding read_dotted bind name_found name_reading
+      ref_dotted {m} v d =
+          ref_second (λ a i h. read_here (name_reading s) q v (λ w z j. let b : Read Bytes = record { what = w; left = drop m.next s } in
+          present (record { what = dotted a.what w; left = drop m.next s }) (h ∙ rw z) (d ∙ ap₂ dotted_of i j ∙ two_names s a b)))
 
-        module _ (e : b ≡ 46 → ⊥) where
-          ref_lone : {X : Type 0} → ((a : Read Bytes) → T (name? a.what) → n ≡ W.name_read s (some a) → read_ref (drop at s) ≡ lone a.what a.left → X) → X
-          ref_lone f = ref_after (λ a t m l h. f a t m (h ∙ after_other a.what s n.next (λ d. e (c ∙ d)) ∙ ap (lone a.what) l))
+    module _ (e : None ≡ read_end s (byte 46 (drop n.next s))) where
+      ref_lone : {X : Type 0} → ((a : Read Bytes) → T (name? a.what) → n ≡ name_seen s a → read_ref (drop at s) ≡ lone a.what a.left → X) → X
+      ref_lone f = ref_after (λ a t m l h. f a t m (h ∙ after_other a.what (drop n.next s) (skip_none s n.next 46 e) ∙ ap (lone a.what) l))
 
-          pub ref_long : {x : Reference} → n.long ≡ true → x ≡ no_ref → x ≡ ref_at s at
-          unfolding W.name_read
-          ref_long h d = ref_lone (λ a t m i. missing (i ∙ lone_long a.what a.left (not-true (short a.what) (sym (ap (λ n. n.long) m) ∙ h))) d)
+      pub ref_long : n.long ≡ true → None ≡ ref_at s at
+      unfolding name_seen
+      ref_long h = ref_lone (λ a t m i. missing (i ∙ lone_long a.what a.left (not-true (short a.what) (sym (ap (λ n. n.long) m) ∙ h))))
 
-          module _ (h : n.long ≡ false) where
-            -- a name that is short, and its number
-            ref_short : {X : Type 0} → ((a : Read Bytes) → T (name? a.what) → T (short a.what) → n.code ≡ code_of a.what → n.next ≡ length s - length a.left
-                → read_ref (drop at s) ≡ lone a.what a.left → X) → X
-            unfolding W.name_read
-            ref_short f =
-                ref_lone (λ a t m i.
-                let u : short a.what ≡ true = not-false (short a.what) (sym (ap (λ n. n.long) m) ∙ h) in
-                f a t (rw u tt) (ap (λ n. n.code) m ∙ rw u) (ap (λ n. n.next) m) i)
+      module _ (h : n.long ≡ false) where
+        -- a name that is short, and its number
+        ref_short : {X : Type 0} → ((a : Read Bytes) → T (name? a.what) → T (short a.what) → n.code ≡ code_of a.what → n.next ≡ left_at s a
+            → read_ref (drop at s) ≡ lone a.what a.left → X) → X
+        unfolding name_seen
+        ref_short f =
+            ref_lone (λ a t m i.
+            let u : short a.what ≡ true = not-false (short a.what) (sym (ap (λ n. n.long) m) ∙ h) in
+            f a t (rw u tt) (ap (λ n. n.code) m ∙ rw u) (ap (λ n. n.next) m) i)
 
-            pub ref_time : {x : Reference} → n.code ≡ 0x74696d65 → x ≡ alone_of n → x ≡ ref_at s at
-            unfolding alone_of ref_read short_ref first_code second_code code_of code_from
-            ref_time g d =
-                ref_short (λ a t u k o i.
-                present (record { what = time; left = a.left }) (i ∙ lone_time a.what a.left t u (sym k ∙ g)) (d ∙ rw (g, o)))
+        pub ref_time : {x : Reference} → n.code ≡ 0x74696d65 → x ≡ alone_of n → Some x ≡ ref_at s at
+        unfolding alone_of ref_seen short_ref first_code second_code code_of code_from left_at
+        ref_time g d =
+            ref_short (λ a t u k o i.
+            present (record { what = time; left = a.left }) (i ∙ lone_time a.what a.left t u (sym k ∙ g)) (d ∙ rw (g, o)))
 
-            module _ (g : n.code ≡ 0x74696d65 → ⊥) where
-              pub ref_figure : {x : Reference} → n.code ≡ 0x666967757265 → x ≡ alone_of n → x ≡ ref_at s at
-              unfolding alone_of ref_read short_ref first_code second_code code_of code_from
-              ref_figure j d =
-                  ref_short (λ a t u k o i.
-                  present (record { what = figure; left = a.left }) (i ∙ lone_figure a.what a.left t u (λ y. g (k ∙ y)) (sym k ∙ j)) (d ∙ rw (j, o)))
+        module _ (g : n.code ≡ 0x74696d65 → ⊥) where
+          pub ref_figure : {x : Reference} → n.code ≡ 0x666967757265 → x ≡ alone_of n → Some x ≡ ref_at s at
+          unfolding alone_of ref_seen short_ref first_code second_code code_of code_from left_at
+          ref_figure j d =
+              ref_short (λ a t u k o i.
+              present (record { what = figure; left = a.left }) (i ∙ lone_figure a.what a.left t u (λ y. g (k ∙ y)) (sym k ∙ j)) (d ∙ rw (j, o)))
 
-              pub ref_other : {x : Reference} → (n.code ≡ 0x666967757265 → ⊥) → x ≡ no_ref → x ≡ ref_at s at
-              ref_other j d = ref_short (λ a t u k o i. missing (i ∙ lone_other a.what a.left t u (λ y. g (k ∙ y)) (λ y. j (k ∙ y))) d)
+          pub ref_other : (n.code ≡ 0x666967757265 → ⊥) → None ≡ ref_at s at
+          ref_other j = ref_short (λ a t u k o i. missing (i ∙ lone_other a.what a.left t u (λ y. g (k ∙ y)) (λ y. j (k ∙ y))))
 
 pub ruleset ref_ends = (ref_nameless, ref_undotted, ref_dotted, ref_long, ref_time, ref_figure, ref_other)

@@ -1,23 +1,23 @@
 -- What a comparison that was read says of the text, whatever its operator.
 use mathlib.Core.Path.{◌≡◌, refl, sym, ap, ◌∙◌}
 use mathlib.Core.List.{List}
-use mathlib.Core.Bool.{Bool, true, false, not}
 use mathlib.Core.Option.{Option, none, some}
 use Prim.Native.Nat.{ℕ, ◌-◌, ◌≤◌, ◌<◌}
 use native.Mathlib.Omega.{arith}
 use lib.Dec.{T}
 use lib.ListN.{length, drop, length-drop}
-use borrow.Author.Tests.{not-true, not-false}
+use Rattle.std.proofs.lemmas.Option.{none-some, same_Some}
 use Rattle.lists.proofs.Laws.{and_l, and_r}
 use Rattle.syntax.specs.Grammar.{Bytes, Op, eq, Ref, Operand, Test, Cond, test, ref?, operand?, cond?, test?}
 use Rattle.syntax.specs.Readers.{Read, bind, ◌>>=◌, ◌>>◌, give, byte, read_ref, read_operand, read_test}
 use Rattle.syntax.proofs.Steps.{from, done, bind_bind}
 use Rattle.syntax.proofs.Conditions.{test_read}
 use Rattle.syntax.proofs.Leaving.{Ends, ends_both, ends_within, Leaves, byte_less, byte_leaves, ref_leaves, operand_leaves}
+use Rattle.text.specs.Words.{Found, Some, None, left_at}
 use Rattle.text.proofs.Views.{left_drop}
 use Rattle.text.proofs.Fuel.{bind_same}
 use Rattle.terms.specs.declared.Comparison.{Comparison}
-use Rattle.terms.specs.Terms.{no_comparison, comparison_of, comparison_from, comparison_read, comparison_at}
+use Rattle.terms.specs.Terms.{comparison_of, comparison_from, comparison_read, comparison_at}
 
 -- the two sides of a comparison
 record Sides : Type 0 where
@@ -64,39 +64,40 @@ sides_shorter bs r e =
 
 -- ---- what the code has of it
 
-module _ (ns : List ℕ) (s : Bytes) (at : ℕ) {c : Comparison} (p : c ≡ comparison_at ns s at) where
-  seen : Option (Read Sides) → Comparison
-  seen o = comparison_read ns s (bind o (with_op eq))
+module _ (ns : List ℕ) (s : Bytes) (at : ℕ) {x : Found Comparison} (p : x ≡ comparison_at ns s at) where
+  read : Option (Read Sides) → Found Comparison
+  read o = comparison_read ns s (bind o (with_op eq))
 
-  seen_is : c ≡ seen (read_sides (drop at s))
-  unfolding seen comparison_at
-  seen_is = p ∙ ap (comparison_read ns s) (test_sides eq (drop at s))
+  read_is : x ≡ read (read_sides (drop at s))
+  unfolding read comparison_at
+  read_is = p ∙ ap (comparison_read ns s) (test_sides eq (drop at s))
 
-  sides_cases : {X : Type 0} → (read_sides (drop at s) ≡ none → c.ok ≡ false → X)
-      → ((r : Read Sides) → read_sides (drop at s) ≡ some r → c ≡ comparison_of ns (record { op = eq; left = r.what.left; right = r.what.right }) (length s - length r.left) → X) → X
-  unfolding seen comparison_read comparison_from bind with_op no_comparison
+  sides_cases : {X : Type 0} → (read_sides (drop at s) ≡ none → x ≡ None → X)
+      → ((r : Read Sides) → read_sides (drop at s) ≡ some r → x ≡ Some (comparison_of ns (record { op = eq; left = r.what.left; right = r.what.right }) (length s - length r.left)) → X) → X
+  unfolding read comparison_read comparison_from bind with_op left_at
   sides_cases {X} f g = go (read_sides (drop at s)) refl
     where
       go : (o : Option (Read Sides)) → read_sides (drop at s) ≡ o → X
-      go none e = f e (ap (λ x. x.ok) (seen_is ∙ ap seen e))
-      go (some r) e = g r e (seen_is ∙ ap seen e)
+      go none e = f e (read_is ∙ ap read e)
+      go (some r) e = g r e (read_is ∙ ap read e)
 
-  pub comparison_none : not c.ok ≡ true → (o : Op) → read_test o (drop at s) ≡ none
-  unfolding bind comparison_of
-  comparison_none q o =
-      sides_cases (λ e d. test_sides o (drop at s) ∙ rw e)
-      (λ r e d. absurd (let z : ◌≡◌ {A = Bool} true false = sym (ap (λ x. x.ok) d) ∙ not-true c.ok q in let k : ◌≡◌ {A = ℕ} 0 1 = cc in omega arith))
+pub comparison_none : (ns : List ℕ) (s : Bytes) (at : ℕ) → None ≡ comparison_at ns s at → (o : Op) → read_test o (drop at s) ≡ none
+unfolding bind
+comparison_none ns s at p o =
+    sides_cases ns s at p (λ e d. test_sides o (drop at s) ∙ rw e)
+    (λ r e d. absurd (none-some _ d))
 
-  pub comparison_some : not c.ok ≡ false → {X : Type 0}
-      → ((a : Ref) (b : Operand) → T (ref? a) → T (operand? b) → ((o : Op) → read_test o (drop at s) ≡ some (record { what = test (record { op = o; left = a; right = b }); left = drop c.next s }))
-      → c ≡ comparison_of ns (record { op = eq; left = a; right = b }) c.next → at < c.next → c.next ≤ length s → X) → X
-  unfolding bind comparison_of with_op cond? test?
-  comparison_some q f =
-      sides_cases (λ e d. absurd (let z : ◌≡◌ {A = Bool} true false = sym (not-false c.ok q) ∙ d in let k : ◌≡◌ {A = ℕ} 0 1 = cc in omega arith))
-      (λ r e d.
-      let n : c.next ≡ length s - length r.left = ap (λ x. x.next) d in
-      let l = sides_shorter (drop at s) r e in
-      let i : drop c.next s ≡ r.left = ap (λ j. drop j s) n ∙ left_drop sides_leave s at r e in
-      let h = ((test_read eq).taken (drop at s) (record { what = test (record { op = eq; left = r.what.left; right = r.what.right }); left = r.left }) (test_sides eq (drop at s) ∙ rw e)).0 in
-      f r.what.left r.what.right (and_l (ref? r.what.left) (operand? r.what.right) h) (and_r (ref? r.what.left) (operand? r.what.right) h)
-      (λ o. test_sides o (drop at s) ∙ rw (e, i)) (d ∙ rw n) (omega (arith, length-drop at s)) (omega arith))
+pub comparison_some : (ns : List ℕ) (s : Bytes) (at : ℕ) {c : Comparison} → Some c ≡ comparison_at ns s at → {X : Type 0}
+    → ((a : Ref) (b : Operand) → T (ref? a) → T (operand? b) → ((o : Op) → read_test o (drop at s) ≡ some (record { what = test (record { op = o; left = a; right = b }); left = drop c.next s }))
+    → c ≡ comparison_of ns (record { op = eq; left = a; right = b }) c.next → at < c.next → c.next ≤ length s → X) → X
+unfolding bind comparison_of with_op cond? test?
+comparison_some ns s at {c} p f =
+    sides_cases ns s at p (λ e d. absurd (none-some _ (sym d)))
+    (λ r e i.
+    let d = same_Some c (comparison_of ns (record { op = eq; left = r.what.left; right = r.what.right }) (length s - length r.left)) i in
+    let n : c.next ≡ length s - length r.left = ap (λ x. x.next) d in
+    let l = sides_shorter (drop at s) r e in
+    let i : drop c.next s ≡ r.left = ap (λ j. drop j s) n ∙ left_drop sides_leave s at r e in
+    let h = ((test_read eq).taken (drop at s) (record { what = test (record { op = eq; left = r.what.left; right = r.what.right }); left = r.left }) (test_sides eq (drop at s) ∙ rw e)).0 in
+    f r.what.left r.what.right (and_l (ref? r.what.left) (operand? r.what.right) h) (and_r (ref? r.what.left) (operand? r.what.right) h)
+    (λ o. test_sides o (drop at s) ∙ rw (e, i)) (d ∙ rw n) (omega (arith, length-drop at s)) (omega arith))

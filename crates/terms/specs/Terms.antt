@@ -1,12 +1,12 @@
 -- Columns, operands and comparisons as they are read: a column by its place in the schema, a term by its code.
-use Rattle.std.specs.Prelude.{List, Bool, true, false, ◌&&◌, ◌||◌, not, cond, ℕ, zero, suc, ◌+◌, ◌*◌, ◌-◌, ℤ, pos, negsuc, ltb, eqb, length, drop, get_or}
+use Rattle.std.specs.Prelude.{List, Bool, false, ◌&&◌, ◌||◌, not, cond, ℕ, zero, suc, ◌+◌, ◌*◌, ◌-◌, ℤ, pos, negsuc, ltb, eqb, drop, get_or}
 use Rattle.std.proofs.Math.Option.{Option, none, some}
 use Rattle.syntax.specs.Grammar as G
 use Rattle.syntax.specs.Grammar.{Bytes, bytes, eq, Ref, Operand, Test, Cond, test, all, any, neg}
 use Rattle.syntax.specs.Readers.{Read, read_int, read_ref, read_operand, read_test}
 use Rattle.syntax.specs.Limits.{max_streams, max_columns, short_ref, is_value}
-use Rattle.text.specs.Words.{code_of, value_kept}
-use Rattle.text.specs.declared.Name.{Name}
+use Rattle.text.specs.Words.{Found, Some, None, seen, left_at, code_of, value_kept}
+use Rattle.text.specs.declared.NameAt.{NameAt}
 use Rattle.items.specs.Items.{code_short}
 use Rattle.schema.specs.Schemas.{column_place}
 use Rattle.terms.specs.declared.Reference.{Reference}
@@ -60,22 +60,18 @@ second_code (G.dotted n m) = code_short m
 second_code G.time = 0
 second_code G.figure = 0
 
-unfoldable pub ref_read : Bytes → Option (Read Ref) → Reference
-ref_read s none = record { ok = false; over = false; first = 0; second = 0; next = 0 }
-ref_read s (some r) = record { ok = true; over = not (short_ref r.what); first = first_code r.what; second = second_code r.what; next = length s - length r.left }
+unfoldable pub ref_seen : Bytes → Read Ref → Reference
+ref_seen s r = record { over = not (short_ref r.what); first = first_code r.what; second = second_code r.what; next = left_at s r }
 
-unfoldable pub ref_at : Bytes → ℕ → Reference
-ref_at s at = ref_read s (read_ref (drop at s))
+unfoldable pub ref_at : Bytes → ℕ → Found Reference
+ref_at s at = seen (ref_seen s) (read_ref (drop at s))
 
--- what the code makes of it: nothing, two names with a dot between them, a name that stands alone
-unfoldable pub no_ref : Reference
-no_ref = record { ok = false; over = false; first = 0; second = 0; next = 0 }
+-- what the code makes of it: two names with a dot between them, a name that stands alone
+unfoldable pub dotted_of : NameAt → NameAt → Reference
+dotted_of n m = record { over = n.long || m.long; first = n.code; second = m.code; next = m.next }
 
-unfoldable pub dotted_of : Name → Name → Reference
-dotted_of n m = record { ok = true; over = n.long || m.long; first = n.code; second = m.code; next = m.next }
-
-unfoldable pub alone_of : Name → Reference
-alone_of n = record { ok = true; over = false; first = n.code; second = 0; next = n.next }
+unfoldable pub alone_of : NameAt → Reference
+alone_of n = record { over = false; first = n.code; second = 0; next = n.next }
 
 -- the code of a term by the numbers of its names
 unfoldable pub code_in : List ℕ → ℕ → ℕ → ℕ
@@ -103,32 +99,25 @@ unfoldable pub operand_value : List ℕ → Operand → ℕ
 operand_value ns (G.ref r) = cond (eqb (ref_code ns r) entry_code) (second_code r) 0
 operand_value ns (G.number z) = biased (value_kept z)
 
-unfoldable pub operand_read : List ℕ → Bytes → Option (Read Operand) → Term
-operand_read ns s none = record { ok = false; over = false; code = 0; value = 0; next = 0 }
-operand_read ns s (some r) =
-    record { ok = true; over = operand_over r.what; code = operand_code ns r.what; value = operand_value ns r.what; next = length s - length r.left }
+unfoldable pub operand_seen : List ℕ → Bytes → Read Operand → Term
+operand_seen ns s r = record { over = operand_over r.what; code = operand_code ns r.what; value = operand_value ns r.what; next = left_at s r }
 
-unfoldable pub operand_at : List ℕ → Bytes → ℕ → Term
-operand_at ns s at = operand_read ns s (read_operand (drop at s))
-
-unfoldable pub no_term : Term
-no_term = record { ok = false; over = false; code = 0; value = 0; next = 0 }
+unfoldable pub operand_at : List ℕ → Bytes → ℕ → Found Term
+operand_at ns s at = seen (operand_seen ns s) (read_operand (drop at s))
 
 -- an operand that is a column, and one that is a number
-unfoldable pub ref_term : List ℕ → Bytes → Option (Read Ref) → Term
-ref_term ns s none = no_term
-ref_term ns s (some r) =
-    record { ok = true; over = not (short_ref r.what); code = ref_code ns r.what; value = cond (eqb (ref_code ns r.what) entry_code) (second_code r.what) 0; next = length s - length r.left }
+unfoldable pub ref_term : List ℕ → Bytes → Read Ref → Term
+ref_term ns s r =
+    record { over = not (short_ref r.what); code = ref_code ns r.what; value = cond (eqb (ref_code ns r.what) entry_code) (second_code r.what) 0; next = left_at s r }
 
-unfoldable pub ref_term_at : List ℕ → Bytes → ℕ → Term
-ref_term_at ns s at = ref_term ns s (read_ref (drop at s))
+unfoldable pub ref_term_at : List ℕ → Bytes → ℕ → Found Term
+ref_term_at ns s at = seen (ref_term ns s) (read_ref (drop at s))
 
-unfoldable pub number_term : Bytes → Option (Read ℤ) → Term
-number_term s none = no_term
-number_term s (some r) = record { ok = true; over = not (is_value r.what); code = number_code; value = biased (value_kept r.what); next = length s - length r.left }
+unfoldable pub number_term : Bytes → Read ℤ → Term
+number_term s r = record { over = not (is_value r.what); code = number_code; value = biased (value_kept r.what); next = left_at s r }
 
-unfoldable pub number_term_at : Bytes → ℕ → Term
-number_term_at s at = number_term s (read_int (drop at s))
+unfoldable pub number_term_at : Bytes → ℕ → Found Term
+number_term_at s at = seen (number_term s) (read_int (drop at s))
 
 -- ---- a comparison after its head, its closing bracket included
 
@@ -144,27 +133,24 @@ right_code ns t = operand_code ns t.right
 unfoldable pub test_value : List ℕ → Test → ℕ
 test_value ns t = operand_value ns t.right
 
-unfoldable pub no_comparison : Comparison
-no_comparison = record { ok = false; over = false; left = 0; right = 0; value = 0; next = 0 }
-
 -- the comparison of a test that ends at a place
 unfoldable pub comparison_of : List ℕ → Test → ℕ → Comparison
-comparison_of ns t next = record { ok = true; over = test_over t; left = left_code ns t; right = right_code ns t; value = test_value ns t; next = next }
+comparison_of ns t next = record { over = test_over t; left = left_code ns t; right = right_code ns t; value = test_value ns t; next = next }
 
 -- the same by what the code has of its two sides
 unfoldable pub compared : Reference → ℕ → Term → ℕ → Comparison
-compared l left t next = record { ok = true; over = l.over || t.over; left = left; right = t.code; value = t.value; next = next }
+compared l left t next = record { over = l.over || t.over; left = left; right = t.code; value = t.value; next = next }
 
 -- a comparison has no conditions inside
-unfoldable pub comparison_from : List ℕ → Cond Test → ℕ → Comparison
-comparison_from ns (test t) next = comparison_of ns t next
-comparison_from ns (all cs) next = no_comparison
-comparison_from ns (any cs) next = no_comparison
-comparison_from ns (neg c) next = no_comparison
+unfoldable pub comparison_from : List ℕ → Cond Test → ℕ → Found Comparison
+comparison_from ns (test t) next = Some (comparison_of ns t next)
+comparison_from ns (all cs) next = None
+comparison_from ns (any cs) next = None
+comparison_from ns (neg c) next = None
 
-unfoldable pub comparison_read : List ℕ → Bytes → Option (Read (Cond Test)) → Comparison
-comparison_read ns s none = no_comparison
-comparison_read ns s (some r) = comparison_from ns r.what (length s - length r.left)
+unfoldable pub comparison_read : List ℕ → Bytes → Option (Read (Cond Test)) → Found Comparison
+comparison_read ns s none = None
+comparison_read ns s (some r) = comparison_from ns r.what (left_at s r)
 
-unfoldable pub comparison_at : List ℕ → Bytes → ℕ → Comparison
+unfoldable pub comparison_at : List ℕ → Bytes → ℕ → Found Comparison
 comparison_at ns s at = comparison_read ns s (read_test eq (drop at s))

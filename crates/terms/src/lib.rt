@@ -3,15 +3,14 @@
 
 ghost use Rattle.std.specs.Prelude.{◌≡◌, cond, ◌+◌, ◌≤◌, eqb};
 ghost use Rattle.schema.specs.Schemas.{schema_size};
-ghost use Rattle.terms.specs.Terms.{entry_code, found, stream_found, place_in, no_ref, dotted_of, alone_of, ref_at, code_in, biased, no_term, ref_term_at, number_term_at, operand_at, no_comparison, compared, comparison_at};
+ghost use Rattle.terms.specs.Terms.{entry_code, found, stream_found, place_in, dotted_of, alone_of, ref_at, code_in, biased, ref_term_at, number_term_at, operand_at, compared, comparison_at};
 
 use schema::Stream;
-use text::{Kept, Name, Word};
+use text::{NameAt, Word};
 
 // What stands where a column may: the numbers of its two names, the second 0 where it stands alone.
 #[derive(Clone, Copy)]
 pub struct Reference {
-    pub ok: bool,
     pub over: bool,
     pub first: u64,
     pub second: u64,
@@ -21,7 +20,6 @@ pub struct Reference {
 // The right side of a comparison. `over`: a name is too long or a number beyond 32 bits.
 #[derive(Clone, Copy)]
 pub struct Term {
-    pub ok: bool,
     pub over: bool,
     pub code: u32,
     pub value: u64,
@@ -44,7 +42,6 @@ impl Term {
 // A comparison: the codes of its terms, and the number or the profile entry on its right.
 #[derive(Clone, Copy)]
 pub struct Comparison {
-    pub ok: bool,
     pub over: bool,
     pub left: u32,
     pub right: u32,
@@ -52,26 +49,12 @@ pub struct Comparison {
     pub next: usize,
 }
 
-// No column was read.
-fn no_ref() -> Reference
-    ensures { result ≡ no_ref }
-{
-    Reference {
-        ok: false,
-        over: false,
-        first: 0,
-        second: 0,
-        next: 0,
-    }
-}
-
 // Two names with a dot between them.
-fn dotted_of(n: Name, m: Name) -> Reference
+fn dotted_of(n: NameAt, m: NameAt) -> Reference
     ensures { result ≡ dotted_of n m }
 {
     let over = text::either(n.long, m.long);
     Reference {
-        ok: true,
         over: over,
         first: n.code,
         second: m.code,
@@ -80,11 +63,10 @@ fn dotted_of(n: Name, m: Name) -> Reference
 }
 
 // A name that stands alone.
-fn alone_of(n: Name) -> Reference
+fn alone_of(n: NameAt) -> Reference
     ensures { result ≡ alone_of n }
 {
     Reference {
-        ok: true,
         over: false,
         first: n.code,
         second: 0,
@@ -92,32 +74,25 @@ fn alone_of(n: Name) -> Reference
     }
 }
 
-// Returns what stands at a place where a column may, and the place after it; `ok` is false where there is no such thing, and all else 0.
-pub fn ref_at(s: &[u8], at: usize) -> Reference
+// Returns what stands at a place where a column may, and the place after it.
+pub fn ref_at(s: &[u8], at: usize) -> Option<Reference>
     ensures { result ≡ ref_at s.now at }
 {
-    let n = text::name_at(s, at);
-    if !n.ok {
-        return no_ref();
-    }
-    let p = n.next;
-    if text::byte(s, p) == b'.' {
-        let m = text::name_at(s, p + 1);
-        if !m.ok {
-            return no_ref();
-        }
-        return dotted_of(n, m);
+    let n = text::read_name(s, at)?;
+    if let Some(p) = text::skip(s, n.next, b'.') {
+        let m = text::read_name(s, p)?;
+        return Some(dotted_of(n, m));
     }
     if n.long {
-        return no_ref();
+        return None;
     }
     if n.code == Word::TIME {
-        return alone_of(n);
+        return Some(alone_of(n));
     }
     if n.code == Word::FIGURE {
-        return alone_of(n);
+        return Some(alone_of(n));
     }
-    no_ref()
+    None
 }
 
 // The first of n numbers from a place on that is a given one, or n.
@@ -125,12 +100,10 @@ fn find(names: &[u64], at: usize, n: usize, code: u64) -> usize
     requires { at + n ≤ schema_size }
     ensures { result ≡ found names.now at n code }
 {
-    let mut i: usize = 0;
-    while i < n {
+    for i in 0..n {
         if places::number_at(names, at + i) == code {
             return i;
         }
-        i += 1;
     }
     n
 }
@@ -179,24 +152,10 @@ pub fn term_code(names: &[u64], n: u64, m: u64) -> u32
 }
 
 // A number of 32 bits, the lowest as 0.
-fn biased(k: Kept) -> u64
-    ensures { result ≡ biased k.value }
+fn biased(v: i32) -> u64
+    ensures { result ≡ biased v }
 {
-    let v = k.value;
     ((v as i64) + 2147483648) as u64
-}
-
-// No operand was read.
-fn no_term() -> Term
-    ensures { result ≡ no_term }
-{
-    Term {
-        ok: false,
-        over: false,
-        code: 0,
-        value: 0,
-        next: 0,
-    }
 }
 
 // The number of a profile entry's name, and 0 for any other term.
@@ -210,45 +169,37 @@ fn entry_value(code: u32, m: u64) -> u64
 }
 
 // The operand at a place that begins with a letter.
-fn ref_term(s: &[u8], at: usize, names: &[u64]) -> Term
+fn ref_term(s: &[u8], at: usize, names: &[u64]) -> Option<Term>
     ensures { result ≡ ref_term_at names.now s.now at }
 {
-    let r = ref_at(s, at);
-    if !r.ok {
-        return no_term();
-    }
+    let r = ref_at(s, at)?;
     let code = term_code(names, r.first, r.second);
     let value = entry_value(code, r.second);
-    Term {
-        ok: true,
+    Some(Term {
         over: r.over,
         code: code,
         value: value,
         next: r.next,
-    }
+    })
 }
 
 // The operand at a place that begins with none.
-fn number_term(s: &[u8], at: usize) -> Term
+fn number_term(s: &[u8], at: usize) -> Option<Term>
     ensures { result ≡ number_term_at s.now at }
 {
-    let z = text::number_at(s, at);
-    if !z.ok {
-        return no_term();
-    }
+    let z = text::read_number(s, at)?;
     let k = z.kept();
-    let value = biased(k);
-    Term {
-        ok: true,
-        over: k.wide,
+    let value = biased(k.unwrap_or(0));
+    Some(Term {
+        over: k.is_none(),
         code: Term::NUMBER,
         value: value,
         next: z.next,
-    }
+    })
 }
 
-// Returns the right side of a comparison at a place, and the place after it; `ok` is false where there is none, and all else 0.
-pub fn operand_at(s: &[u8], at: usize, names: &[u64]) -> Term
+// Returns the right side of a comparison at a place, and the place after it.
+pub fn operand_at(s: &[u8], at: usize, names: &[u64]) -> Option<Term>
     ensures { result ≡ operand_at names.now s.now at }
 {
     if !text::is_letter(text::byte(s, at) as u64) {
@@ -257,27 +208,12 @@ pub fn operand_at(s: &[u8], at: usize, names: &[u64]) -> Term
     ref_term(s, at, names)
 }
 
-// No comparison was read.
-fn no_comparison() -> Comparison
-    ensures { result ≡ no_comparison }
-{
-    Comparison {
-        ok: false,
-        over: false,
-        left: 0,
-        right: 0,
-        value: 0,
-        next: 0,
-    }
-}
-
 // A comparison by its two sides, which ends at a place.
 fn compared(l: Reference, left: u32, t: Term, next: usize) -> Comparison
     ensures { result ≡ compared l left t next }
 {
     let over = text::either(l.over, t.over);
     Comparison {
-        ok: true,
         over: over,
         left: left,
         right: t.code,
@@ -286,29 +222,15 @@ fn compared(l: Reference, left: u32, t: Term, next: usize) -> Comparison
     }
 }
 
-// Returns the comparison whose head ended at a place, and the place after its bracket; `ok` is false where there is none, and all else 0.
-pub fn comparison_at(s: &[u8], at: usize, names: &[u64]) -> Comparison
+// Returns the comparison whose head ended at a place, and the place after its bracket.
+pub fn comparison_at(s: &[u8], at: usize, names: &[u64]) -> Option<Comparison>
     ensures { result ≡ comparison_at names.now s.now at }
 {
-    if text::byte(s, at) != b' ' {
-        return no_comparison();
-    }
-    let l = ref_at(s, at + 1);
-    if !l.ok {
-        return no_comparison();
-    }
-    let i = l.next;
-    if text::byte(s, i) != b' ' {
-        return no_comparison();
-    }
-    let t = operand_at(s, i + 1, names);
-    if !t.ok {
-        return no_comparison();
-    }
-    let j = t.next;
-    if text::byte(s, j) != b')' {
-        return no_comparison();
-    }
+    let p = text::skip(s, at, b' ')?;
+    let l = ref_at(s, p)?;
+    let q = text::skip(s, l.next, b' ')?;
+    let t = operand_at(s, q, names)?;
+    let end = text::skip(s, t.next, b')')?;
     let left = term_code(names, l.first, l.second);
-    compared(l, left, t, j + 1)
+    Some(compared(l, left, t, end))
 }

@@ -8,17 +8,17 @@ loop-i-init c = search streams_ends
 pub returns-then-ends_at : goal.returns-then-ends_at
 returns-then-ends_at c = search streams_ends
 
-pub returns-then-s-i-ne32 : goal.returns-then-s-i-ne32
-returns-then-s-i-ne32 c = search streams_ends
+pub returns-in_err-p : goal.returns-in_err-p
+returns-in_err-p c = search (streams_ends, c.in_err-p.ensures)
 
-pub returns-then-not-n : goal.returns-then-not-n
-returns-then-not-n c = search streams_ends
+pub returns-in_err-n : goal.returns-in_err-n
+returns-in_err-n c = search (streams_ends, c.in_ok-p.ensures, c.in_err-n.ensures)
 
 pub loop-i-smaller : goal.loop-i-smaller
-loop-i-smaller c = search streams_ends
+loop-i-smaller c = search (streams_ends, c.in_ok-p.ensures, c.in_ok-n.ensures)
 
 pub loop-i-preserved : goal.loop-i-preserved
-loop-i-preserved c = search streams_ends
+loop-i-preserved c = search (streams_ends, c.in_ok-p.ensures, c.in_ok-n.ensures)
 
 pub returns : goal.returns
 returns c = search streams_ends

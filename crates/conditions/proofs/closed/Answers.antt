@@ -2,9 +2,6 @@ use Rattle.text.proofs.Places.{next_fits}
 use Rattle.conditions.proofs.Leaves.{closed_ends}
 use Rattle.conditions.proofs.closed.Goals as goal
 
-pub returns-then-not-i : goal.returns-then-not-i
-returns-then-not-i c = search closed_ends
-
 pub returns-then-byte-ne41 : goal.returns-then-byte-ne41
 returns-then-byte-ne41 c = search closed_ends
 

@@ -1,9 +1,6 @@
 use Rattle.conditions.proofs.Leaves.{fitted_ends}
 use Rattle.conditions.proofs.fitted.Goals as goal
 
-pub returns-then-not-i : goal.returns-then-not-i
-returns-then-not-i c = search fitted_ends
-
 pub returns-then-i : goal.returns-then-i
 returns-then-i c = search fitted_ends
 

@@ -1,15 +1,14 @@
-use Rattle.text.proofs.Places.{next_fits}
 use Rattle.conditions.proofs.Heads.{head_ends}
 use Rattle.conditions.proofs.head_at.Goals as goal
 
-pub returns-then-byte-ne40 : goal.returns-then-byte-ne40
-returns-then-byte-ne40 c = search head_ends
+pub returns-in_err-p : goal.returns-in_err-p
+returns-in_err-p c = search (head_ends, c.in_err-p.ensures)
 
-pub overflow_add-at : goal.overflow_add-at
-overflow_add-at c = search next_fits
+pub returns-in_err-w : goal.returns-in_err-w
+returns-in_err-w c = search (head_ends, c.in_ok-p.ensures, c.in_err-w.ensures)
 
-pub returns-then-n-eq0 : goal.returns-then-n-eq0
-returns-then-n-eq0 c = search head_ends
+pub returns-in_err-n : goal.returns-in_err-n
+returns-in_err-n c = search (head_ends, c.in_ok-p.ensures, c.in_ok-w.ensures, c.in_err-n.ensures)
 
 pub returns : goal.returns
-returns c = search head_ends
+returns c = search (head_ends, c.in_ok-p.ensures, c.in_ok-w.ensures, c.in_ok-n.ensures)

@@ -9,8 +9,11 @@ returns-then-s-gt-BYTES c = search read_cond_ends
 pub returns-then-level-eq0 : goal.returns-then-level-eq0
 returns-then-level-eq0 c = search read_cond_ends
 
-pub cond_in-i-requires : goal.cond_in-i-requires
-cond_in-i-requires c = (omega arith, count_few _ c.counted.ensures)
+pub cond_in-requires : goal.cond_in-requires
+cond_in-requires c = (omega arith, count_few _ c.counted.ensures)
+
+pub returns-in_err-i : goal.returns-in_err-i
+returns-in_err-i c = search (read_cond_ends, c.in_err-i.ensures)
 
 pub returns : goal.returns
-returns c = search read_cond_ends
+returns c = search (read_cond_ends, c.in_ok-i.ensures)

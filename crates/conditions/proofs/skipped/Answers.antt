@@ -1,8 +1,8 @@
 use Rattle.conditions.proofs.Skipping.{skipped_ends}
 use Rattle.conditions.proofs.skipped.Goals as goal
 
-pub returns-then-e-eq0 : goal.returns-then-e-eq0
-returns-then-e-eq0 c = search skipped_ends
+pub returns-in_err-e : goal.returns-in_err-e
+returns-in_err-e c = search (skipped_ends, c.in_err-e.ensures)
 
 pub returns : goal.returns
-returns c = search skipped_ends
+returns c = search (skipped_ends, c.in_ok-e.ensures)

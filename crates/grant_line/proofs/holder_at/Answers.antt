@@ -1,24 +1,20 @@
-use Rattle.text.proofs.Places.{next_fits}
 use Rattle.grant_line.proofs.Parts.{holder_ends}
 use Rattle.grant_line.proofs.holder_at.Goals as goal
 
-pub returns-then-byte-ne32 : goal.returns-then-byte-ne32
-returns-then-byte-ne32 c = search holder_ends
+pub returns-in_err-p : goal.returns-in_err-p
+returns-in_err-p c = search (holder_ends, c.in_err-p.ensures)
 
-pub overflow_add-at : goal.overflow_add-at
-overflow_add-at c = search next_fits
+pub returns-in_err-n : goal.returns-in_err-n
+returns-in_err-n c = search (holder_ends, c.in_ok-p.ensures, c.in_err-n.ensures)
 
-pub returns-then-not-n : goal.returns-then-not-n
-returns-then-not-n c = search holder_ends
+pub returns-in_err-q : goal.returns-in_err-q
+returns-in_err-q c = search (holder_ends, c.in_ok-p.ensures, c.in_ok-n.ensures, c.in_err-q.ensures)
 
-pub returns-then-byte-ne32-2 : goal.returns-then-byte-ne32-2
-returns-then-byte-ne32-2 c = search holder_ends
+pub returns-in_err-w : goal.returns-in_err-w
+returns-in_err-w c = search (holder_ends, c.in_ok-p.ensures, c.in_ok-n.ensures, c.in_ok-q.ensures, c.in_err-w.ensures)
 
-pub overflow_add-p : goal.overflow_add-p
-overflow_add-p c = search next_fits
-
-pub returns-then-right-gt-SUM : goal.returns-then-right-gt-SUM
-returns-then-right-gt-SUM c = search holder_ends
+pub returns-in_err-right : goal.returns-in_err-right
+returns-in_err-right c = search (holder_ends, c.in_ok-p.ensures, c.in_ok-n.ensures, c.in_ok-q.ensures, c.in_ok-w.ensures, c.in_err-right.ensures)
 
 pub returns : goal.returns
-returns c = search holder_ends
+returns c = search (holder_ends, c.in_ok-p.ensures, c.in_ok-n.ensures, c.in_ok-q.ensures, c.in_ok-w.ensures, c.in_ok-right.ensures)

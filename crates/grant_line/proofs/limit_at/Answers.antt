@@ -1,25 +1,17 @@
-use native.Mathlib.Omega.{arith}
-use Rattle.text.proofs.Places.{next_fits, byte_inside}
-use Rattle.grant_line.proofs.Times.{limit_absent, limit_unspaced, limit_unread, limit_unclosed, limit_done}
+use Rattle.grant_line.proofs.Times.{limit_ends}
 use Rattle.grant_line.proofs.limit_at.Goals as goal
 
-pub returns-then-p-eq0 : goal.returns-then-p-eq0
-returns-then-p-eq0 c = search limit_absent
+pub returns-in_default : goal.returns-in_default
+returns-in_default c = search (limit_ends, c.in_default.ensures)
 
-pub returns-then-byte-ne32 : goal.returns-then-byte-ne32
-returns-then-byte-ne32 c = search limit_unspaced
+pub returns-in_err-q : goal.returns-in_err-q
+returns-in_err-q c = search (limit_ends, c.in-Some.ensures, c.in_err-q.ensures)
 
-pub overflow_add-p : goal.overflow_add-p
-overflow_add-p c = search next_fits
+pub returns-in_err-n : goal.returns-in_err-n
+returns-in_err-n c = search (limit_ends, c.in-Some.ensures, c.in_ok-q.ensures, c.in_err-n.ensures)
 
-pub returns-then-not-n : goal.returns-then-not-n
-returns-then-not-n c = search limit_unread
-
-pub returns-then-byte-ne41 : goal.returns-then-byte-ne41
-returns-then-byte-ne41 c = search limit_unclosed
-
-pub overflow_add-result : goal.overflow_add-result
-overflow_add-result c = let h = byte_inside c.args.s.now c.number_at-n.result.next c.byte-2.ensures c.if-byte-ne41.false (omega arith) in omega arith
+pub returns-in_err-end : goal.returns-in_err-end
+returns-in_err-end c = search (limit_ends, c.in-Some.ensures, c.in_ok-q.ensures, c.in_ok-n.ensures, c.in_err-end.ensures)
 
 pub returns : goal.returns
-returns c = search limit_done
+returns c = search (limit_ends, c.in-Some.ensures, c.in_ok-q.ensures, c.in_ok-n.ensures, c.in_ok-end.ensures)

@@ -7,6 +7,3 @@ returns-then-s-gt-BYTES c = search read_long
 
 pub returns-then-words-lt-WORDS : goal.returns-then-words-lt-WORDS
 returns-then-words-lt-WORDS c = search read_few
-
-pub returns : goal.returns
-returns c = search read_long

@@ -1,31 +1,24 @@
--- `ref_at`: by its first name and the byte after it.
-use native.Mathlib.Omega.{arith}
-use Rattle.text.proofs.Places.{byte_inside}
+-- `ref_at`: by its first name and what follows it.
 use Rattle.terms.proofs.References.{ref_ends}
 use Rattle.terms.proofs.ref_at.Goals as goal
 
-pub returns-then-not-n : goal.returns-then-not-n
-returns-then-not-n c = search ref_ends
+pub returns-in_err-n : goal.returns-in_err-n
+returns-in_err-n c = search (ref_ends, c.in_err-n.ensures)
 
-pub overflow_add-p : goal.overflow_add-p
-overflow_add-p c =
-    let h = byte_inside c.args.s.now c.name_at-n.result.next c.byte.ensures c.if-byte-eq46.true (omega arith) in
-    omega arith
+pub returns-in_err-m : goal.returns-in_err-m
+returns-in_err-m c = search (ref_ends, c.in_ok-n.ensures, c.in-Some.ensures, c.in_err-m.ensures)
 
-pub returns-then-not-m : goal.returns-then-not-m
-returns-then-not-m c = search ref_ends
-
-pub returns-then-byte-eq46 : goal.returns-then-byte-eq46
-returns-then-byte-eq46 c = search ref_ends
+pub returns-in-Some : goal.returns-in-Some
+returns-in-Some c = search (ref_ends, c.in_ok-n.ensures, c.in-Some.ensures, c.in_ok-m.ensures)
 
 pub returns-then-n : goal.returns-then-n
-returns-then-n c = search ref_ends
+returns-then-n c = search (ref_ends, c.in_ok-n.ensures, c.in_default.ensures)
 
 pub returns-then-n-eq-TIME : goal.returns-then-n-eq-TIME
-returns-then-n-eq-TIME c = search ref_ends
+returns-then-n-eq-TIME c = search (ref_ends, c.in_ok-n.ensures, c.in_default.ensures)
 
 pub returns-then-n-eq-FIGURE : goal.returns-then-n-eq-FIGURE
-returns-then-n-eq-FIGURE c = search ref_ends
+returns-then-n-eq-FIGURE c = search (ref_ends, c.in_ok-n.ensures, c.in_default.ensures)
 
 pub returns : goal.returns
-returns c = search ref_ends
+returns c = search (ref_ends, c.in_ok-n.ensures, c.in_default.ensures)
