@@ -1,8 +1,8 @@
 -- Times as values, and weights by them.
-use mathlib.Core.Path.{◌≡◌, refl, sym, ap, ap₂, ◌∙◌}
+use mathlib.Core.Path.{◌≡◌, sym, ap, ap₂, ◌∙◌}
 use mathlib.Core.List.{List}
 use mathlib.Core.Bool.{Bool, true, false}
-use Prim.Native.Nat.{ℕ, ◌+◌, ◌*◌, ◌-◌, ◌/◌, ◌%◌, ◌<◌, min}
+use Prim.Native.Nat.{ℕ, ◌+◌, ◌*◌, ◌-◌, ◌/◌, ◌%◌, ◌^◌, ◌<◌, min}
 use native.Mathlib.Decide.{dec_lt}
 use native.Mathlib.Omega.{arith}
 use lib.Bits.{bit_and, bit_or, and_mask, or_zero_r, or_add_and}
@@ -11,41 +11,26 @@ use lib.ListN.{get_or, take, drop}
 use lib.Seq.{get_or-take, get_or-drop}
 use lib.Signed.{lt_z}
 use mir.Syntax.{w32}
-use mir.Val.{of_z, to_z, SFits}
+use mir.Val.{of_z, to_z, SFits, Fits}
 use mir.ValLaws.{to_z-of_z, to_z_pos}
-use Rattle.syntax.specs.Grammar.{Op, eq, lt, gt}
+use Rattle.syntax.specs.Grammar.{Op}
 use Rattle.syntax.specs.Limits.{top}
 use Rattle.model.specs.Meaning.{compares}
-use Rattle.rows.specs.Masks.{one}
+use Rattle.rows.specs.Masks.{one, bits}
 use Rattle.column_masks.specs.Columns.{strip, compared_at}
-use Rattle.column_masks.proofs.Columns.{test_same, test_other, less_test}
 use Rattle.time_masks.specs.Times.{later_of, clocked}
+use Rattle.time_masks.proofs.Weights.{weight_fits, weight_more}
 
--- ---- a weight by two values
+-- ---- a weight by a test
 
-module _ (x y : ℤ) (w : ℕ) (fx : SFits w32 x) (fy : SFits w32 y) where
-  weighed : (c d : Bool) → c ≡ d → one d * w ≡ one c * w
-  weighed c d e = ap (λ b. one b * w) (sym e)
+module _ (w : ℕ) {b c : Bool} (e : b ≡ c) where
+  pub weight_whole : b ≡ true → w ≡ one c * w
+  weight_whole h = let z : w ≡ one true * w = omega arith in z ∙ ap (λ d. one d * w) (sym h ∙ e)
 
-  whole : w ≡ one true * w
-  whole = omega arith
+  pub weight_nothing : b ≡ false → 0 ≡ one c * w
+  weight_nothing h = let z : 0 ≡ one false * w = omega arith in z ∙ ap (λ d. one d * w) (sym h ∙ e)
 
-  nothing : 0 ≡ one false * w
-  nothing = omega arith
-
-  pub same_whole : of_z w32 x ≡ of_z w32 y → w ≡ one (compares eq x y) * w
-  same_whole e = whole ∙ weighed (compares eq x y) true (test_same x y fx fy refl refl e)
-
-  pub same_nothing : (of_z w32 x ≡ of_z w32 y → ⊥) → 0 ≡ one (compares eq x y) * w
-  same_nothing n = nothing ∙ weighed (compares eq x y) false (test_other x y fx fy refl refl n)
-
-  pub less_whole : lt_z (to_z w32 (of_z w32 x)) (to_z w32 (of_z w32 y)) ≡ true → w ≡ one (compares lt x y) * w
-  less_whole e = whole ∙ weighed (compares lt x y) true (sym (less_test x y fx fy refl refl) ∙ e)
-
-  pub less_nothing : lt_z (to_z w32 (of_z w32 x)) (to_z w32 (of_z w32 y)) ≡ false → 0 ≡ one (compares lt x y) * w
-  less_nothing e = nothing ∙ weighed (compares lt x y) false (sym (less_test x y fx fy refl refl) ∙ e)
-
-pub ruleset pair_ends = (same_whole, same_nothing, less_whole, less_nothing)
+pub ruleset weight_ends = (weight_whole, weight_nothing)
 
 -- ---- at most the highest
 
@@ -91,15 +76,19 @@ module _ (low : ℤ) (ts : List ℕ) (at : ℕ) (vs : List ℤ) (q w : ℕ) {x y
   pub at_weight : (op : Op) → b ≡ one (compares op x y) * w → b ≡ one (compares op (later_of low (get_or ts at 0)) (get_or vs q (pos 0))) * w
   at_weight op e = e ∙ ap₂ (λ x y. one (compares op x y) * w) ex ey
 
-  -- below the other way round
-  pub at_above : b ≡ one (compares lt y x) * w → b ≡ one (compares gt (later_of low (get_or ts at 0)) (get_or vs q (pos 0))) * w
-  unfolding compares
-  at_above e = e ∙ ap₂ (λ x y. one (lt_z y x) * w) ex ey
-
-module _ (op : Op) (low : ℤ) (ts : List ℕ) (from : ℕ) (vs : List ℤ) (p i w : ℕ) where
-  pub row_weight : (d at q : ℕ) {b : ℕ} → at ≡ from + (d + i) → q ≡ (d + i) * 6 → q < 763 → b ≡ one (compares op (later_of low (get_or ts at 0)) (get_or (take (p + 763 - p) (drop p vs)) q (pos 0))) * w
+module _ (op : Op) (low : ℤ) (ts : List ℕ) (from : ℕ) (vs : List ℤ) (p i : ℕ) where
+  row_weight : (d at q w : ℕ) {b : ℕ} → at ≡ from + (d + i) → q ≡ (d + i) * 6 → q < 763 → b ≡ one (compares op (later_of low (get_or ts at 0)) (get_or (take (p + 763 - p) (drop p vs)) q (pos 0))) * w
       → b ≡ one (compared_at op (clocked low ts from) (strip vs p 6) (d + i)) * w
   unfolding compared_at clocked strip
-  row_weight d at q ea e h eb =
+  row_weight d at q w ea e h eb =
       eb ∙ ap₂ (λ x y. one (compares op x y) * w) (ap (λ (j : ℕ). later_of low (get_or ts j 0)) ea)
       (get_or-take (p + 763 - p) (drop p vs) q (pos 0) (omega arith) ∙ get_or-drop p vs q (pos 0) ∙ ap (λ (j : ℕ). get_or vs (p + j) (pos 0)) e)
+
+  -- a word with it
+  module _ (few : i < 32) (d at q : ℕ) {m b : ℕ} (ea : at ≡ from + (d + i)) (e : q ≡ (d + i) * 6) (h : q < 763) (em : m ≡ bits (compared_at op (clocked low ts from) (strip vs p 6)) d i)
+      (eb : b ≡ one (compares op (later_of low (get_or ts at 0)) (get_or (take (p + 763 - p) (drop p vs)) q (pos 0))) * ((1 * 2 ^ i) % 2 ^ 32)) where
+    pub row_fits : Fits w32 (m + b)
+    row_fits = weight_fits (compared_at op (clocked low ts from) (strip vs p 6)) d i few em (row_weight d at q ((1 * 2 ^ i) % 2 ^ 32) ea e h eb)
+
+    pub row_more : m + b ≡ bits (compared_at op (clocked low ts from) (strip vs p 6)) d (i + 1)
+    row_more = weight_more (compared_at op (clocked low ts from) (strip vs p 6)) d i few em (row_weight d at q ((1 * 2 ^ i) % 2 ^ 32) ea e h eb)

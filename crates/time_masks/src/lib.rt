@@ -11,6 +11,7 @@ ghost use Rattle.column_masks.specs.Columns.{strip, compared_at};
 ghost use Rattle.time_masks.specs.Times.{column_end, later_of, clocked, in_span, timed};
 
 use cells::Datum;
+use column_masks::{Above, Below, Same, Test};
 use rows::Rows;
 use schema::Stream;
 use text::Time;
@@ -41,138 +42,82 @@ pub fn clock(low: Datum, t: u32) -> Datum
     x
 }
 
-// A weight where two values are the same, or 0.
-fn same_weight(x: Datum, y: Datum, w: u32) -> u32
-    ensures { result ≡ one (compares eq x.v y.v) * w }
+// A weight where two values stand so to each other, or 0.
+fn weight<T: Test>(x: Datum, y: Datum, w: u32) -> u32
+    ensures { result ≡ one (compares T.op x.v y.v) * w }
 {
-    if x.v == y.v {
+    if T::passes(x, y) {
         return w;
     }
     0
 }
 
-// A weight where one value is below another, or 0.
-fn less_weight(x: Datum, y: Datum, w: u32) -> u32
-    ensures { result ≡ one (compares lt x.v y.v) * w }
-{
-    if x.v < y.v {
-        return w;
-    }
-    0
-}
-
-// A weight where the later of the time at a place and another is a cell's value, or 0.
-fn same_at(low: Datum, times: &[u32], at: u32, column: &[i32], q: u32, w: u32) -> u32
+// A weight where the later of the time at a place and another stands so to a cell's value, or 0. Within its loop, since it is done for each row.
+#[inline(always)]
+fn weight_at<T: Test>(low: Datum, times: &[u32], at: u32, column: &[i32], q: u32, w: u32) -> u32
     requires { at < length times.now }
-    ensures { result ≡ one (compares eq (later_of low.v (get_or times.now at 0)) (get_or column.now q (pos 0))) * w }
+    ensures { result ≡ one (compares T.op (later_of low.v (get_or times.now at 0)) (get_or column.now q (pos 0))) * w }
 {
-    same_weight(clock(low, times[at as usize]), cells::value(column, q), w)
+    weight::<T>(clock(low, times[at as usize]), cells::value(column, q), w)
 }
 
-// Of at most 128 rows those with such a time, by a column that begins at a place of the values.
+// Of at most 128 rows those whose time, or a later one, stands so to the number of a column that begins at a place of the values.
 // Rows 32 apart are taken together, each with its own word.
+fn compared_times<T: Test>(
+    low: Datum,
+    times: &[u32],
+    from: u32,
+    values: &[i32],
+    p: u32,
+    n: u32,
+) -> Rows
+    requires { (from ≤ 384) × (places_size ≤ length times.now) × (p < column_end) × (values_size ≤ length values.now) }
+    ensures { result ≡ rows_of (compared_at T.op (clocked low.v times.now from) (strip values.now p max_columns)) 0 n }
+{
+    let v = &values[(p as usize)..(p as usize + COLUMN)];
+    let mut a: u32 = 0;
+    let mut b: u32 = 0;
+    let mut c: u32 = 0;
+    let mut d: u32 = 0;
+    for i in 0..Rows::WORD {
+        let w = 1 << i;
+        let q = i * COLUMNS;
+        a += weight_at::<T>(low, times, from + i, v, q, w);
+        b += weight_at::<T>(low, times, from + i + 32, v, q + 192, w);
+        c += weight_at::<T>(low, times, from + i + 64, v, q + 384, w);
+        d += weight_at::<T>(low, times, from + i + 96, v, q + 576, w);
+    }
+    let m = Rows {
+        a: a,
+        b: b,
+        c: c,
+        d: d,
+    };
+    m.both(Rows::first(n))
+}
+
+// Of at most 128 rows those with such a time that is the number of a column, which begins at a place of the values.
 pub fn same_times(low: Datum, times: &[u32], from: u32, values: &[i32], p: u32, n: u32) -> Rows
     requires { (from ≤ 384) × (places_size ≤ length times.now) × (p < column_end) × (values_size ≤ length values.now) }
     ensures { result ≡ rows_of (compared_at eq (clocked low.v times.now from) (strip values.now p max_columns)) 0 n }
 {
-    let v = &values[(p as usize)..(p as usize + COLUMN)];
-    let mut a: u32 = 0;
-    let mut b: u32 = 0;
-    let mut c: u32 = 0;
-    let mut d: u32 = 0;
-    let mut i: u32 = 0;
-    while i < Rows::WORD {
-        let w = 1 << i;
-        let q = i * COLUMNS;
-        a += same_at(low, times, from + i, v, q, w);
-        b += same_at(low, times, from + i + 32, v, q + 192, w);
-        c += same_at(low, times, from + i + 64, v, q + 384, w);
-        d += same_at(low, times, from + i + 96, v, q + 576, w);
-        i += 1;
-    }
-    let m = Rows {
-        a: a,
-        b: b,
-        c: c,
-        d: d,
-    };
-    m.both(Rows::first(n))
+    compared_times::<Same>(low, times, from, values, p, n)
 }
 
-// A weight where it is below the value, or 0.
-fn below_at(low: Datum, times: &[u32], at: u32, column: &[i32], q: u32, w: u32) -> u32
-    requires { at < length times.now }
-    ensures { result ≡ one (compares lt (later_of low.v (get_or times.now at 0)) (get_or column.now q (pos 0))) * w }
-{
-    less_weight(clock(low, times[at as usize]), cells::value(column, q), w)
-}
-
-// Of at most 128 rows those with such a time, by a column that begins at a place of the values.
-// Rows 32 apart are taken together, each with its own word.
+// Of at most 128 rows those with such a time that is one below the number of a column, which begins at a place of the values.
 pub fn below_times(low: Datum, times: &[u32], from: u32, values: &[i32], p: u32, n: u32) -> Rows
     requires { (from ≤ 384) × (places_size ≤ length times.now) × (p < column_end) × (values_size ≤ length values.now) }
     ensures { result ≡ rows_of (compared_at lt (clocked low.v times.now from) (strip values.now p max_columns)) 0 n }
 {
-    let v = &values[(p as usize)..(p as usize + COLUMN)];
-    let mut a: u32 = 0;
-    let mut b: u32 = 0;
-    let mut c: u32 = 0;
-    let mut d: u32 = 0;
-    let mut i: u32 = 0;
-    while i < Rows::WORD {
-        let w = 1 << i;
-        let q = i * COLUMNS;
-        a += below_at(low, times, from + i, v, q, w);
-        b += below_at(low, times, from + i + 32, v, q + 192, w);
-        c += below_at(low, times, from + i + 64, v, q + 384, w);
-        d += below_at(low, times, from + i + 96, v, q + 576, w);
-        i += 1;
-    }
-    let m = Rows {
-        a: a,
-        b: b,
-        c: c,
-        d: d,
-    };
-    m.both(Rows::first(n))
+    compared_times::<Below>(low, times, from, values, p, n)
 }
 
-// A weight where it is above the value, or 0.
-fn above_at(low: Datum, times: &[u32], at: u32, column: &[i32], q: u32, w: u32) -> u32
-    requires { at < length times.now }
-    ensures { result ≡ one (compares gt (later_of low.v (get_or times.now at 0)) (get_or column.now q (pos 0))) * w }
-{
-    less_weight(cells::value(column, q), clock(low, times[at as usize]), w)
-}
-
-// Of at most 128 rows those with such a time, by a column that begins at a place of the values.
-// Rows 32 apart are taken together, each with its own word.
+// Of at most 128 rows those with such a time that is one above the number of a column, which begins at a place of the values.
 pub fn above_times(low: Datum, times: &[u32], from: u32, values: &[i32], p: u32, n: u32) -> Rows
     requires { (from ≤ 384) × (places_size ≤ length times.now) × (p < column_end) × (values_size ≤ length values.now) }
     ensures { result ≡ rows_of (compared_at gt (clocked low.v times.now from) (strip values.now p max_columns)) 0 n }
 {
-    let v = &values[(p as usize)..(p as usize + COLUMN)];
-    let mut a: u32 = 0;
-    let mut b: u32 = 0;
-    let mut c: u32 = 0;
-    let mut d: u32 = 0;
-    let mut i: u32 = 0;
-    while i < Rows::WORD {
-        let w = 1 << i;
-        let q = i * COLUMNS;
-        a += above_at(low, times, from + i, v, q, w);
-        b += above_at(low, times, from + i + 32, v, q + 192, w);
-        c += above_at(low, times, from + i + 64, v, q + 384, w);
-        d += above_at(low, times, from + i + 96, v, q + 576, w);
-        i += 1;
-    }
-    let m = Rows {
-        a: a,
-        b: b,
-        c: c,
-        d: d,
-    };
-    m.both(Rows::first(n))
+    compared_times::<Above>(low, times, from, values, p, n)
 }
 
 // ---- times within two
@@ -200,14 +145,12 @@ pub fn time_rows(times: &[u32], low: u32, high: u32, from: u32, n: u32) -> Rows
     let mut b: u32 = 0;
     let mut c: u32 = 0;
     let mut d: u32 = 0;
-    let mut i: u32 = 0;
-    while i < k {
+    for i in 0..k {
         let w = 1 << i;
         a += time_weight(times[(from + i) as usize], low, high, w);
         b += time_weight(times[(from + 32 + i) as usize], low, high, w);
         c += time_weight(times[(from + 64 + i) as usize], low, high, w);
         d += time_weight(times[(from + 96 + i) as usize], low, high, w);
-        i += 1;
     }
     let m = Rows {
         a: a,

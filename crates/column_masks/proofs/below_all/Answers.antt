@@ -1,6 +1,0 @@
-use Rattle.column_masks.proofs.Columns.{matched_parts}
-use mathlib.Core.Path.{refl}
-use Rattle.column_masks.proofs.below_all.Goals as goal
-
-pub returns : goal.returns
-returns c = matched_parts _ _ _ _ 128 refl refl refl refl c.below_full.ensures c.below_full-2.ensures c.below_full-3.ensures c.below_full-4.ensures

@@ -1,5 +1,0 @@
-use Rattle.column_masks.proofs.Fours.{four_rows}
-use Rattle.column_masks.proofs.below_four.Goals as goal
-
-pub returns : goal.returns
-returns c = (four_rows _ _ _ _ c.four_bits.ensures.0 c.is_below-4.ensures c.is_below-3.ensures c.is_below-2.ensures c.is_below.ensures, c.four_bits.ensures.1)

@@ -1,0 +1,5 @@
+use Rattle.column_masks.proofs.Fours.{full_pairs}
+use Rattle.column_masks.proofs.pair_full.Goals as goal
+
+pub returns : goal.returns
+returns g c = full_pairs _ _ _ _ _ c.four_digits-high.ensures.0 c.four_digits-low.ensures.0 c.pair_four-8.ensures.0 c.pair_four-7.ensures.0 c.pair_four-6.ensures.0 c.pair_four-5.ensures.0 c.pair_four-4.ensures.0 c.pair_four-3.ensures.0 c.pair_four-2.ensures.0 c.pair_four.ensures.0

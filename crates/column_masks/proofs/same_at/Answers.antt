@@ -1,6 +1,0 @@
-use borrow.Author.Rules.{rules}
-use Rattle.column_masks.proofs.Columns.{same_test}
-use Rattle.column_masks.proofs.same_at.Goals as goal
-
-pub returns : goal.returns
-returns c = search (same_test, rules)
