@@ -1,7 +1,7 @@
 -- The reply to a query whose text passes, one law for each return.
 use mathlib.Core.Path.{◌≡◌, refl, sym, ap, ◌∙◌}
 use mathlib.Core.List.{List, [], ◌∷◌, ◌++◌}
-use mathlib.Core.Bool.{Bool, true, false, not}
+use mathlib.Core.Bool.{true, false}
 use mathlib.Core.Option.{none, some}
 use Prim.Native.Nat.{ℕ, suc, ◌+◌, ◌≤◌, ◌<◌, min}
 use native.Mathlib.Nat.{mul-le-mul}
@@ -10,7 +10,7 @@ use lib.IntN.{ℤ, pos}
 use lib.Dec.{leb}
 use lib.ListN.{length, drop}
 use lib.Seq.{sets, sets-eq}
-use borrow.Author.Tests.{lt-ltb, le-ltb, leb-true, leb-false, not-true, not-false}
+use borrow.Author.Tests.{lt-ltb, le-ltb, leb-true, leb-false}
 use Rattle.lists.specs.Lists.{empty?}
 use Rattle.lists.proofs.Laws.{all_weaken}
 use Rattle.refusal.specs.Checks.{refuse, first}
@@ -84,16 +84,16 @@ module _ (s : Setting) (o : Open) (n : Needs) (k : Ready s o n) (cells : List �
           pub run_ready : {most : ℕ} → (most ≡ most_cells n s.memory.names s.memory.ledger) × (most ≤ room_end) → Runnable s o n r most room (length cells)
           run_ready m = record { listed = e; few = few; each = rw m.0 k.each; limit = m.1; near = omega arith; lent = omega arith }
 
-          pub run_full : {fit : Bool} → fit ≡ leb (suc (length all)) room → not fit ≡ true → {cells₁ : List ℤ} → cells₁ ≡ cells → {y : Reply} → y ≡ refused_with NoRoom → Replies (run_reply s o n cells) cells cells₁ y
+          pub run_full : leb (suc (length all)) room ≡ false → {cells₁ : List ℤ} → cells₁ ≡ cells → {y : Reply} → y ≡ refused_with NoRoom → Replies (run_reply s o n cells) cells cells₁ y
           unfolding run_checks first refuse run_cells
-          run_full {fit} h i c g =
-              let z = leb-false (suc (length all)) room (sym h ∙ not-true fit i) in
+          run_full h c g =
+              let z = leb-false (suc (length all)) room h in
               let l = total_few in
               rw c (refused_by NoRoom (rw (some_there, le-ltb 16 (length xs) few, lt-ltb (length cells) (suc (length all)) (omega arith)) refl) g)
 
-          module _ {fit : Bool} (h : fit ≡ leb (suc (length all)) room) (i : not fit ≡ false) where
+          module _ (h : leb (suc (length all)) room ≡ true) where
             fitting : suc (length all) ≤ room
-            fitting = leb-true (suc (length all)) room (sym h ∙ not-false fit i)
+            fitting = leb-true (suc (length all)) room h
 
             pub put_ready : {cells₁ : List ℤ} → cells₁ ≡ cells → {most : ℕ} → (most ≡ most_cells n s.memory.names s.memory.ledger) × (most ≤ room_end) → Runnable s o n r room_end room (length cells₁) × (suc (length all) ≤ room)
             put_ready c m =

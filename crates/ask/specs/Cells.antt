@@ -1,5 +1,5 @@
 -- The cells of routes: of each its grants' numbers, its width and how many rows it has, then the rows.
-use Rattle.std.specs.Prelude.{◌≡◌, List, [], ◌∷◌, cond, ℕ, suc, ◌+◌, ◌*◌, ◌/◌, ◌≤◌, ◌<◌, min, ℤ, pos, eqb, leb, ltb, length}
+use Rattle.std.specs.Prelude.{◌≡◌, List, [], ◌∷◌, Option, Some, None, Bool, true, false, cond, ℕ, suc, ◌+◌, ◌*◌, ◌/◌, ◌≤◌, ◌<◌, min, ℤ, pos, eqb, leb, ltb, length}
 use Rattle.refusal.specs.Checks.{Check, refuse, first}
 use Rattle.refusal.specs.declared.Refusal.TheVariants.{NoRoute, ManyRoutes, NoRoom}
 use Rattle.lists.specs.Lists.{All, gather, empty?, nth}
@@ -54,6 +54,11 @@ pub record Runnable (s : Setting) (o : Open) (n : Needs) (r : Routes) (most room
 pub record Keeps (s : Setting) (o : Open) (n : Needs) (k : ℕ) (ks : List ℕ) : Type 0 where
   pub size : kept_size ≤ length ks
   pub first : (i : ℕ) → i < k → kept_at ks i ≡ left_of s (way_of o n (nth no_route (routes_in o n) i))
+
+-- whether an answer fits a room: where it does, something is known of so many routes
+abbrev pub Fitting : Bool → (ℕ → Type 0) → Option ℕ → Type 0
+Fitting fits known None = fits ≡ false
+Fitting fits known (Some k) = (fits ≡ true) × known k
 
 -- the cells of an answer: the number of routes, then each route
 unfoldable pub run_cells : Setting → Open → Needs → List ℤ

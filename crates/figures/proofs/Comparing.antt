@@ -1,7 +1,7 @@
 -- Terms and comparisons of an answer row, as the code makes them.
 use mathlib.Core.Path.{◌≡◌, refl, sym, ap, ap₂, ◌∙◌}
 use mathlib.Core.List.{List, [], ◌∷◌}
-use mathlib.Core.Bool.{Bool, true, false, ◌&&◌, not, cond}
+use mathlib.Core.Bool.{Bool, true, false, ◌&&◌, ◌||◌, not, cond}
 use Prim.Native.Nat.{ℕ, suc, ◌-◌, ◌/◌, ◌%◌, ◌≤◌, ◌<◌}
 use native.Mathlib.Omega.{arith}
 use native.Mathlib.Decide.{dec_lt}
@@ -10,7 +10,9 @@ use lib.Signed.{lt_z, le_z}
 use lib.Dec.{leb, ltb, eqb}
 use lib.ListN.{get_or}
 use mir.Syntax.{w64}
-use mir.Val.{SFits}
+use mir.Val.{SFits, to_z, of_z}
+use mir.ValLaws.{to_z-of_z}
+use Rattle.std.proofs.lemmas.Int.{ints}
 use borrow.Author.Tests.{eq-eqb, ne_eqb, eqb-true, eqb-false, lt-ltb, le-ltb, le-leb, lt-leb}
 use Rattle.syntax.specs.Grammar.{Op, eq, ne, lt, le, gt, ge}
 use Rattle.text.specs.Words.{name_of}
@@ -70,6 +72,25 @@ number_fits v h = go (leb 2147483648 v)
 
 -- ---- operators
 
+le_self : (x : ℤ) → true ≡ (le_z x x && le_z x x)
+le_self x = grind (arith, ints)
+
+le_apart : (x y : ℤ) → (x ≡ y → ⊥) → false ≡ (le_z x y && le_z y x)
+le_apart x y h = grind (arith, ints)
+
+-- the machine's test for equal
+equal_test : (x y : ℤ) → SFits w64 x → SFits w64 y → eqb (of_z w64 x) (of_z w64 y) ≡ (le_z x y && le_z y x)
+equal_test x y f g = go (eqb (of_z w64 x) (of_z w64 y)) refl
+  where
+    go : (b : Bool) → eqb (of_z w64 x) (of_z w64 y) ≡ b → b ≡ (le_z x y && le_z y x)
+    go true e =
+        let q : x ≡ y = sym (to_z-of_z w64 x f) ∙ ap (to_z w64) (eqb-true _ _ e) ∙ to_z-of_z w64 y g in
+        rw q (le_self y)
+    go false e = le_apart x y (λ q. eqb-false _ _ e (ap (of_z w64) q))
+
+apart_test : (x y : ℤ) → not (le_z x y && le_z y x) ≡ (lt_z x y || lt_z y x)
+apart_test x y = grind (arith, ints)
+
 module _ (h : ℕ) (x y : ℤ) where
   pub op_lt : {r : Bool} → h ≡ 3 → r ≡ lt_z x y → r ≡ compares (numbered_op h) x y
   unfolding compares numbered_op
@@ -83,35 +104,20 @@ module _ (h : ℕ) (x y : ℤ) where
   unfolding compares numbered_op
   op_gt e f = rw e f
 
-  pub op_above : {b : Bool} → h ≡ 1 → b ≡ le_z x y → not b ≡ true → false ≡ compares (numbered_op h) x y
-  unfolding compares numbered_op
-  op_above {b} e f g = rw (e, ← f) (go b g)
-    where
-      go : (b : Bool) → not b ≡ true → false ≡ (b && le_z y x)
-      go true g = absurd (let z : ◌≡◌ {A = ℕ} 0 1 = cc in omega arith)
-      go false g = refl
+  module _ (f : SFits w64 x) (g : SFits w64 y) where
+    pub op_eq : h ≡ 1 → eqb (of_z w64 x) (of_z w64 y) ≡ compares (numbered_op h) x y
+    unfolding compares numbered_op
+    op_eq e = rw e (equal_test x y f g)
 
-  pub op_eq : {b r : Bool} → h ≡ 1 → b ≡ le_z x y → not b ≡ false → r ≡ le_z y x → r ≡ compares (numbered_op h) x y
-  unfolding compares numbered_op
-  op_eq {b} {r} e f g k = rw (e, ← f, ← k) (go b g)
-    where
-      go : (b : Bool) → not b ≡ false → r ≡ (b && r)
-      go true g = refl
-      go false g = absurd (let z : ◌≡◌ {A = ℕ} 0 1 = cc in omega arith)
-
-  pub op_below : {b : Bool} → h ≡ 2 → b ≡ lt_z x y → b ≡ true → true ≡ compares (numbered_op h) x y
-  unfolding compares numbered_op
-  op_below e f g = rw (e, ← f, g)
-
-  pub op_ne : {b r : Bool} → h ≡ 2 → b ≡ lt_z x y → b ≡ false → r ≡ lt_z y x → r ≡ compares (numbered_op h) x y
-  unfolding compares numbered_op
-  op_ne e f g k = rw (e, ← f, g) k
+    pub op_ne : h ≡ 2 → not (eqb (of_z w64 x) (of_z w64 y)) ≡ compares (numbered_op h) x y
+    unfolding compares numbered_op
+    op_ne e = rw e (ap not (equal_test x y f g) ∙ apart_test x y)
 
   pub op_ge : {r : Bool} → (h ≡ 1 → ⊥) → (h ≡ 2 → ⊥) → (h ≡ 3 → ⊥) → (h ≡ 4 → ⊥) → (h ≡ 5 → ⊥) → r ≡ le_z y x → r ≡ compares (numbered_op h) x y
   unfolding compares numbered_op
   op_ge a b c d e f = rw (ne_eqb h 1 a, ne_eqb h 2 b, ne_eqb h 3 c, ne_eqb h 4 d, ne_eqb h 5 e) f
 
-pub ruleset op_ends = (op_lt, op_le, op_gt, op_above, op_eq, op_below, op_ne, op_ge)
+pub ruleset op_ends = (op_lt, op_le, op_gt, op_eq, op_ne, op_ge, to_z-of_z)
 
 -- ---- the number that stands for a node's value
 

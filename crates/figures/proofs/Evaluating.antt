@@ -5,12 +5,9 @@ use mathlib.Core.Bool.{Bool, true, false, ◌&&◌, ◌||◌, not, cond}
 use Prim.Native.Nat.{ℕ, zero, suc, ◌+◌, ◌*◌, ◌-◌, ◌≤◌, ◌<◌}
 use native.Mathlib.Omega.{arith}
 use native.Mathlib.Decide.{dec_lt}
-use native.Mathlib.Nat.{sub-zero}
 use lib.Dec.{eqb}
-use lib.ListN.{length, get_or}
 use borrow.Author.Tests.{ne_eqb, eqb-true}
-use Rattle.lists.specs.Lists.{every, some?, empty?, count_from}
-use Rattle.lists.proofs.Counting.{every_places, every_past, every_fails, every_done}
+use Rattle.lists.specs.Lists.{every, some?, empty?}
 use Rattle.syntax.specs.Grammar.{Cond, test, all, any, neg}
 use Rattle.model.specs.Queries.{Compare}
 use Rattle.model.specs.Conditions.{true_of, conds_of}
@@ -20,7 +17,7 @@ use Rattle.nodes.specs.Nodes.{node_at, no_node, numbered_op, coded_term, node_co
 use Rattle.nodes.proofs.Reaching.{link_falls, cond_of, list_before, list_step, list_stop, list_on, list_off, cond_on}
 use Rattle.nodes.proofs.Links.{First}
 use Rattle.figures.specs.declared.Answer.{Answer}
-use Rattle.figures.specs.Figures.{meets, passing, tested, connecting, decisive, joined, Leading}
+use Rattle.figures.specs.Figures.{meets, tested, connecting, decisive, joined, Leading}
 
 -- ---- heads
 
@@ -184,9 +181,6 @@ module _ (ws : List ℕ) (stop j : ℕ) where
   unfolding first_cond
   lead_made h f = record { within = f.low; first = ap first_cond (f.items h) }
 
-  pub lead_within : {e : ℕ} → Leading ws stop j e → e ≤ j
-  lead_within l = l.within
-
 -- ---- conditions by their heads
 
 pub pass_none : (ws : List ℕ) (k : ℕ) (a : Answer) → k ≡ 0 → true ≡ meets a (cond_of ws k)
@@ -237,41 +231,8 @@ pub ruleset pass_ends = (pass_none, pass_test, pass_not, pass_list)
 
 -- ---- all conditions that apply
 
-module _ (ws ks : List ℕ) (a : Answer) where
-  abbrev at_place : ℕ → Bool
-  at_place i = meets a (cond_of ws (get_or ks i 0))
-
-  -- those from place i on hold
-  unfoldable pub passing_from : ℕ → Bool
-  passing_from i = every at_place (count_from i (length ks - i))
-
-  mapped : (xs : List ℕ) → every (meets a) (map (λ k. cond_in (2 * k) ws k) xs) ≡ every (λ k. meets a (cond_of ws k)) xs
+module _ (ws : List ℕ) (a : Answer) where
+  pub mapped : (xs : List ℕ) → every (meets a) (map (λ k. cond_in (2 * k) ws k) xs) ≡ every (λ k. meets a (cond_of ws k)) xs
   unfolding every
   mapped [] = refl
   mapped (x ∷ xs) = ap (λ b. meets a (cond_of ws x) && b) (mapped xs)
-
-  pub passing_all : passing_from 0 ≡ passing ws ks a
-  unfolding passing_from passing
-  passing_all = rw (sub-zero (length ks)) (sym (mapped ks ∙ every_places (λ k. meets a (cond_of ws k)) 0 ks))
-
-  pub passing_more : {i k : ℕ} {x : Bool} → i < length ks → k ≡ get_or ks i 0 → x ≡ meets a (cond_of ws k) → not x ≡ false → passing_from (i + 1) ≡ passing_from i
-  unfolding passing_from
-  passing_more {i} {k} {x} h l e f = sym (every_past at_place i (length ks) h (ap (λ (n : ℕ). meets a (cond_of ws n)) (sym l) ∙ sym e ∙ go x f))
-    where
-      go : (b : Bool) → not b ≡ false → b ≡ true
-      go true g = refl
-      go false g = sym g
-
-  pub passing_not : {i k : ℕ} {x : Bool} → passing_from i ≡ passing ws ks a → i < length ks → k ≡ get_or ks i 0 → x ≡ meets a (cond_of ws k) → not x ≡ true → false ≡ passing ws ks a
-  unfolding passing_from
-  passing_not {i} {k} {x} l h m e f = sym (every_fails at_place i (length ks) h (ap (λ (n : ℕ). meets a (cond_of ws n)) (sym m) ∙ sym e ∙ go x f)) ∙ l
-    where
-      go : (b : Bool) → not b ≡ true → b ≡ false
-      go true g = sym g
-      go false g = refl
-
-  pub passing_end : {i : ℕ} → passing_from i ≡ passing ws ks a → length ks ≤ i → true ≡ passing ws ks a
-  unfolding passing_from
-  passing_end {i} l h = sym (every_done at_place i (length ks) h) ∙ l
-
-pub ruleset passing_ends = (passing_all, passing_more, passing_not, passing_end)

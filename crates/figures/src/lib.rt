@@ -18,76 +18,32 @@ pub struct Answer {
     pub figure: i64,
 }
 
-// The value of a term.
-#[derive(Clone, Copy)]
-pub struct Scalar {
-    pub value: i64,
-}
-
 impl Answer {
     // The value of a term by its code, and the number of its comparison.
-    fn term(self, code: u32, v: u32) -> Scalar
-        ensures { result.value ≡ coded_value self code v }
+    fn term(self, code: u32, v: u32) -> i64
+        ensures { result ≡ coded_value self code v }
     {
-        if code == Term::TIME {
-            return Scalar {
-                value: self.end as i64,
-            };
+        match code {
+            Term::TIME => self.end as i64,
+            Term::FIGURE => self.figure,
+            Term::NUMBER => v as i64 - 2147483648,
+            _ => 0,
         }
-        if code == Term::FIGURE {
-            return Scalar { value: self.figure };
-        }
-        if code == Term::NUMBER {
-            return Scalar {
-                value: v as i64 - 2147483648,
-            };
-        }
-        Scalar { value: 0 }
-    }
-}
-
-impl Scalar {
-    // Whether it is below another.
-    fn below(self, m: Scalar) -> bool
-        ensures { result ≡ lt_z self.value m.value }
-    {
-        self.value < m.value
-    }
-
-    // Whether it is not above another.
-    fn within(self, m: Scalar) -> bool
-        ensures { result ≡ le_z self.value m.value }
-    {
-        self.value <= m.value
     }
 }
 
 // Whether two values compare as the head of a node says.
-fn compared(head: u32, l: Scalar, m: Scalar) -> bool
-    ensures { result ≡ compares (numbered_op head) l.value m.value }
+fn compared(head: u32, l: i64, m: i64) -> bool
+    ensures { result ≡ compares (numbered_op head) l m }
 {
-    if head == 3 {
-        return l.below(m);
+    match head {
+        1 => l == m,
+        2 => l != m,
+        3 => l < m,
+        4 => l <= m,
+        5 => m < l,
+        _ => m <= l,
     }
-    if head == 4 {
-        return l.within(m);
-    }
-    if head == 5 {
-        return m.below(l);
-    }
-    if head == 1 {
-        if !l.within(m) {
-            return false;
-        }
-        return m.within(l);
-    }
-    if head == 2 {
-        if l.below(m) {
-            return true;
-        }
-        return m.below(l);
-    }
-    m.within(l)
 }
 
 // The word two places before another.
@@ -210,13 +166,5 @@ fn list_passes(words: &[u32], stop: usize, j: usize, any: bool, a: Answer) -> bo
 pub fn passes_all(words: &[u32], picks: &[u32], a: Answer) -> bool
     ensures { result ≡ passing words.now picks.now a }
 {
-    let mut i: usize = 0;
-    while i < picks.len() {
-        let k = places::word_in(picks, i) as usize;
-        if !passes(words, k, a) {
-            return false;
-        }
-        i += 1;
-    }
-    true
+    picks.iter().all(|k| passes(words, *k as usize, a))
 }

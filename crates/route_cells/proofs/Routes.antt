@@ -73,14 +73,11 @@ module _ (l : Ledger) (ns : List ℕ) (vs : List ℤ) (p : Plan) (lefts rights :
   pub bound_made : {n : ℕ} → p.joined ≡ true → p.number ≡ 0 → MostGiven l ns vs p lefts rights n → Bounds l ns vs p lefts rights aim (aim.at + n * aim.width)
   bound_made j e g =
       record {
-        enough = λ h ts ws gs ps s k.
+        enough = λ ts ws gs ps s k.
             let m : Memory = record { ledger = l; names = ns; times = ts; values = vs } in
             let a = mul-le-mul {m₁ = aim.width} (g.shown ts ws gs ps j (fit m ws gs ps p s e) k) (le_refl aim.width) in
             omega arith;
       }
-
-  pub bound_none : Bounds l ns vs p lefts rights aim (aim.room + 1)
-  bound_none = record { enough = λ h. absurd (omega arith) }
 
 pub bound_small : {n w : ℕ} → n ≤ 16384 → w ≤ 25 → n * w ≤ 409600
 bound_small a b = mul-le-mul {n₂ = 16384} {m₂ = 25} a b
@@ -119,7 +116,7 @@ module _ (m : Memory) (own gs ps : List ℕ) (fs : List Form) (y : Way) (write :
       unfolding way_rows
       within =
           let x = rows_ready a b in
-          let z = k.enough h m.times own gs ps x.0 x.1 in
+          let z = k.enough m.times own gs ps x.0 x.1 in
           rw (way_long s y e.suits, sym f, sym g) (omega arith)
 
       pub route_bounded : Turns (record { memory = m; own = own; granted = gs; profile = ps; forms = fs }) y write last at room cells cells r

@@ -59,7 +59,7 @@ pub record Turns (s : Setting) (y : Way) (write last : Bool) (at room : ℕ) (ce
   pub counted : write ≡ false → (cells' ≡ cells) × (last ≡ false → Counted (at + length (way_cells s y)) room r) × (leb r room ≡ leb (at + length (way_cells s y)) room)
   pub written : write ≡ true → last ≡ false → (cells' ≡ sets cells at (way_cells s y)) × (r ≡ at + length (way_cells s y))
 
--- the cells of a plan's rows, from the place on where they are wanted, do not go past another, where that is in the room
+-- the cells of a plan's rows, from the place on where they are wanted, do not go past another
 pub record Bounds (l : Ledger) (ns : List ℕ) (vs : List ℤ) (p : Plan) (lefts rights : Rows) (aim : Aim) (r : ℕ) : Type 0 where
-  pub enough : r ≤ aim.room → (ts ws gs ps : List ℕ) → Suits (record { ledger = l; names = ns; times = ts; values = vs }) p → Masked (record { ledger = l; names = ns; times = ts; values = vs }) ws gs ps p lefts rights
+  pub enough : (ts ws gs ps : List ℕ) → Suits (record { ledger = l; names = ns; times = ts; values = vs }) p → Masked (record { ledger = l; names = ns; times = ts; values = vs }) ws gs ps p lefts rights
       → aim.at + length (plan_rows (record { ledger = l; names = ns; times = ts; values = vs }) ws gs ps p) * aim.width ≤ r

@@ -133,7 +133,7 @@ fn left_rows(
     m
 }
 
-// A place that the cells of a plan's rows, as they are wanted, do not go past, where it is known without a look for pairs; past the room where it is not.
+// A place that the cells of a plan's rows, as they are wanted, do not go past, where it is known without a look for pairs.
 fn bound(
     p: Plan,
     lefts: Rows,
@@ -142,17 +142,17 @@ fn bound(
     names: &[u64],
     values: &[i32],
     aim: Aim,
-) -> u32
+) -> Option<u32>
     requires { (p.number ≡ 0 → aim.width ≤ most_width) × (aim.at ≤ aim.room + 4) × (aim.room ≤ room_end) }
-    ensures { Bounds l names.now values.now p lefts rights aim result }
+    ensures { (r : ℕ) → result ≡ Some r → Bounds l names.now values.now p lefts rights aim r }
 {
     if p.joined {
         if p.number == 0 {
             let n = answer::most_pairs(p, lefts, rights, l, names, values);
-            return aim.at + n * aim.width;
+            return Some(aim.at + n * aim.width);
         }
     }
-    aim.room + 1
+    None
 }
 
 // The place after the cells of a route, as wanted: past the room where they are counted and have none.
@@ -187,9 +187,10 @@ pub fn enter(
         width: w,
     };
     if turn.last {
-        let end = bound(p, lefts, rights, l, names, values, aim);
-        if end <= turn.room {
-            return end;
+        if let Some(end) = bound(p, lefts, rights, l, names, values, aim) {
+            if end <= turn.room {
+                return end;
+            }
         }
     }
     let n = route_rows::rows(

@@ -1,13 +1,14 @@
 -- The answer rows that pass, counted and written row by row.
 use mathlib.Core.Path.{◌≡◌, refl, sym, ap, ap₂, ◌∙◌}
 use mathlib.Core.List.{List, [], ◌∷◌, ◌++◌, map}
-use mathlib.Core.Bool.{Bool, true, false, not, cond}
+use mathlib.Core.Bool.{Bool, true, false, true≢false, not, cond}
 use Prim.Native.Nat.{ℕ, suc, ◌+◌, ◌*◌, ◌-◌, ◌≤◌, ◌<◌}
 use native.Mathlib.Omega.{arith}
 use lib.IntN.{ℤ, pos}
 use lib.ListN.{length, set, length-set, length-append}
 use lib.Seq.{sets, length-sets, set_out}
-use borrow.Author.Tests.{not-true, not-false}
+use borrow.Author.Tests.{ltb-true, not-true, not-false}
+use lib.Dec.{ltb}
 use Rattle.lists.specs.Lists.{select, every, gather, count_from}
 use Rattle.lists.proofs.Laws.{All, all_nil, all_cons, all_map, all_any, all_select, select_all, gather_append}
 use Rattle.lists.proofs.Counting.{count_done, map_length}
@@ -18,12 +19,9 @@ use Rattle.model.specs.Answers.{row_cells}
 use Rattle.figures.specs.declared.Answer.{Answer}
 use Rattle.figures.specs.Figures.{row_of, passing}
 use Rattle.windows.specs.Events.{figure_in, window_tally, events_from}
-use Rattle.windows.specs.Windows.{Timed, Sought, Runs, window_row, run_rows, answers_from, answers}
-use Rattle.windows.specs.Lent.{events_sound, answers_in, passing_row, picked_rows, Behind}
-use Rattle.windows.specs.declared.Event.{Event}
+use Rattle.windows.specs.Windows.{window_row, run_rows, answers}
+use Rattle.windows.specs.Lent.{events_sound, answers_in, passing_row, picked_rows, Counted, Behind, Single, SinkLaws}
 use Rattle.windows.specs.declared.Windows.{Windows}
-use Rattle.windows.specs.declared.Place.{Place}
-use Rattle.windows.proofs.Skips.{answers_all, sought_run, sought_none_left}
 
 -- ---- two cells
 
@@ -45,9 +43,6 @@ module _ (cells : List ℤ) (at : ℕ) (a : Answer) where
   store_both = refl
 
 -- ---- rows of one value: two cells each
-
-abbrev pub Single : Row → Type 0
-Single r = length r.values ≡ 1
 
 sets_rows : (cells : List ℤ) (place : ℕ) {rs : List Row} → All Single rs → (rest : List ℤ) → sets (sets cells place (gather row_cells rs)) (place + length rs * 2) rest ≡ sets cells place (gather row_cells rs ++ rest)
 unfolding gather row_cells
@@ -127,12 +122,6 @@ module _ (ws ks : List ℕ) where
     abbrev pub picked_one : List Row
     picked_one = picked_rows ws ks (row_of a ∷ [])
 
-    pub one_single : All Single picked_one
-    one_single = picked_single (all_cons {x = row_of a} refl all_nil)
-
-    pub one_few : length picked_one ≤ 1
-    one_few = picked_few (row_of a ∷ [])
-
     module _ {b : Bool} (e : b ≡ passing ws ks a) where
       one_kept : not b ≡ false → picked_one ≡ row_of a ∷ []
       unfolding picked_rows select
@@ -142,68 +131,77 @@ module _ (ws ks : List ℕ) where
       unfolding picked_rows select
       one_left h = rw (sym (passing_is a) ∙ sym e ∙ not-true b h)
 
-      pub count_kept : (rows : ℕ) → not b ≡ false → rows + 1 ≡ rows + length picked_one
-      count_kept rows h = let l = ap length (one_kept h) in omega arith
+      pub count_kept : (room : ℕ) (cells : List ℤ) (rows : ℕ) → not b ≡ false → rows ≤ room → Counted picked_one room cells rows cells (rows + 1)
+      count_kept room cells rows h f = let l = ap length (one_kept h) in record { cells_same = refl; counted = omega arith; few = omega arith; near = λ _. omega arith }
 
-      pub count_left : (rows : ℕ) → not b ≡ true → rows ≡ rows + length picked_one
-      count_left rows h = let l = ap length (one_left h) in omega arith
+      pub count_left : (room : ℕ) (cells : List ℤ) (rows : ℕ) → not b ≡ true → Counted picked_one room cells rows cells rows
+      count_left room cells rows h = let l = ap length (one_left h) in record { cells_same = refl; counted = omega arith; few = omega arith; near = λ k. k }
 
       pub put_left : (cells : List ℤ) (at rows : ℕ) → not b ≡ true → Behind picked_one cells at rows cells rows
       unfolding gather
-      put_left cells at rows h = record { cells_left = rw (one_left h); counted = count_left rows h }
+      put_left cells at rows h = let l = ap length (one_left h) in record { cells_left = rw (one_left h); counted = omega arith }
 
       pub put_kept : (cells : List ℤ) (at rows : ℕ) {cells' : List ℤ} → not b ≡ false → cells' ≡ sets cells (at + rows * 2) (row_cells (row_of a)) → Behind picked_one cells at rows cells' (rows + 1)
       unfolding gather row_cells
-      put_kept cells at rows h f = record { cells_left = rw (one_kept h) f; counted = count_kept rows h }
+      put_kept cells at rows h f = let l = ap length (one_kept h) in record { cells_left = rw (one_kept h) f; counted = omega arith }
+
+-- ---- where rows go
+
+pub counter_laws : {S : Type 0} (ws ks : S → List ℕ) (room : S → ℕ) → SinkLaws (λ s n. ltb (room s) n) (λ s xs c n c' r. Counted (picked_rows (ws s) (ks s) xs) (room s) c n c' r)
+counter_laws ws ks room =
+    record {
+      none = λ s c n. let l = ap length (picked_none (ws s) (ks s)) in record { cells_same = refl; counted = omega arith; few = omega arith; near = λ k. k };
+      append = λ s xs ys c c' c'' n n' n'' _ x y.
+          let l = ap length (picked_append (ws s) (ks s) xs ys) ∙ length-append (picked_rows (ws s) (ks s) xs) (picked_rows (ws s) (ks s) ys) in
+          let a = x.counted in
+          let b = y.counted in
+          let d = x.few in
+          let e = y.few in
+          record { cells_same = y.cells_same ∙ x.cells_same; counted = omega arith; few = omega arith; near = λ k. y.near (x.near k) };
+      few = λ s xs c c' n n' x. let a = x.few in let b = picked_few (ws s) (ks s) xs in omega arith;
+      sized = λ s xs c c' n n' x. ap length x.cells_same;
+      stops = λ s xs c n f. let l = ltb-true (room s) n f in record { cells_same = refl; counted = omega arith; few = omega arith; near = λ k. k };
+    }
+
+pub writer_laws : {S : Type 0} (ws ks : S → List ℕ) (at : S → ℕ) → SinkLaws (λ (s : S) (n : ℕ). false) (λ s xs c n c' r. Behind (picked_rows (ws s) (ks s) xs) c (at s) n c' r)
+unfolding gather
+writer_laws ws ks at =
+    record {
+      none = λ s c n. let l = ap length (picked_none (ws s) (ks s)) in record { cells_left = rw (picked_none (ws s) (ks s)) refl; counted = omega arith };
+      append = λ s xs ys c c' c'' n n' n'' i x y.
+          let e = picked_append (ws s) (ks s) xs ys in
+          let r = behind_rows x (picked_rows (ws s) (ks s) ys) e in
+          let b = y.counted in
+          record { cells_left = y.cells_left ∙ behind_cells x (picked_rows (ws s) (ks s) ys) (picked_single (ws s) (ks s) i) e; counted = omega arith };
+      few = λ s xs c c' n n' x. let a = x.counted in let b = picked_few (ws s) (ks s) xs in omega arith;
+      sized = λ s xs c c' n n' x. behind_length x;
+      stops = λ s xs c n f. absurd (true≢false (sym f));
+    }
+
+pub one_single : (a : Answer) → All Single (row_of a ∷ [])
+one_single a = all_cons {x = row_of a} refl all_nil
 
 -- ---- run by run, and window by window
 
-module _ (w : Windows) (f : Fn) (ts cs : List ℕ) (ps : List ℤ) (ws ks : List ℕ) where
-  abbrev es : List Event
-  es = events_from ts cs ps 0
-
-  -- the rows that pass of a run
-  abbrev pub run_left : ℕ → ℕ → ℕ → List Row
-  run_left i k n = picked_rows ws ks (run_rows w f ts cs ps i k n)
-
-  pub run_single : (i k n : ℕ) → All Single (run_left i k n)
+module _ (w : Windows) (f : Fn) (ts cs : List ℕ) (ps : List ℤ) where
+  pub run_single : (i k n : ℕ) → All Single (run_rows w f ts cs ps i k n)
   unfolding run_rows window_row
-  run_single i k n = picked_single ws ks (all_map (window_row w f ts cs ps i) (λ j _. refl) (all_any (count_from k (n - k))))
+  run_single i k n = all_map (window_row w f ts cs ps i) (λ j _. refl) (all_any (count_from k (n - k)))
 
-  pub run_few : (i k n : ℕ) → length (run_left i k n) ≤ n - k
+  pub run_few : (i k n : ℕ) → length (run_rows w f ts cs ps i k n) ≡ n - k
   unfolding run_rows
-  run_few i k n =
-      let a = picked_few ws ks (run_rows w f ts cs ps i k n) in
-      let b = map_length (window_row w f ts cs ps i) k (n - k) in
-      omega arith
+  run_few i k n = map_length (window_row w f ts cs ps i) k (n - k)
 
-  pub run_done : (i k n : ℕ) → n ≤ k → run_left i k n ≡ []
+  pub run_done : (i k n : ℕ) → n ≤ k → run_rows w f ts cs ps i k n ≡ []
   unfolding run_rows
-  run_done i k n h = rw (count_done k n h) (picked_none ws ks)
+  run_done i k n h = rw (count_done k n h)
 
   -- one window more
-  pub run_next : (i k n : ℕ) → k < n → (a : Answer) {end : ℕ} → end ≡ k * w.offset + w.size → a.end ≡ end → a.figure ≡ figure_in f (window_tally f ts cs ps i end) → run_left i k n ≡ picked_rows ws ks (row_of a ∷ []) ++ run_left i (k + 1) n
+  pub run_next : (i k n : ℕ) → k < n → (a : Answer) → a.end ≡ k * w.offset + w.size → a.figure ≡ figure_in f (window_tally f ts cs ps i (k * w.offset + w.size)) → run_rows w f ts cs ps i k n ≡ row_of a ∷ run_rows w f ts cs ps i (k + 1) n
   unfolding run_rows window_row
-  run_next i k n l a {end} e x y =
-      ap (λ ls. picked_rows ws ks (map (window_row w f ts cs ps i) ls)) (Rattle.lists.proofs.Counting.count_left k n l)
-      ∙ ap₂ (λ (u : ℕ) (v : ℤ). picked_rows ws ks (record { at = u; values = v ∷ [] } ∷ run_rows w f ts cs ps i (k + 1) n)) (sym (x ∙ e)) (sym (y ∙ ap (λ (u : ℕ). figure_in f (window_tally f ts cs ps i u)) e))
-      ∙ picked_append ws ks (row_of a ∷ []) (run_rows w f ts cs ps i (k + 1) n)
-
-  -- the rows that pass of the windows from number k on
-  unfoldable pub rows_left : ℕ → List Row
-  rows_left k = picked_rows ws ks (answers_from w f es k)
-
-  pub rows_all : rows_left 0 ≡ picked_rows ws ks (answers w f es)
-  unfolding rows_left
-  rows_all = ap (picked_rows ws ks) (sym (answers_all w f ts cs ps))
-
-  pub rows_none : (k : ℕ) (p : Place) → Sought w ts k p → p.found ≡ false → rows_left k ≡ []
-  unfolding rows_left
-  rows_none k p s e = ap (picked_rows ws ks) (sought_none_left w f ts cs ps k p s e) ∙ picked_none ws ks
-
-  pub rows_next : (k : ℕ) (p : Place) → 1 ≤ w.offset → Timed w.clock ts → Sought w ts k p → p.found ≡ true → (n : ℕ) → p.window ≤ n → Runs w ts p.event p.window n → rows_left k ≡ run_left p.event p.window n ++ rows_left n
-  unfolding rows_left
-  rows_next k p o t s e n l h = ap (picked_rows ws ks) (sought_run w f ts cs ps k p o t s e n l h) ∙ picked_append ws ks (run_rows w f ts cs ps p.event p.window n) (answers_from w f es n)
+  run_next i k n l a x y =
+      ap (λ ls. map (window_row w f ts cs ps i) ls) (Rattle.lists.proofs.Counting.count_left k n l)
+      ∙ ap₂ (λ (u : ℕ) (v : ℤ). record { at = u; values = v ∷ [] } ∷ run_rows w f ts cs ps i (k + 1) n) (sym x) (sym y)
 
 -- ---- events that may be lent
 

@@ -1,8 +1,8 @@
 -- Events in lent memory: whether they may be lent, and the answer rows that are written of them.
-use Rattle.std.specs.Prelude.{◌≡◌, List, [], ◌∷◌, map, Bool, ◌&&◌, cond, ℕ, ◌+◌, ◌*◌, ◌-◌, ℤ, pos, negsuc, leb, eqb, length, get_or}
+use Rattle.std.specs.Prelude.{◌≡◌, List, [], ◌∷◌, ◌++◌, map, Bool, true, ◌&&◌, cond, ℕ, suc, ◌+◌, ◌*◌, ◌-◌, ◌≤◌, min, ℤ, pos, negsuc, leb, eqb, length, get_or}
 use Rattle.std.specs.Int.Signed.{le_z}
 use Rattle.std.proofs.lemmas.List.Edits.{sets}
-use Rattle.lists.specs.Lists.{select, every, gather, count_from}
+use Rattle.lists.specs.Lists.{All, select, every, gather, count_from}
 use Rattle.syntax.specs.Grammar.{Fn}
 use Rattle.syntax.specs.Limits.{top}
 use Rattle.model.specs.Queries.{Row, figure}
@@ -52,6 +52,13 @@ passing_row ws ks r = every (holds (figure ∷ []) r) (map (λ k. cond_in (2 * k
 unfoldable pub picked_rows : List ℕ → List ℕ → List Row → List Row
 picked_rows ws ks rs = select (passing_row ws ks) rs
 
+-- rows are counted behind some others, until they are more than a room
+pub record Counted (more : List Row) (room : ℕ) (cells : List ℤ) (rows : ℕ) (cells' : List ℤ) (r : ℕ) : Type 0 where
+  pub cells_same : cells' ≡ cells
+  pub counted : min r (suc room) ≡ min (rows + length more) (suc room)
+  pub few : r ≤ rows + length more
+  pub near : rows ≤ suc room → r ≤ suc room
+
 -- rows are written behind some others, and counted with them
 pub record Behind (more : List Row) (cells : List ℤ) (at rows : ℕ) (cells' : List ℤ) (r : ℕ) : Type 0 where
   pub cells_left : cells' ≡ sets cells (at + rows * 2) (gather row_cells more)
@@ -61,3 +68,15 @@ pub record Behind (more : List Row) (cells : List ℤ) (at rows : ℕ) (cells' :
 pub record Written (rows : List Row) (cells : List ℤ) (at : ℕ) (cells' : List ℤ) (r : ℕ) : Type 0 where
   pub cells_left : cells' ≡ sets cells at (gather row_cells rows)
   pub counted : r ≡ length rows
+
+-- a row of one value
+abbrev pub Single : Row → Type 0
+Single r = length r.values ≡ 1
+
+-- where rows go: those behind some others, which are known by how many they are and by the cells before and after
+pub record SinkLaws {S : Type 0} (full : S → ℕ → Bool) (taken : S → List Row → List ℤ → ℕ → List ℤ → ℕ → Type 0) : Type 0 where
+  pub none : (s : S) (c : List ℤ) (n : ℕ) → taken s [] c n c n
+  pub append : (s : S) (xs ys : List Row) (c c' c'' : List ℤ) (n n' n'' : ℕ) → All Single xs → taken s xs c n c' n' → taken s ys c' n' c'' n'' → taken s (xs ++ ys) c n c'' n''
+  pub few : (s : S) (xs : List Row) (c c' : List ℤ) (n n' : ℕ) → taken s xs c n c' n' → n' ≤ n + length xs
+  pub sized : (s : S) (xs : List Row) (c c' : List ℤ) (n n' : ℕ) → taken s xs c n c' n' → length c' ≡ length c
+  pub stops : (s : S) (xs : List Row) (c : List ℤ) (n : ℕ) → full s n ≡ true → taken s xs c n c n

@@ -1,5 +1,5 @@
 -- The windows that hold an event, found one after the other.
-use Rattle.std.specs.Prelude.{◌≡◌, List, [], ◌∷◌, map, true, false, cond, ℕ, suc, ◌+◌, ◌*◌, ◌-◌, ◌/◌, ◌≤◌, ◌<◌, min, ℤ, pos, nat_abs, leb, length, get_or}
+use Rattle.std.specs.Prelude.{◌≡◌, List, [], ◌∷◌, map, Option, Some, None, false, ℕ, suc, ◌+◌, ◌*◌, ◌-◌, ◌/◌, ◌≤◌, ◌<◌, min, ℤ, pos, nat_abs, leb, length, get_or}
 use Rattle.lists.specs.Lists.{select, gather, count_from}
 use Rattle.syntax.specs.Grammar.{Fn}
 use Rattle.syntax.specs.Limits.{top, max_rows}
@@ -59,12 +59,16 @@ pub record Holds (w : Windows) (ts : List ℕ) (k i : ℕ) : Type 0 where
   pub begins : k * w.offset ≤ get_or ts i 0
   pub inside : get_or ts i 0 < k * w.offset + w.size
 
--- the first window from number k on that has ended and holds a time
-pub record Sought (w : Windows) (ts : List ℕ) (k : ℕ) (r : Place) : Type 0 where
-  pub holds : r.found ≡ true → Holds w ts r.window r.event
-  pub from : r.found ≡ true → k ≤ r.window
-  pub between : r.found ≡ true → (j : ℕ) → k ≤ j → j < r.window → Idle w ts j
-  pub none : r.found ≡ false → (j : ℕ) → k ≤ j → Idle w ts j
+-- it is the first from number k on that has ended and holds a time
+pub record Found (w : Windows) (ts : List ℕ) (k : ℕ) (p : Place) : Type 0 where
+  pub holds : Holds w ts p.window p.event
+  pub from : k ≤ p.window
+  pub between : (j : ℕ) → k ≤ j → j < p.window → Idle w ts j
+
+-- the first such window, where there is one
+abbrev pub Sought : Windows → List ℕ → ℕ → Option Place → Type 0
+Sought w ts k None = (j : ℕ) → k ≤ j → Idle w ts j
+Sought w ts k (Some p) = Found w ts k p
 
 -- ---- runs: windows that follow one another and have one first event
 
@@ -95,8 +99,9 @@ unfoldable pub answers : Windows → Fn → List Event → List Row
 answers w f es = event_figures w.clock f w.size w.offset es
 
 -- how far the windows may still go
-unfoldable pub ahead : Windows → Place → ℕ
-ahead w p = cond p.found (suc w.clock - p.window) 0
+unfoldable pub ahead : Windows → Option Place → ℕ
+ahead w None = 0
+ahead w (Some p) = suc w.clock - p.window
 
 -- what an event may hold
 pub record Parts (ts cs : List ℕ) (ps : List ℤ) : Type 0 where

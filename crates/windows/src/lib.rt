@@ -1,14 +1,15 @@
 // Figures of windows over events in order of time: only windows that have ended and hold an event are visited, and the tally moves with them.
 #![tactic(auto)]
 
-ghost use Rattle.std.specs.Prelude.{◌≡◌, true, false, List, ◌∷◌, [], ℕ, suc, ◌+◌, ◌*◌, ◌^◌, ◌≤◌, ◌<◌, min, max, ℤ, nat_abs, length, get_or};
+ghost use Rattle.std.specs.Prelude.{◌≡◌, Bool, true, false, List, ◌∷◌, [], ℕ, ltb, suc, ◌+◌, ◌*◌, ◌^◌, ◌≤◌, ◌<◌, min, max, ℤ, nat_abs, length, get_or};
 ghost use Rattle.std.proofs.lemmas.List.Edits.{sets};
 ghost use Rattle.syntax.specs.Grammar.{Fn, numbered_fn};
+ghost use Rattle.model.specs.Queries.{Row};
 ghost use Rattle.model.specs.Answers.{row_cells};
 ghost use Rattle.figures.specs.Figures.{row_of};
-ghost use Rattle.windows.specs.Events.{with_event, less_event, figure_in, event_at, events_from, window_tally};
+ghost use Rattle.windows.specs.Events.{merge, with_event, less_event, figure_in, event_at, events_from, window_tally};
 ghost use Rattle.windows.specs.Windows.{Bounded, Timed, Before, Ordered, Reached, Sought, Parts, Spans, Kept, Runs, most_events, answers, last_with, run_rows};
-ghost use Rattle.windows.specs.Lent.{events_sound, answers_in, picked_rows, Behind, Written};
+ghost use Rattle.windows.specs.Lent.{events_sound, answers_in, picked_rows, Counted, Behind, Written, SinkLaws};
 
 use figures::Answer;
 
@@ -24,7 +25,6 @@ pub struct Windows {
 // A window that has ended, with the place of its first event.
 #[derive(Clone, Copy)]
 pub struct Place {
-    pub found: bool,
     pub window: u32,
     pub event: u32,
 }
@@ -76,34 +76,21 @@ fn first_from(times: &[u32], i: u32, start: u32) -> u32
     ensures { Reached times.now i start result }
 {
     let n = times.len() as u32;
-    let mut j = i;
-    while j < n {
+    for j in i..n {
         if start <= times[j as usize] {
             return j;
         }
-        j += 1;
     }
-    j
-}
-
-// No such window.
-fn nowhere() -> Place
-    ensures { result.found ≡ false }
-{
-    Place {
-        found: false,
-        window: 0,
-        event: 0,
-    }
+    n
 }
 
 // The first window from number k on that has ended and holds an event. All events before place i are before window k.
-fn next(w: Windows, times: &[u32], k: u32, i: u32) -> Place
+fn next(w: Windows, times: &[u32], k: u32, i: u32) -> Option<Place>
     requires { Bounded w × Timed w.clock times.now × (length times.now ≤ most_events) × (k * w.offset ≤ w.clock + w.offset) × (i ≤ length times.now) × Before times.now i (k * w.offset) }
     ensures { Sought w times.now k result }
 {
     if w.clock < w.size {
-        return nowhere();
+        return None;
     }
     let mut window = k;
     let mut start = k * w.offset;
@@ -111,20 +98,19 @@ fn next(w: Windows, times: &[u32], k: u32, i: u32) -> Place
     while start <= w.clock - w.size {
         event = first_from(times, event, start);
         if times.len() <= event as usize {
-            return nowhere();
+            return None;
         }
         let t = times[event as usize];
         if t - start < w.size {
-            return Place {
-                found: true,
+            return Some(Place {
                 window: window,
                 event: event,
-            };
+            });
         }
         window = (t - w.size) / w.offset + 1;
         start = window * w.offset;
     }
-    nowhere()
+    None
 }
 
 // The event at place i.
@@ -140,40 +126,27 @@ fn event_at(times: &[u32], counts: &[u16], parts: &[i64], k: u32) -> Event
     }
 }
 
+// The least, the greatest or the sum of two parts, by the number of an aggregate.
+pub fn merged(f: u32, a: i64, b: i64) -> i64
+    requires { (nat_abs a ≤ 2 ^ 53) × (nat_abs b ≤ 2 ^ 45) }
+    ensures { result ≡ merge (numbered_fn f) a b }
+{
+    match f {
+        1 => a.min(b),
+        2 => a.max(b),
+        _ => a + b,
+    }
+}
+
 impl Tally {
     // One event more.
     fn with(self, f: u32, e: Event) -> Tally
         requires { (nat_abs self.part ≤ 2 ^ 53) × (nat_abs e.part ≤ 2 ^ 45) × (self.count ≤ 4194304) × (e.count ≤ 16384) }
         ensures { result ≡ with_event (numbered_fn f) self e }
     {
-        let count = self.count + e.count;
-        if f == 1 {
-            if self.part <= e.part {
-                return Tally {
-                    count: count,
-                    part: self.part,
-                };
-            }
-            return Tally {
-                count: count,
-                part: e.part,
-            };
-        }
-        if f == 2 {
-            if self.part <= e.part {
-                return Tally {
-                    count: count,
-                    part: e.part,
-                };
-            }
-            return Tally {
-                count: count,
-                part: self.part,
-            };
-        }
         Tally {
-            count: count,
-            part: self.part + e.part,
+            count: self.count + e.count,
+            part: merged(f, self.part, e.part),
         }
     }
 
@@ -237,11 +210,9 @@ fn trimmed(f: u32, times: &[u32], counts: &[u16], parts: &[i64], s: Span, i: u32
         return alone(times, counts, parts, i);
     }
     let mut t = s.tally;
-    let mut k = s.from;
-    while k < i {
+    for k in s.from..i {
         let e = event_at(times, counts, parts, k);
         t = t.without(e);
-        k += 1;
     }
     Span {
         from: i,
@@ -258,8 +229,7 @@ fn moved(f: u32, times: &[u32], counts: &[u16], parts: &[i64], s: Span, i: u32, 
     let l = trimmed(f, times, counts, parts, s, i);
     let mut t = l.tally;
     let n = times.len() as u32;
-    let mut j = l.to;
-    while j < n {
+    for j in l.to..n {
         let e = event_at(times, counts, parts, j);
         if end <= e.time {
             return Span {
@@ -269,11 +239,10 @@ fn moved(f: u32, times: &[u32], counts: &[u16], parts: &[i64], s: Span, i: u32, 
             };
         }
         t = t.with(f, e);
-        j += 1;
     }
     Span {
         from: i,
-        to: j,
+        to: n,
         tally: t,
     }
 }
@@ -307,27 +276,71 @@ fn store(cells: &mut [i64], at: usize, a: Answer)
     cells[at] = a.end as i64;
 }
 
-// An answer row behind those before it, where the conditions hold; how many there are then.
-fn put(words: &[u32], picks: &[u32], a: Answer, cells: &mut [i64], at: u32, rows: u32) -> u32
-    requires { rows < 2 ^ 31 }
-    ensures { Behind (picked_rows words.now picks.now (row_of a ∷ [])) cells.old at rows cells.new result }
-{
-    if !figures::passes_all(words, picks, a) {
-        return rows;
-    }
-    store(cells, at as usize + rows as usize * 2, a);
-    rows + 1
+// Where the answer rows go that pass the conditions that end at some places of words: counted up to a room, or written.
+trait Sink {
+    ghost full: { Self → ℕ → Bool };
+
+    ghost taken: { Self → List Row → List ℤ → ℕ → List ℤ → ℕ → Type 0 };
+
+    // Whether no more rows are wanted behind some.
+    fn full(&self, rows: u32) -> bool
+        ensures { result ≡ full self.now rows };
+
+    // One answer row more behind some, where the conditions hold; how many there are then.
+    fn put(&self, a: Answer, cells: &mut [i64], rows: u32) -> u32
+        requires { (rows < 2 ^ 31) × (full self.now rows ≡ false) }
+        ensures { taken self.now (row_of a ∷ []) cells.old rows cells.new result };
 }
 
-// One answer row more, where the conditions hold.
-fn counted(words: &[u32], picks: &[u32], a: Answer, rows: u32) -> u32
-    requires { rows < 2 ^ 31 }
-    ensures { result ≡ rows + length (picked_rows words.now picks.now (row_of a ∷ [])) }
-{
-    if !figures::passes_all(words, picks, a) {
-        return rows;
+// Rows that are counted until they are more than a room.
+#[derive(Clone, Copy)]
+struct Counter<'a> {
+    words: &'a [u32],
+    picks: &'a [u32],
+    room: u32,
+}
+
+impl<'a> Sink for Counter<'a> {
+    ghost full = { λ s n. ltb s.room n };
+
+    ghost taken = { λ s xs c n c' r. Counted (picked_rows s.words.now s.picks.now xs) s.room c n c' r };
+
+    fn full(&self, rows: u32) -> bool {
+        self.room < rows
     }
-    rows + 1
+
+    fn put(&self, a: Answer, cells: &mut [i64], rows: u32) -> u32 {
+        if !figures::passes_all(self.words, self.picks, a) {
+            return rows;
+        }
+        rows + 1
+    }
+}
+
+// Rows that are written behind one another, from a place on.
+#[derive(Clone, Copy)]
+struct Writer<'a> {
+    words: &'a [u32],
+    picks: &'a [u32],
+    at: u32,
+}
+
+impl<'a> Sink for Writer<'a> {
+    ghost full = { λ s n. false };
+
+    ghost taken = { λ s xs c n c' r. Behind (picked_rows s.words.now s.picks.now xs) c s.at n c' r };
+
+    fn full(&self, _rows: u32) -> bool {
+        false
+    }
+
+    fn put(&self, a: Answer, cells: &mut [i64], rows: u32) -> u32 {
+        if !figures::passes_all(self.words, self.picks, a) {
+            return rows;
+        }
+        store(cells, self.at as usize + rows as usize * 2, a);
+        rows + 1
+    }
 }
 
 // The last window that has ended and begins by a time.
@@ -349,16 +362,15 @@ fn count_windows(w: Windows, times: &[u32], room: u32) -> u32
     ensures { (f : Fn) (cs : List ℕ) (ps : List ℤ) → result ≡ min (length (answers w f (events_from times.now cs ps 0))) (suc room) }
 {
     let mut rows: u32 = 0;
-    let mut p = next(w, times, 0, 0);
-    while p.found {
-        let i = p.event as usize;
-        let last = last_with(w, times[i]);
+    let mut place = next(w, times, 0, 0);
+    while let Some(p) = place {
+        let last = last_with(w, times[p.event as usize]);
         let run = last - p.window + 1;
         if room - rows < run {
             return room + 1;
         }
         rows += run;
-        p = next(w, times, last + 1, p.event);
+        place = next(w, times, last + 1, p.event);
     }
     rows
 }
@@ -385,36 +397,33 @@ struct Stretch {
     last: u32,
 }
 
-// How many answer rows pass with those of a run of windows; one more than the room where they are more.
-fn count_run(
+// The answer rows of a run of windows, behind those before them; how many there are then.
+fn visit_run<S: Sink>(
     w: Windows,
     times: &[u32],
     counts: &[u16],
     parts: &[i64],
-    words: &[u32],
-    picks: &[u32],
-    room: u32,
+    sink: &S,
+    cells: &mut [i64],
     run: Stretch,
     begun: Visited,
 ) -> Visited
-    requires { Bounded w × Timed w.clock times.now × Parts times.now counts.now parts.now × (begun.rows ≤ room) × (begun.rows ≤ run.first) × (run.first ≤ run.last) × Runs w times.now run.event run.first (run.last + 1) × Kept w (numbered_fn w.number) times.now counts.now parts.now run.first begun.span }
-    ensures { (result.rows ≡ min (begun.rows + length (picked_rows words.entry.now picks.entry.now (run_rows w (numbered_fn w.number) times.entry.now counts.entry.now parts.entry.now run.event run.first (run.last + 1)))) (suc room)) × Kept w (numbered_fn w.number) times.entry.now counts.entry.now parts.entry.now (run.last + 1) result.span }
+    requires { Bounded w × Timed w.clock times.now × Parts times.now counts.now parts.now × (begun.rows ≤ run.first) × (run.first ≤ run.last) × Runs w times.now run.event run.first (run.last + 1) × Kept w (numbered_fn w.number) times.now counts.now parts.now run.first begun.span × SinkLaws S.full S.taken }
+    ensures { S.taken sink.now (run_rows w (numbered_fn w.number) times.entry.now counts.entry.now parts.entry.now run.event run.first (run.last + 1)) cells.entry.now begun.rows cells.exit.now result.rows × Kept w (numbered_fn w.number) times.entry.now counts.entry.now parts.entry.now (run.last + 1) result.span }
 {
     let mut r = begun.rows;
     let mut span = begun.span;
-    let mut end = run.first * w.offset + w.size;
-    let last_end = run.last * w.offset + w.size;
-    while end <= last_end {
-        if room < r {
+    for window in run.first..run.last + 1 {
+        if sink.full(r) {
             return Visited {
                 rows: r,
                 span: span,
             };
         }
+        let end = window * w.offset + w.size;
         span = moved(w.number, times, counts, parts, span, run.event, end);
         let a = answer_of(w.number, span, end);
-        r = counted(words, picks, a, r);
-        end += w.offset;
+        r = sink.put(a, cells, r);
     }
     Visited {
         rows: r,
@@ -422,43 +431,32 @@ fn count_run(
     }
 }
 
-// How many of them pass; one more than the room where they are more.
-fn count_picked(
+// The answer rows of all windows; how many there are.
+fn visit<S: Sink>(
     w: Windows,
     times: &[u32],
     counts: &[u16],
     parts: &[i64],
-    words: &[u32],
-    picks: &[u32],
-    room: u32,
+    sink: &S,
+    cells: &mut [i64],
 ) -> u32
-    requires { Bounded w × Timed w.clock times.now × Parts times.now counts.now parts.now }
-    ensures { result ≡ min (length (picked_rows words.now picks.now (answers w (numbered_fn w.number) (events_from times.now counts.now parts.now 0)))) (suc room) }
+    requires { Bounded w × Timed w.clock times.now × Parts times.now counts.now parts.now × SinkLaws S.full S.taken }
+    ensures { S.taken sink.now (answers w (numbered_fn w.number) (events_from times.now counts.now parts.now 0)) cells.old 0 cells.new result }
 {
     let mut r = no_rows();
-    let mut p = next(w, times, 0, 0);
-    while p.found {
-        if room < r.rows {
+    let mut place = next(w, times, 0, 0);
+    while let Some(p) = place {
+        if sink.full(r.rows) {
             return r.rows;
         }
-        let i = p.event as usize;
-        let last = last_with(w, times[i]);
-        r = count_run(
-            w,
-            times,
-            counts,
-            parts,
-            words,
-            picks,
-            room,
-            Stretch {
-                event: p.event,
-                first: p.window,
-                last: last,
-            },
-            r,
-        );
-        p = next(w, times, last + 1, p.event);
+        let last = last_with(w, times[p.event as usize]);
+        let run = Stretch {
+            event: p.event,
+            first: p.window,
+            last: last,
+        };
+        r = visit_run(w, times, counts, parts, sink, cells, run, r);
+        place = next(w, times, last + 1, p.event);
     }
     r.rows
 }
@@ -479,79 +477,12 @@ pub fn count(
     if picks.len() == 0 {
         return count_windows(w, times, room);
     }
-    count_picked(w, times, counts, parts, words, picks, room)
-}
-
-// The answer rows that pass of a run of windows, behind those before them; how many there are then.
-fn put_run(
-    w: Windows,
-    times: &[u32],
-    counts: &[u16],
-    parts: &[i64],
-    words: &[u32],
-    picks: &[u32],
-    cells: &mut [i64],
-    at: u32,
-    run: Stretch,
-    begun: Visited,
-) -> Visited
-    requires { Bounded w × Timed w.clock times.now × Parts times.now counts.now parts.now × (begun.rows ≤ run.first) × (run.first ≤ run.last) × Runs w times.now run.event run.first (run.last + 1) × Kept w (numbered_fn w.number) times.now counts.now parts.now run.first begun.span }
-    ensures { Behind (picked_rows words.entry.now picks.entry.now (run_rows w (numbered_fn w.number) times.entry.now counts.entry.now parts.entry.now run.event run.first (run.last + 1))) cells.entry.now at begun.rows cells.exit.now result.rows × Kept w (numbered_fn w.number) times.entry.now counts.entry.now parts.entry.now (run.last + 1) result.span }
-{
-    let mut r = begun.rows;
-    let mut span = begun.span;
-    let mut end = run.first * w.offset + w.size;
-    let last_end = run.last * w.offset + w.size;
-    while end <= last_end {
-        span = moved(w.number, times, counts, parts, span, run.event, end);
-        let a = answer_of(w.number, span, end);
-        r = put(words, picks, a, cells, at, r);
-        end += w.offset;
-    }
-    Visited {
-        rows: r,
-        span: span,
-    }
-}
-
-// The cells of those that pass.
-fn write_rows(
-    w: Windows,
-    times: &[u32],
-    counts: &[u16],
-    parts: &[i64],
-    words: &[u32],
-    picks: &[u32],
-    cells: &mut [i64],
-    at: u32,
-) -> u32
-    requires { Bounded w × Timed w.clock times.now × Parts times.now counts.now parts.now }
-    ensures { Written (picked_rows words.now picks.now (answers w (numbered_fn w.number) (events_from times.now counts.now parts.now 0))) cells.old at cells.new result }
-{
-    let mut r = no_rows();
-    let mut p = next(w, times, 0, 0);
-    while p.found {
-        let i = p.event as usize;
-        let last = last_with(w, times[i]);
-        r = put_run(
-            w,
-            times,
-            counts,
-            parts,
-            words,
-            picks,
-            cells,
-            at,
-            Stretch {
-                event: p.event,
-                first: p.window,
-                last: last,
-            },
-            r,
-        );
-        p = next(w, times, last + 1, p.event);
-    }
-    r.rows
+    let counter = Counter {
+        words: words,
+        picks: picks,
+        room: room,
+    };
+    visit(w, times, counts, parts, &counter, &mut [])
 }
 
 // Returns how many answer rows pass the conditions that end at some places of the words.
@@ -569,5 +500,10 @@ pub fn write(
     requires { events_sound w times.now counts.now parts.now ≡ true }
     ensures { Written (picked_rows words.now picks.now (answers_in (numbered_fn w.number) w times.now counts.now parts.now)) cells.old at cells.new result }
 {
-    write_rows(w, times, counts, parts, words, picks, cells, at)
+    let writer = Writer {
+        words: words,
+        picks: picks,
+        at: at,
+    };
+    visit(w, times, counts, parts, &writer, cells)
 }

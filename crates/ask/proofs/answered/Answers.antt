@@ -4,10 +4,10 @@ use Rattle.ask.proofs.Called.{answers_refused, answers_ready, answers_given}
 use Rattle.ask.proofs.answered.Goals as goal
 
 pub run-requires : goal.run-requires
-run-requires c = answers_ready _ _ _ _ _ c.may_be_lent.ensures c.verdict-v.ensures c.args.cells.now c.requires (search rules) (profile_first _ c.profile_of-profile.ensures c.least-e.ensures)
+run-requires c = answers_ready _ _ _ _ _ c.may_be_lent.ensures c.verdict-v.ensures c.args.cells.now c.requires (search rules) (profile_first _ c.profile_of-profile.ensures (search rules))
 
 pub returns-in-Refused : goal.returns-in-Refused
 returns-in-Refused c = let a = c.may_be_lent.ensures in let b = c.verdict-v.ensures in let d = c.refused.ensures in search (answers_refused, rules)
 
 pub returns-in-Accepted : goal.returns-in-Accepted
-returns-in-Accepted c = answers_given _ _ _ _ _ c.may_be_lent.ensures c.verdict-v.ensures _ (search rules) (profile_first _ c.profile_of-profile.ensures c.least-e.ensures) c.run.ensures
+returns-in-Accepted c = answers_given _ _ _ _ _ c.may_be_lent.ensures c.verdict-v.ensures _ (search rules) (profile_first _ c.profile_of-profile.ensures (search rules)) c.run.ensures

@@ -1,5 +1,5 @@
 use mathlib.Core.Path.{◌≡◌}
-use Prim.Native.Nat.{suc, ◌≤◌, ◌-◌}
+use Prim.Native.Nat.{suc}
 use lib.ListN.{length}
 use lib.Seq.{sets}
 use Rattle.query.specs.Tables.{query_forms}
@@ -9,11 +9,7 @@ use Rattle.ask.proofs.put_all.Given as goal
 
 abbrev pub invariant-loop-i : goal.invariant-loop-i
 invariant-loop-i l =
-    (l.i ≤ l.task.routes.count)
-    × (l.cells ≡ sets l.initial.cells 1 (first_cells (record { memory = record { ledger = l.l; names = l.names; times = l.times; values = l.values }; own = l.words; granted = l.granted; profile = l.profile; forms = query_forms l.q }) l.o l.task.needs l.i))
+    (l.cells ≡ sets l.initial.cells 1 (first_cells (record { memory = record { ledger = l.l; names = l.names; times = l.times; values = l.values }; own = l.words; granted = l.granted; profile = l.profile; forms = query_forms l.q }) l.o l.task.needs l.i))
     × (l.at ≡ suc (length (first_cells (record { memory = record { ledger = l.l; names = l.names; times = l.times; values = l.values }; own = l.words; granted = l.granted; profile = l.profile; forms = query_forms l.q }) l.o l.task.needs l.i)))
     × Keeps (record { memory = record { ledger = l.l; names = l.names; times = l.times; values = l.values }; own = l.words; granted = l.granted; profile = l.profile; forms = query_forms l.q }) l.o l.task.needs l.task.known l.kept
     × (length l.kept ≡ length l.initial.kept)
-
-abbrev pub decreases-loop-i : goal.decreases-loop-i
-decreases-loop-i l = l.task.routes.count - l.i

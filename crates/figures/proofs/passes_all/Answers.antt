@@ -1,22 +1,20 @@
-use mathlib.Core.Path.{◌∙◌}
-use native.Mathlib.Omega.{arith}
-use Rattle.figures.proofs.Evaluating.{passing_ends, passing_more}
+-- `passes_all`: what `all` gives over the places.
+use mathlib.Core.Path.{sym, ◌∙◌}
+use borrow.Author.Rules.{rules}
+use borrow.Author.Tests.{tests}
+use Rattle.std.proofs.lemmas.Iterator.{YieldsList-from_slice}
+use Rattle.std.proofs.lemmas.Iterator.Search.{all_from_yields_List}
+use Rattle.lists.proofs.Chains.{all_is}
+use Rattle.nodes.proofs.Reaching.{cond_of}
+use Rattle.figures.specs.Figures.{meets, passing}
+use Rattle.figures.proofs.Evaluating.{mapped}
 use Rattle.figures.proofs.passes_all.Goals as goal
 
-pub loop-i-init : goal.loop-i-init
-loop-i-init c = search passing_ends
-
-pub returns-then-not-passes : goal.returns-then-not-passes
-returns-then-not-passes c = search passing_ends
-
-pub loop-i-smaller : goal.loop-i-smaller
-loop-i-smaller c = omega arith
-
-pub loop-i-preserved : goal.loop-i-preserved
-loop-i-preserved c =
-    let a = c.args in
-    let l = c.loop-i in
-    passing_more a.words.now a.picks.now a.a (omega arith) c.word_in-k.ensures c.passes.ensures c.if-not-passes.false-raw ∙ l.invariant
-
 pub returns : goal.returns
-returns c = search passing_ends
+unfolding passing
+returns c =
+    let ws = c.args.words.now in
+    let ks = c.args.picks.now in
+    let a = c.args.a in
+    all_from_yields_List {all = ks} (λ k. meets a (cond_of ws k)) _ _ _ c.all.ensures.ran (YieldsList-from_slice _ cc) (λ x b q k. search (rules, tests))
+    ∙ all_is (λ k. meets a (cond_of ws k)) ks ∙ sym (mapped ws a ks)

@@ -9,14 +9,14 @@ left_rows-lefts-requires c = left_ready _ _ _ _ _ _ _ _ _ c.args.cells.now c.req
 pub overflow_add-aim : goal.overflow_add-aim
 overflow_add-aim c = let a = c.requires.0.from in let b = c.requires.0.near in record { fits = omega arith }
 
-pub bound-end-requires : goal.bound-end-requires
-bound-end-requires c = bound_ready _ _ _ _ _ _ _ _ _ c.args.cells.now c.requires.0 c.plan-p.ensures c.width-w.ensures
+pub bound-requires : goal.bound-requires
+bound-requires c = bound_ready _ _ _ _ _ _ _ _ _ c.args.cells.now c.requires.0 c.plan-p.ensures c.width-w.ensures
 
 pub shape_of-kept-then-end-turn : goal.shape_of-kept-then-end-turn
 shape_of-kept-then-end-turn c = c.left_rows-lefts.ensures.1.size
 
 pub returns-then-end-turn : goal.returns-then-end-turn
-returns-then-end-turn c = let a = left_of_stream _ _ _ c.scope-left.ensures c.left_rows-lefts.ensures.0 in let b = right_of_stream _ _ _ _ c.right_scope-right.ensures c.right-rights.ensures in (route_bounded _ _ _ _ _ _ _ _ _ _ c.requires.0 c.plan-p.ensures c.width-w.ensures a b c.bound-end.ensures c.if-end-turn.true c.if-turn.true, left_kept _ _ _ _ _ _ _ _ _ c.args.cells.now c.requires.0 c.plan-p.ensures a c.left_rows-lefts.ensures.1)
+returns-then-end-turn c = let a = left_of_stream _ _ _ c.scope-left.ensures c.left_rows-lefts.ensures.0 in let b = right_of_stream _ _ _ _ c.right_scope-right.ensures c.right-rights.ensures in (route_bounded _ _ _ _ _ _ _ _ _ _ c.requires.0 c.plan-p.ensures c.width-w.ensures a b (c.bound.ensures c.in-Some.end c.in-Some.is) c.if-end-turn.true c.if-turn.true, left_kept _ _ _ _ _ _ _ _ _ c.args.cells.now c.requires.0 c.plan-p.ensures a c.left_rows-lefts.ensures.1)
 
 pub rows-n-requires : goal.rows-n-requires
 rows-n-requires c = let a = left_of_stream _ _ _ c.scope-left.ensures c.left_rows-lefts.ensures.0 in let b = right_of_stream _ _ _ _ c.right_scope-right.ensures c.right-rights.ensures in let x = rows_ready _ _ _ _ _ _ _ _ _ c.args.cells.now c.requires.0 c.plan-p.ensures a b in (x.0, x.1, c.width-w.ensures)

@@ -1,12 +1,9 @@
 use mathlib.Core.Path.{sym, ap, ◌∙◌}
-use mathlib.Core.List.{List}
-use Prim.Native.Nat.{suc, min}
 use native.Mathlib.Omega.{arith}
 use lib.ListN.{length}
 use Rattle.syntax.specs.Grammar.{numbered_fn}
-use Rattle.model.specs.Queries.{Row}
 use Rattle.windows.specs.Lent.{picked_rows, answers_in}
-use Rattle.windows.proofs.Picks.{picked_all, answers_lent}
+use Rattle.windows.proofs.Picks.{picked_all, answers_lent, counter_laws}
 use Rattle.windows.proofs.Soundness.{sound_bounded, sound_timed, sound_parts, sound_few}
 use Rattle.windows.proofs.count.Goals as goal
 
@@ -23,11 +20,16 @@ returns-then-picks-eq0 c = let a = c.args in
     let m = ap length (e ∙ sym p) in
     omega arith
 
-pub count_picked-requires : goal.count_picked-requires
-count_picked-requires c = let a = c.args in
-    (sound_bounded a.w a.times.now a.counts.now a.parts.now c.requires, sound_timed a.w a.times.now a.counts.now a.parts.now c.requires, sound_parts a.w a.times.now a.counts.now a.parts.now c.requires)
+pub visit-requires : goal.visit-requires
+visit-requires c =
+    let a = c.args in
+    (sound_bounded a.w a.times.now a.counts.now a.parts.now c.requires, sound_timed a.w a.times.now a.counts.now a.parts.now c.requires, sound_parts a.w a.times.now a.counts.now a.parts.now c.requires, counter_laws (λ s. s.words.now) (λ s. s.picks.now) (λ s. s.room))
 
 pub returns : goal.returns
-returns c = let a = c.args in
-    let e = answers_lent a.w (numbered_fn a.w.number) a.times.now a.counts.now a.parts.now c.requires in
-    c.count_picked.ensures ∙ ap (λ (rs : List Row). min (length (picked_rows a.words.now a.picks.now rs)) (suc a.room)) e
+returns c =
+    let a = c.args in
+    let e = ap length (ap (picked_rows a.words.now a.picks.now) (answers_lent a.w (numbered_fn a.w.number) a.times.now a.counts.now a.parts.now c.requires)) in
+    let v = c.visit.ensures in
+    let x = v.counted in
+    let y = v.near (omega arith) in
+    omega arith

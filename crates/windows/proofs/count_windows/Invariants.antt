@@ -8,9 +8,9 @@ use Rattle.windows.specs.Events.{events_from}
 use Rattle.windows.specs.Windows.{Sought, answers_from, answers, ahead}
 use Rattle.windows.proofs.count_windows.Given as goal
 
-abbrev pub invariant-loop-p : goal.invariant-loop-p
-invariant-loop-p l =
-    (k : ℕ) × Sought l.w l.times k l.p × (l.rows ≤ k) × (l.rows ≤ l.room) × ((f : Fn) (cs : List ℕ) (ps : List ℤ) → length (answers l.w f (events_from l.times cs ps 0)) ≡ l.rows + length (answers_from l.w f (events_from l.times cs ps 0) k))
+abbrev pub invariant-loop-place : goal.invariant-loop-place
+invariant-loop-place l =
+    (k : ℕ) × Sought l.w l.times k l.place × (l.rows ≤ k) × (l.rows ≤ l.room) × ((f : Fn) (cs : List ℕ) (ps : List ℤ) → length (answers l.w f (events_from l.times cs ps 0)) ≡ l.rows + length (answers_from l.w f (events_from l.times cs ps 0) k))
 
-abbrev pub decreases-loop-p : goal.decreases-loop-p
-decreases-loop-p l = ahead l.w l.p
+abbrev pub decreases-loop-place : goal.decreases-loop-place
+decreases-loop-place l = ahead l.w l.place

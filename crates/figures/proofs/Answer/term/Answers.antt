@@ -17,29 +17,24 @@ number-made v h = ap₂ ◌-ℤ◌ (to_z_pos w64 v (omega arith)) (to_z_pos w64 
 sub-fits : (v : ℕ) → v < 4294967296 → SFits w64 (to_z w64 v -ℤ to_z w64 2147483648)
 sub-fits v h = subst (SFits w64) (sym (number-made v h)) (number_fits v h)
 
-pub returns-then-code-eq-TIME : goal.returns-then-code-eq-TIME
-returns-then-code-eq-TIME c =
+pub returns-in-24 : goal.returns-in-24
+returns-in-24 c =
     let a = c.args in
     let e : to_z w64 a.self.end ≡ pos a.self.end = to_z_pos w64 a.self.end (omega arith) in
     e ∙ term_time a.self a.code a.v (omega arith)
 
-pub returns-then-code-eq-FIGURE : goal.returns-then-code-eq-FIGURE
-returns-then-code-eq-FIGURE c =
+pub returns-in-25 : goal.returns-in-25
+returns-in-25 c =
     let a = c.args in
     let e : to_z w64 (of_z w64 a.self.figure) ≡ a.self.figure = search rules in
     rw e (term_figure a.self a.code a.v (omega arith))
 
-pub overflow_sub-result : goal.overflow_sub-result
-overflow_sub-result c =
-    let a = c.args in
-    sub-fits a.v (omega arith)
-
-pub returns-then-code-eq-NUMBER : goal.returns-then-code-eq-NUMBER
-returns-then-code-eq-NUMBER c =
+pub returns-in-26 : goal.returns-in-26
+returns-in-26 c =
     let a = c.args in
     to_z-of_z w64 _ (sub-fits a.v (omega arith)) ∙ number-made a.v (omega arith) ∙ term_number a.self a.code a.v (omega arith)
 
-pub returns : goal.returns
-returns c =
+pub returns-in_default : goal.returns-in_default
+returns-in_default c =
     let a = c.args in
     term_other a.self a.code a.v (λ h. omega arith) (λ h. omega arith) (λ h. omega arith)
