@@ -6,7 +6,9 @@ use Prim.Native.Nat.{ℕ, zero, suc, ◌+◌, ◌*◌, ◌-◌, ◌≤◌, ◌<�
 use native.Mathlib.Omega.{arith}
 use native.Mathlib.Decide.{dec_lt}
 use lib.Dec.{leb}
-use lib.ListN.{length, get_or, take, drop, length-drop, drop_of_length-le}
+use lib.ListN.{length, get_or, take, drop, length-take, length-drop, drop_of_length-le}
+use native.Mathlib.Numerals.{add-one}
+use Rattle.std.proofs.lemmas.List.{get_or-take, get_or_default}
 use lib.Seq.{take_all, drop-cons}
 use borrow.Author.Tests.{lt-leb, le-leb, le-ltb, not-true, not-false}
 use Rattle.lists.proofs.Laws.{and_true}
@@ -64,22 +66,13 @@ module _ (ws : List ℕ) (i : ℕ) {a b : ℕ} (e : a ≡ min (i * grant_words) 
       go (yes h) = let z : a ≡ i * grant_words = omega arith in ap (λ (k : ℕ). drop k ws) z
       go (no h) = drop_of_length-le ws {i = a} (omega arith) ∙ sym (drop_of_length-le ws {i = i * grant_words} (omega arith))
 
-  words_cut : take (b - a) (drop a ws) ≡ words_in ws i
+  pub words_cut : take (b - a) (drop a ws) ≡ words_in ws i
   unfolding words_in
   words_cut = let z = length-drop a ws in go (dec_lt (a + grant_words) (length ws)) z ∙ ap (take grant_words) starts
     where
       go : Dec (a + grant_words < length ws) → length (drop a ws) ≡ length ws - a → take (b - a) (drop a ws) ≡ take grant_words (drop a ws)
       go (yes h) z = let y : b - a ≡ grant_words = omega arith in ap (λ (k : ℕ). take k (drop a ws)) y
       go (no h) z = take_all (b - a) (drop a ws) (omega arith) ∙ sym (take_all grant_words (drop a ws) (omega arith))
-
-pub place_end : (n : Needs) (place : ℕ) (g : Grant) (ws roles profile : List ℕ) {a b k : ℕ} → a ≡ min (place * 95) (length ws) → b ≡ min (a + 95) (length ws)
-    → k ≡ caller_bits n g (take (b - a) (drop a ws)) roles profile → k ≡ caller_bits n g (words_in ws place) roles profile
-place_end n place g ws roles profile e f h = h ∙ ap (λ xs. caller_bits n g xs roles profile) (words_cut ws place e f)
-
-pub with_end : (o : Opened) (place : ℕ) (g : Grant) (bits : ℕ) (ns ws : List ℕ) {a b : ℕ} {p : Open} {s : Bool} → a ≡ min (place * 95) (length ws) → b ≡ min (a + 95) (length ws)
-    → p ≡ with_opened o.opens place bits g → s ≡ (o.sound && grant_sound ns g (take (b - a) (drop a ws))) → ◌≡◌ {A = Opened} (record { opens = p; sound = s }) (with_bits o place g bits ns ws)
-unfolding with_bits
-with_end o place g bits ns ws e f i j = rw (i, j, words_cut ws place e f)
 
 -- ---- one after the other
 
@@ -93,13 +86,15 @@ module _ (n : Needs) (ns : List ℕ) (gs : List Grant) (ws roles profile : List 
   abbrev and_then : Opened → ℕ → List Grant → Opened
   and_then o i hs = record { opens = open_from n ws roles profile i hs o.opens; sound = o.sound && sound_from ns ws i hs }
 
-  pub taken_none : none_opened (length gs) (length ws) ≡ taken 0
+  pub taken_none : {o : Opened} → o ≡ none_opened (length gs) (length ws) → o ≡ taken 0
   unfolding taken
-  taken_none = refl
+  taken_none e = e
 
-  pub taken_more : (k : ℕ) → opened_with (taken k) n k (get_or gs k blank) ns ws roles profile ≡ taken (suc k)
+  pub taken_more : (k i : ℕ) (d : Grant) {o p : Opened} → i < length (take k gs) → o ≡ taken i → p ≡ opened_with o n i (get_or (take k gs) i d) ns ws roles profile → p ≡ taken (i + 1)
   unfolding taken
-  taken_more k = refl
+  taken_more k i d h e f =
+      let l = length-take k gs in
+      f ∙ rw (add-one i) (ap₂ (λ o g. opened_with o n i g ns ws roles profile) e (get_or-take k gs i d (omega arith) ∙ get_or_default gs i d blank (omega arith)))
 
   and_next : (o : Opened) (i : ℕ) (g : Grant) (hs : List Grant) → and_then (opened_with o n i g ns ws roles profile) (suc i) hs ≡ and_then o i (g ∷ hs)
   unfolding opened_with with_bits open_from sound_from
@@ -129,11 +124,16 @@ module _ (n : Needs) (ns : List ℕ) (gs : List Grant) (ws roles profile : List 
   unfolding open_from sound_from
   none_after o i = ap (λ (s : Bool). record { opens = o.opens; sound = s }) (sym (and_true o.sound))
 
-  pub taken_all : (k : ℕ) → k ≡ min (length gs) max_grants → taken k ≡ opened_in n ns gs ws roles profile
-  taken_all k e = go (dec_lt max_grants (length gs)) ∙ all_taken k (omega arith)
+  all_placed : (k : ℕ) → k ≡ min (length gs) max_grants → taken k ≡ opened_in n ns gs ws roles profile
+  all_placed k e = go (dec_lt max_grants (length gs)) ∙ all_taken k (omega arith)
     where
       go : Dec (max_grants < length gs) → taken k ≡ and_then (taken k) k (drop k gs)
       go (yes h) =
           ap₂ (λ (p : Open) (s : Bool). record { opens = p; sound = s }) (sym (none_past k (drop k gs) (taken k).opens (omega arith)))
           (too_many k h ∙ ap (λ (s : Bool). s && sound_from ns ws k (drop k gs)) (sym (too_many k h)))
       go (no h) = none_after (taken k) k ∙ ap (and_then (taken k) k) (sym (drop_of_length-le gs {i = k} (omega arith)))
+
+  pub taken_all : (k i : ℕ) {o : Opened} → k ≡ min (length gs) max_grants → i ≤ length (take k gs) → length (take k gs) ≤ i → o ≡ taken i → o ≡ opened_in n ns gs ws roles profile
+  taken_all k i h a b e = let l = length-take k gs in e ∙ all_placed i (omega arith)
+
+pub ruleset taken_ends = (taken_none, taken_more, taken_all)

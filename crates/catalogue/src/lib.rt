@@ -1,21 +1,19 @@
 // The catalogue, lent as a slice of grants beside the words of their conditions: what its grants open for a caller, and whether it may be lent.
-// A function that holds the slice is proved by a walk of its code, so only two do: what is done with a grant takes it by value.
 #![tactic(auto)]
 
-ghost use Rattle.std.specs.Prelude.{◌≡◌, ◌&&◌, ◌<◌, min, pos, get_or};
-ghost use Rattle.syntax.specs.Limits.{max_entries, max_grants};
+ghost use Rattle.std.specs.Prelude.{◌≡◌, ◌&&◌, ◌<◌, pos, get_or};
+ghost use Rattle.syntax.specs.Limits.{max_entries};
 ghost use Rattle.terms.specs.Terms.{biased};
 ghost use Rattle.grant.specs.Grants.{grant_sound};
 ghost use Rattle.grant.specs.Catalogues.{words_in};
 ghost use Rattle.routes.specs.Listing.{caller_bits};
 ghost use Rattle.catalogue.specs.Callers.{roles_of, numbers_of, profile_of};
-ghost use Rattle.catalogue.specs.Opened.{blank, none_opened, with_bits, opened_with, opened_in};
+ghost use Rattle.catalogue.specs.Opened.{none_opened, with_bits, opened_with, opened_in};
 
 use caller::Caller;
 use grant::Grant;
 use needs::Needs;
 use routes::Open;
-use schema::Stream;
 
 // How many numbers a profile takes: a name and a value an entry.
 pub const PROFILE: usize = 2 * Caller::ENTRIES;
@@ -25,23 +23,6 @@ pub const PROFILE: usize = 2 * Caller::ENTRIES;
 pub struct Opened {
     pub opens: Open,
     pub sound: bool,
-}
-
-// The lower of two numbers.
-fn least(a: usize, b: usize) -> usize
-    ensures { result ≡ min a b }
-{
-    if b < a {
-        return b;
-    }
-    a
-}
-
-// How many grants of a catalogue have a place.
-fn placed(count: usize) -> usize
-    ensures { result ≡ min count max_grants }
-{
-    least(count, Grant::GRANTS)
 }
 
 // ---- the caller as numbers
@@ -79,21 +60,14 @@ fn caller_bits(n: Needs, g: Grant, words: &[u32], roles: &[u64], profile: &[u64]
     routes::opens(n, g, words)
 }
 
-// What the grant in a place opens for a caller, by the words of its place, as far as they are lent.
-fn place_bits(
-    n: Needs,
-    place: u32,
-    g: Grant,
-    granted: &[u32],
-    roles: &[u64],
-    profile: &[u64],
-) -> u32
-    ensures { result ≡ caller_bits n g (words_in granted.now place) roles.now profile.now }
+// The words of a place, as far as they are lent.
+fn place_words(granted: &[u32], place: u32) -> &[u32]
+    ensures { result.now ≡ words_in granted.now place }
 {
     let k = granted.len();
-    let a = least(place as usize * Grant::PLACE, k);
-    let b = least(a + Grant::PLACE, k);
-    caller_bits(n, g, &granted[a..b], roles, profile)
+    let a = (place as usize * Grant::PLACE).min(k);
+    let b = (a + Grant::PLACE).min(k);
+    &granted[a..b]
 }
 
 // Whether a grant may be lent beside those that were taken.
@@ -128,10 +102,7 @@ impl Opened {
     fn with(self, place: u32, g: Grant, bits: u32, names: &[u64], granted: &[u32]) -> Self
         ensures { result ≡ with_bits self place g bits names.now granted.now }
     {
-        let k = granted.len();
-        let a = least(place as usize * Grant::PLACE, k);
-        let b = least(a + Grant::PLACE, k);
-        let sound = also_sound(self.sound, g, names, &granted[a..b]);
+        let sound = also_sound(self.sound, g, names, place_words(granted, place));
         let o = self.opens;
         Opened {
             opens: o.with_grant(place, bits, g),
@@ -152,50 +123,25 @@ impl Opened {
         ensures { result ≡ opened_with self n place g names.now granted.now (roles_of who) (profile_of who) }
     {
         let role = who.role;
-        let k = least(who.roles as usize, Caller::ROLES);
+        let k = (who.roles as usize).min(Caller::ROLES);
         let profile = profile_of(who);
-        let e = least(who.entries as usize, Caller::ENTRIES) * 2;
-        let bits = place_bits(n, place, g, granted, &role[0..k], &profile[0..e]);
+        let e = (who.entries as usize).min(Caller::ENTRIES) * 2;
+        let words = place_words(granted, place);
+        let bits = caller_bits(n, g, words, &role[0..k], &profile[0..e]);
         self.with(place, g, bits, names, granted)
     }
 }
 
 // ---- the lent slice
 
-// Returns the grant in a place, a grant of zeros past the last.
-pub fn grant_at(grants: &[Grant], i: usize) -> Grant
-    ensures { result ≡ get_or grants.now i blank }
-{
-    if i < grants.len() {
-        grants[i]
-    } else {
-        Grant {
-            role: 0,
-            right: 0,
-            count: 0,
-            streams: [0; Stream::MOST],
-            shown: 0,
-            words: 0,
-            from: 0,
-            to: 0,
-            size: 0,
-            offset: 0,
-        }
-    }
-}
-
 // Returns what the grants of a catalogue open for a caller and a query, and whether the catalogue may be lent (refusal 12).
 pub fn open_all(grants: &[Grant], n: Needs, names: &[u64], granted: &[u32], who: Caller) -> Opened
     ensures { result ≡ opened_in n names.now grants.now granted.now (roles_of who) (profile_of who) }
 {
-    let count = grants.len();
-    let k = placed(count);
-    let mut o = Opened::none(count, granted.len());
-    let mut i: usize = 0;
-    while i < k {
-        let g = grant_at(grants, i);
-        o = o.with_caller(n, i as u32, g, names, granted, who);
-        i += 1;
+    let k = grants.len().min(Grant::GRANTS);
+    let mut o = Opened::none(grants.len(), granted.len());
+    for (i, g) in grants[..k].iter().enumerate() {
+        o = o.with_caller(n, i as u32, *g, names, granted, who);
     }
     o
 }

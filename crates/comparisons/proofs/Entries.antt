@@ -1,18 +1,20 @@
 -- Whether a profile has the entries that comparisons name, step by step.
-use mathlib.Core.Path.{◌≡◌, refl, sym, ap, ◌∙◌}
+use mathlib.Core.Path.{◌≡◌, refl, sym, ap, ap₂, ◌∙◌}
 use mathlib.Core.List.{List, map}
-use mathlib.Core.Bool.{Bool, true, false, ◌&&◌, not, cond, and-true}
-use Prim.Native.Nat.{ℕ, ◌+◌, ◌*◌, ◌-◌, ◌/◌, ◌%◌, ◌≤◌, ◌<◌}
+use mathlib.Core.Bool.{Bool, true, false, ◌&&◌, ◌||◌, not, cond, and-true}
+use Prim.Native.Nat.{ℕ, zero, suc, ◌+◌, ◌-◌, ◌/◌, ◌%◌, ◌≤◌, ◌<◌}
 use native.Mathlib.Decide.{ℕ_discrete}
 use native.Mathlib.Omega.{arith}
 use lib.Dec.{ltb, eqb}
-use lib.ListN.{length, get_or}
+use lib.ListN.{length, get_or, take, drop}
+use Rattle.std.proofs.lemmas.List.{get_or-take, get_or-drop}
+use Rattle.std.specs.List.{list_any}
+use Rattle.std.specs.Simd.{first_chunks}
 use borrow.Author.Tests.{eq-eqb, ne_eqb, le-ltb, not-true, not-false}
-use Rattle.lists.specs.Lists.{every, some?, same_list, count_from}
-use Rattle.lists.proofs.Laws.{same_list_refl, T_true}
-use Rattle.lists.proofs.Counting.{count_left, count_done}
+use Rattle.lists.specs.Lists.{every, some?, same_list}
+use Rattle.lists.proofs.Chains.{any_is}
 use Rattle.lists.proofs.Gathers.{every_append_same}
-use Rattle.syntax.specs.Grammar.{Bytes, Entry}
+use Rattle.syntax.specs.Grammar.{Entry}
 use Rattle.model.specs.Queries.{col, figure, column, time, number, self, Compare}
 use Rattle.model.specs.Grants.{has_entry, term_known}
 use Rattle.text.specs.Words.{name_of}
@@ -21,39 +23,26 @@ use Rattle.schema.proofs.FreeNames.{name_one}
 use Rattle.nodes.specs.declared.Node.{Node}
 use Rattle.nodes.specs.Nodes.{unbiased, node_at, node_words, node_compare, coded_term, comparing}
 use Rattle.nodes.proofs.Puts.{words_some}
+use Rattle.nodes.proofs.Profiles.{entry_of, profile_pairs}
 use Rattle.grant.proofs.Laid.{prior}
-use Rattle.comparisons.specs.Compared.{own_compare, compared, entry_at, profile_in, compare_known}
+use Rattle.comparisons.specs.Compared.{own_compare, compared, profile_in, compare_known}
 use Rattle.comparisons.proofs.Walked.{compared_on, compared_off}
 
 -- ---- an entry
 
--- a name among the entries from place i on, up to n
-abbrev pub among : List ℕ → Bytes → ℕ → ℕ → Bool
-among ps name i n = some? (λ (e : Entry). same_list e.name name) (map (entry_at ps) (count_from i (n - i)))
+-- names by their numbers
+names_told : (name k : ℕ) (ps : List ℕ) → name < code_end → ((i : ℕ) → get_or ps i 0 < code_end) → some? (λ e. eqb (get_or e 0 0) name) (first_chunks 2 k ps) ≡ some? (λ (e : Entry). same_list e.name (name_of name)) (map entry_of (first_chunks 2 k ps))
+unfolding some?
+names_told name zero ps l m = refl
+names_told name (suc k) ps l m =
+    let first : eqb (get_or (take 2 ps) 0 0) name ≡ same_list (name_of (get_or (take 2 ps) 0 0)) (name_of name) = sym (name_one (get_or (take 2 ps) 0 0) name (rw (get_or-take 2 ps 0 0 (omega arith)) (m 0)) l) in
+    ap₂ ◌||◌ first (names_told name k (drop 2 ps) l (λ i. rw (get_or-drop 2 ps i 0) (m (2 + i))))
 
-pub entry_start : (ps : List ℕ) (name : Bytes) → has_entry (profile_in ps) name ≡ among ps name 0 (length ps / 2)
-unfolding has_entry profile_in
-entry_start ps name = let e : length ps / 2 ≡ length ps / 2 - 0 = omega arith in ap (λ n. some? (λ (e : Entry). same_list e.name name) (map (entry_at ps) (count_from 0 n))) e
-
-module _ (ps : List ℕ) (name i n : ℕ) {p : Bool} (inv : p ≡ among ps (name_of name) i n) where
-  pub entry_found : {x : ℕ} → i < n → x ≡ get_or ps (i * 2) 0 → x ≡ name → true ≡ p
-  unfolding some? entry_at
-  entry_found {x} h e f =
-      let s : same_list (name_of (get_or ps (i * 2) 0)) (name_of name) ≡ true = rw (sym e ∙ f) (T_true (same_list (name_of name) (name_of name)) (same_list_refl (name_of name))) in
-      sym (inv ∙ rw (count_left i n h, s))
-
-  pub entry_on : {x : ℕ} → i < n → x ≡ get_or ps (i * 2) 0 → name < code_end → x < code_end → (x ≡ name → ⊥) → p ≡ among ps (name_of name) (i + 1) n
-  unfolding some? entry_at
-  entry_on {x} h e l m d =
-      let k : get_or ps (i * 2) 0 < code_end = omega arith in
-      let s : same_list (name_of (get_or ps (i * 2) 0)) (name_of name) ≡ false = name_one (get_or ps (i * 2) 0) name k l ∙ ne_eqb (get_or ps (i * 2) 0) name (λ q. d (e ∙ q)) in
-      inv ∙ rw (count_left i n h, s)
-
-  pub entry_end : n ≤ i → false ≡ p
-  unfolding some?
-  entry_end h = sym (inv ∙ rw (count_done i n h))
-
-pub ruleset entry_ends = (entry_start, entry_found, entry_on, entry_end)
+pub entry_told : (ps : List ℕ) (name : ℕ) → name < code_end → ((i : ℕ) → get_or ps i 0 < code_end) → list_any (λ e. eqb (get_or e 0 0) name) (first_chunks 2 (length ps / 2) ps) ≡ has_entry (profile_in ps) (name_of name)
+unfolding has_entry
+entry_told ps name l m =
+    any_is (λ e. eqb (get_or e 0 0) name) (first_chunks 2 (length ps / 2) ps) ∙ names_told name (length ps / 2) ps l m
+    ∙ ap (some? (λ (e : Entry). same_list e.name (name_of name))) (sym (profile_pairs ps))
 
 -- ---- a term
 
@@ -112,20 +101,13 @@ module _ (p : Compare → Bool) (ws : List ℕ) (n k : ℕ) (inv : every p (comp
         none true = refl
         none false = refl
 
-    module _ (t : not x ≡ false) {size : ℕ} (s : size ≡ node_words m) where
-      on : every p (compared ws 0 n) ≡ every p (compared ws 0 (k - size))
-      on =
-          let y : node_words (node_at ws k) ≡ size = ap node_words (sym e) ∙ sym s in
-          apart ∙ ap (λ b. every p (compared ws 0 (prior ws k)) && b) (not-false x t) ∙ and-true (every p (compared ws 0 (prior ws k))) ∙ ap (λ w. every p (compared ws 0 (k - w))) y
+    module _ {size j : ℕ} (s : size ≡ node_words m) (l : j ≡ k - size) where
+      pub known_on : not x ≡ false → every p (compared ws 0 n) ≡ every p (compared ws 0 j)
+      known_on t =
+          let y : prior ws k ≡ j = ap (λ w. k - w) (ap node_words (sym e) ∙ sym s) ∙ sym l in
+          apart ∙ ap (λ b. every p (compared ws 0 (prior ws k)) && b) (not-false x t) ∙ and-true (every p (compared ws 0 (prior ws k))) ∙ ap (λ j. every p (compared ws 0 j)) y
 
-      pub known_front : k < size → true ≡ every p (compared ws 0 n)
-      unfolding every
-      known_front l = sym (on ∙ rw (compared_off ws 0 (k - size) (omega arith)))
-
-      pub known_on : size ≤ k → every p (compared ws 0 n) ≡ every p (compared ws 0 (k - size))
-      known_on l = on
-
-      pub known_falls : k - size < k
+      pub known_falls : j < k
       known_falls = omega (arith, words_some m)
 
-pub ruleset known_ends = (known_end, known_stop, known_front, known_falls, known_on)
+pub ruleset known_ends = (known_end, known_stop, known_falls, known_on)

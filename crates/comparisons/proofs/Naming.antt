@@ -93,22 +93,16 @@ module _ (ws : List ℕ) (stop k : ℕ) where
     pub named_end : at ≤ stop → m ≡ named_by (compared ws stop k)
     named_end h = sym (inv ∙ ap (λ l. bit_or l m) (ap named_by (compared_off ws stop at h) ∙ named_nothing) ∙ or_zero_l m)
 
-    module _ (h : stop < at) {n : Node} (e : n ≡ node_at ws at) {x : ℕ} (f : x ≡ bit_or (named_by (own_compare n)) m) {size : ℕ} (s : size ≡ node_words n) where
-      on : named_by (compared ws stop k) ≡ bit_or (named_by (compared ws stop (at - size))) x
-      on =
-          let y : node_words (node_at ws at) ≡ size = ap node_words (sym e) ∙ sym s in
+    module _ (h : stop < at) {n : Node} (e : n ≡ node_at ws at) {x : ℕ} (f : x ≡ bit_or (named_by (own_compare n)) m) {size j : ℕ} (s : size ≡ node_words n) (l : j ≡ at - size) where
+      pub named_on : named_by (compared ws stop k) ≡ bit_or (named_by (compared ws stop j)) x
+      named_on =
+          let y : prior ws at ≡ j = ap (λ w. at - w) (ap node_words (sym e) ∙ sym s) ∙ sym l in
           let a = named_by (compared ws stop (prior ws at)) in
           let b = named_by (own_compare (node_at ws at)) in
           inv ∙ ap (λ l. bit_or l m) (ap named_by (compared_on ws stop at h) ∙ named_append (compared ws stop (prior ws at)) (own_compare (node_at ws at)))
-          ∙ or_assoc a b m ∙ ap (bit_or a) (ap (λ z. bit_or (named_by (own_compare z)) m) (sym e) ∙ sym f) ∙ ap (λ w. bit_or (named_by (compared ws stop (at - w))) x) y
+          ∙ or_assoc a b m ∙ ap (bit_or a) (ap (λ z. bit_or (named_by (own_compare z)) m) (sym e) ∙ sym f) ∙ ap (λ j. bit_or (named_by (compared ws stop j)) x) y
 
-      pub named_front : at < size → x ≡ named_by (compared ws stop k)
-      named_front l = sym (on ∙ ap (λ l. bit_or l x) (ap named_by (compared_off ws stop (at - size) (omega arith)) ∙ named_nothing) ∙ or_zero_l x)
-
-      pub named_on : size ≤ at → named_by (compared ws stop k) ≡ bit_or (named_by (compared ws stop (at - size))) x
-      named_on l = on
-
-      pub named_falls : at - size < at
+      pub named_falls : j < at
       named_falls = omega (arith, words_some n)
 
-pub ruleset named_ends = (named_start, named_end, named_front, named_falls, named_on)
+pub ruleset named_ends = (named_start, named_end, named_falls, named_on)

@@ -21,15 +21,8 @@ use terms::Term;
 fn has_entry(profile: &[u64], name: u64) -> bool
     ensures { result ≡ has_entry (profile_in profile.now) (name_of name) }
 {
-    let n = profile.len() / 2;
-    let mut i: usize = 0;
-    while i < n {
-        if places::number_at(profile, i * 2) == name {
-            return true;
-        }
-        i += 1;
-    }
-    false
+    let (entries, _) = profile.as_chunks::<2>();
+    entries.iter().any(|e| e[0] == name)
 }
 
 // Whether a term is no profile entry, or one that is there.
@@ -55,31 +48,17 @@ fn node_known(n: Node, profile: &[u64]) -> bool
     term_known(n.right, n.value, profile)
 }
 
-// The lower of two numbers.
-fn least(a: usize, b: usize) -> usize
-    ensures { result ≡ min a b }
-{
-    if b < a {
-        return b;
-    }
-    a
-}
-
 // Returns whether a profile has every entry that a comparison of the first n words names. Words that are not lent name none.
 pub fn all_known(words: &[u32], n: usize, profile: &[u64]) -> bool
     ensures { result ≡ every (compare_known (profile_in profile.now)) (compared words.now 0 n) }
 {
-    let mut k = least(n, words.len());
+    let mut k = n.min(words.len());
     while 0 < k {
         let node = nodes::node_at(words, k);
         if !node_known(node, profile) {
             return false;
         }
-        let size = nodes::node_words(node);
-        if k < size {
-            return true;
-        }
-        k = k - size;
+        k = k.saturating_sub(nodes::node_words(node));
     }
     true
 }
@@ -116,11 +95,7 @@ pub fn named(words: &[u32], stop: usize, k: usize) -> u32
     while stop < at {
         let node = nodes::node_at(words, at);
         m = with_node(m, node);
-        let size = nodes::node_words(node);
-        if at < size {
-            return m;
-        }
-        at = at - size;
+        at = at.saturating_sub(nodes::node_words(node));
     }
     m
 }

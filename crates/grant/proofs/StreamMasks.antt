@@ -1,40 +1,23 @@
 -- The mask of the columns of some streams, as the code makes it.
-use mathlib.Core.Path.{◌≡◌, sym, ap, ◌∙◌}
-use mathlib.Core.List.{List, [], ◌∷◌, ◌++◌, map}
-use Prim.Native.Nat.{ℕ, ◌+◌, ◌*◌, ◌-◌, ◌^◌, ◌%◌, ◌≤◌, ◌<◌, min}
+use mathlib.Core.Path.{◌≡◌, refl, sym, ap, ◌∙◌}
+use mathlib.Core.List.{List, [], ◌∷◌, map}
+use Prim.Native.Nat.{ℕ, zero, suc, ◌+◌, ◌*◌, ◌-◌, ◌^◌, ◌%◌, ◌≤◌, ◌<◌, min}
 use native.Mathlib.Omega.{arith}
 use lib.Bits.{bit_or, or_zero_r}
-use lib.ListN.{get_or}
+use lib.ListN.{length, get_or, take, drop, drop_of_length-le}
+use lib.Seq.{drop-cons}
+use native.Mathlib.Numerals.{add-one}
 use lib.Dec.{T, eqb, leb, leb→le, eqb→eq}
 use Rattle.lists.specs.Lists.{every, gather, count_from}
 use Rattle.lists.proofs.Laws.{append_nil}
-use Rattle.lists.proofs.Counting.{every_at, count_left, count_done}
-use Rattle.lists.proofs.Gathers.{gather_map}
+use Rattle.lists.proofs.Counting.{every_at}
+use Rattle.lists.proofs.Chains.{part_first}
 use Rattle.schema.specs.Schemas.{width_in}
 use Rattle.schema.proofs.Soundness.{width_most}
 use Rattle.schema.proofs.Tests.{width_none}
 use Rattle.masks.specs.Masks.{mask_of}
 use Rattle.masks.proofs.Lists.{mask_append, or_assoc}
 use Rattle.grant.specs.Grants.{places_of, column_codes, streams_mask}
-
--- ---- a loop that joins the bits of each place
-
-module _ (f : ℕ → List ℕ) where
-  -- a mask and the bits of the places from i to n
-  abbrev pub joined : ℕ → ℕ → ℕ → ℕ
-  joined m i n = bit_or m (mask_of (gather f (count_from i (n - i))))
-
-  module _ (t m i n : ℕ) (inv : t ≡ joined m i n) where
-    pub join_on : {k : ℕ} → i < n → k ≡ bit_or m (mask_of (f i)) → t ≡ joined k (i + 1) n
-    unfolding gather
-    join_on h e =
-        let rest = gather f (count_from (i + 1) (n - (i + 1))) in
-        let a : gather f (count_from i (n - i)) ≡ f i ++ rest = rw (count_left i n h) in
-        inv ∙ ap (λ l. bit_or m (mask_of l)) a ∙ ap (bit_or m) (mask_append (f i) rest) ∙ sym (or_assoc m (mask_of (f i)) (mask_of rest)) ∙ rw e
-
-    pub join_end : n ≤ i → m ≡ t
-    unfolding gather mask_of
-    join_end h = let a : gather f (count_from i (n - i)) ≡ [] = rw (count_done i n h) in sym (inv ∙ rw a (or_zero_r m))
 
 -- ---- the columns of one stream
 
@@ -84,20 +67,28 @@ module _ (ns : List ℕ) (s : ℕ) {n : ℕ} (e : n ≡ width_in ns s) where
 
 -- ---- the streams of some places
 
-abbrev pub place_bits : List ℕ → List ℕ → ℕ → List ℕ
-place_bits ns ss i = stream_bits ns (get_or ss i 0)
+places_taken : (ss : List ℕ) (a n : ℕ) → a + n ≤ length ss → map (λ i. get_or ss i 0) (count_from a n) ≡ take n (drop a ss)
+unfolding count_from
+places_taken ss a zero h = refl
+places_taken ss a (suc n) h = rw (part_first 0 ss a n (omega arith)) (ap (λ l. get_or ss a 0 ∷ l) (places_taken ss (suc a) n (omega arith)))
 
-pub places_start : (ns : List ℕ) (count : ℕ) (ss : List ℕ) (n : ℕ) → n ≡ min count 4 → streams_mask ns (places_of count ss) ≡ joined (place_bits ns ss) 0 0 n
-unfolding streams_mask column_codes places_of
-places_start ns count ss n e =
-    let z : n - 0 ≡ min count 4 = omega arith in
-    rw z (ap mask_of (gather_map (stream_bits ns) (λ i. get_or ss i 0) (count_from 0 (min count 4))))
+module _ (ns : List ℕ) where
+  streams_more : (s : ℕ) (ss : List ℕ) → streams_mask ns (s ∷ ss) ≡ bit_or (streams_mask ns (s ∷ [])) (streams_mask ns ss)
+  unfolding streams_mask column_codes gather
+  streams_more s ss = mask_append (stream_bits ns s) (column_codes ns ss) ∙ ap (λ m. bit_or m (streams_mask ns ss)) (sym (one_stream ns s))
 
-module _ (ns : List ℕ) (count : ℕ) (ss : List ℕ) (m i n : ℕ) (inv : streams_mask ns (places_of count ss) ≡ joined (place_bits ns ss) m i n) where
-  pub places_on : {k l : ℕ} → i < n → l ≡ streams_mask ns (get_or ss i 0 ∷ []) → k ≡ bit_or m l → streams_mask ns (places_of count ss) ≡ joined (place_bits ns ss) k (i + 1) n
-  places_on h d e = join_on (place_bits ns ss) _ m i n inv h (e ∙ ap (bit_or m) (d ∙ one_stream ns (get_or ss i 0)))
+  pub mask_start : (count : ℕ) (ss : List ℕ) {n : ℕ} → length ss ≡ 4 → n ≡ min count 4 → streams_mask ns (places_of count ss) ≡ streams_mask ns (take n ss)
+  unfolding places_of
+  mask_start count ss l e = ap (streams_mask ns) (places_taken ss 0 (min count 4) (omega arith) ∙ ap (λ n. take n ss) (sym e))
 
-  pub places_end : n ≤ i → m ≡ streams_mask ns (places_of count ss)
-  places_end h = join_end (place_bits ns ss) _ m i n inv h
+  module _ (t m : ℕ) (ss : List ℕ) (i : ℕ) (inv : t ≡ bit_or m (streams_mask ns (drop i ss))) where
+    pub mask_on : {k l : ℕ} → i < length ss → l ≡ streams_mask ns (get_or ss i 0 ∷ []) → k ≡ bit_or m l → t ≡ bit_or k (streams_mask ns (drop (i + 1) ss))
+    mask_on h d e =
+        let rest = streams_mask ns (drop (i + 1) ss) in
+        inv ∙ ap (λ l. bit_or m (streams_mask ns l)) (drop-cons ss i 0 h) ∙ rw (← add-one i) (ap (bit_or m) (streams_more (get_or ss i 0) (drop (i + 1) ss)) ∙ sym (or_assoc m (streams_mask ns (get_or ss i 0 ∷ [])) rest) ∙ rw (e, d))
 
-pub ruleset places_ends = (places_start, places_on, places_end)
+    pub mask_end : length ss ≤ i → m ≡ t
+    unfolding streams_mask column_codes gather mask_of
+    mask_end h = sym (inv ∙ rw (drop_of_length-le ss {i = i} h) (or_zero_r m))
+
+pub ruleset mask_ends = (mask_start, mask_on, mask_end)

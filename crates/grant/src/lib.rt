@@ -10,16 +10,6 @@ ghost use Rattle.grant.specs.Grants.{grant_words, places_of, streams_of, streams
 use schema::Stream;
 use text::Time;
 
-// How many of four places are counted.
-fn places(count: u32) -> usize
-    ensures { result ≡ min count max_streams }
-{
-    if (count as usize) < Stream::MOST {
-        return count as usize;
-    }
-    Stream::MOST
-}
-
 const COLUMNS: u32 = Stream::COLUMNS as u32;
 
 // Returns the columns of a stream, as bits; a number of 4 or more is no stream.
@@ -37,12 +27,10 @@ pub fn stream_columns(names: &[u64], s: u32) -> u32
 pub fn columns_mask(names: &[u64], count: u32, streams: [u32; Stream::MOST]) -> u32
     ensures { result ≡ streams_mask names.now (places_of count streams) }
 {
-    let n = places(count);
-    let mut m: u32 = 0;
-    let mut i: usize = 0;
-    while i < n {
-        m = masks::either(m, stream_columns(names, streams[i]));
-        i += 1;
+    let n = (count as usize).min(Stream::MOST);
+    let mut m = 0;
+    for s in &streams[..n] {
+        m = masks::either(m, stream_columns(names, *s));
     }
     m
 }

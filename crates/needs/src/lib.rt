@@ -206,9 +206,7 @@ impl Needs {
         ensures { result ≡ needs_in names.now words.now (query_forms q) }
     {
         let mut s = Sides::none(names);
-        let mut i = q.count();
-        while 0 < i {
-            i -= 1;
+        for i in (0..q.count()).rev() {
             s = s.with_form(q.form(i), words, names);
         }
         s.outer

@@ -9,3 +9,4 @@ pub mod Stored
 pub mod Conditions
 pub mod Counts
 pub mod Nesting
+pub mod Profiles

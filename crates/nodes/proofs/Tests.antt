@@ -2,8 +2,8 @@
 use mathlib.Core.Path.{◌≡◌, refl, sym, ap, ◌∙◌}
 use mathlib.Core.List.{List}
 use mathlib.Core.Bool.{Bool, true, false, ◌&&◌, not, or-false}
-use Prim.Native.Nat.{ℕ, zero, suc, ◌+◌, ◌-◌, ◌/◌, ◌≤◌, ◌<◌}
-use native.Mathlib.Decide.{dec_lt}
+use Prim.Native.Nat.{ℕ, zero, suc, ◌+◌, ◌-◌, ◌/◌, ◌≤◌, ◌<◌, min}
+use native.Mathlib.Decide.{dec_lt, ℕ_discrete}
 use native.Mathlib.Omega.{arith}
 use lib.Dec.{T, eqb, leb, ltb}
 use lib.ListN.{get_or}
@@ -19,25 +19,18 @@ use Rattle.nodes.proofs.Reaching.{link_falls, reaches_step, reaches_stop, reache
 
 -- ---- links
 
-module _ (ws : List ℕ) (k : ℕ) where
-  pub link_none : k ≡ 0 → 0 ≡ link ws k
+module _ (ws : List ℕ) (k : ℕ) {w : ℕ} (e : w ≡ get_or ws (k - 1) 0) where
+  before_word : (k ≡ 0 → ⊥) → (node_at ws k).before ≡ w / 16777216
+  unfolding node_at node_of
+  before_word ne = rw (ne_eqb k 0 ne, e)
+
+  pub link_met : {s r : ℕ} → s ≡ k - 1 → r ≡ min (w / 16777216) s → r ≡ link ws k
   unfolding link
-  link_none e = omega arith
-
-  module _ (ne : k ≡ 0 → ⊥) {w : ℕ} (e : w ≡ get_or ws (k - 1) 0) where
-    before_word : (node_at ws k).before ≡ w / 16777216
-    unfolding node_at node_of
-    before_word = rw (ne_eqb k 0 ne, e)
-
-    pub link_high : k - 1 < w / 16777216 → k - 1 ≡ link ws k
-    unfolding link
-    link_high h = let b = before_word in omega arith
-
-    pub link_low : w / 16777216 ≤ k - 1 → w / 16777216 ≡ link ws k
-    unfolding link
-    link_low h = let b = before_word in omega arith
-
-pub ruleset link_ends = (link_none, link_high, link_low)
+  link_met {s} {r} d h = go (ℕ_discrete k 0)
+    where
+      go : Dec (k ≡ 0) → r ≡ link ws k
+      go (yes z) = omega arith
+      go (no ne) = let b = before_word ne in omega arith
 
 -- ---- down to a stop
 
@@ -214,23 +207,16 @@ module _ (ok : Node → Bool) (ws : List ℕ) where
           let z : node_sound ok ws k (node_at ws k) ≡ false = ap (node_sound ok ws k) (sym e) ∙ sym p ∙ not-true x f in
           sym (inv ∙ all_step k k h ∙ ap (λ b. b && all_sound k ok ws (k - node_words (node_at ws k))) z)
 
-      module _ (f : not x ≡ false) {size : ℕ} (d : size ≡ node_words m) where
-        on : left_sound n ≡ left_sound (k - size)
-        on =
+      module _ {size j : ℕ} (d : size ≡ node_words m) (l : j ≡ k - size) where
+        pub all_on : not x ≡ false → left_sound n ≡ left_sound j
+        all_on f =
             let z : node_sound ok ws k (node_at ws k) ≡ true = ap (node_sound ok ws k) (sym e) ∙ sym p ∙ not-false x f in
-            let y : node_words (node_at ws k) ≡ size = ap node_words (sym e) ∙ sym d in
-            inv ∙ all_before k h z ∙ ap (λ w. left_sound (k - w)) y
+            inv ∙ all_before k h z ∙ ap left_sound (ap (λ w. k - w) (ap node_words (sym e) ∙ sym d) ∙ sym l)
 
-        pub all_front : k < size → true ≡ left_sound n
-        all_front l = sym (on ∙ all_none (suc (k - size)) (k - size) (omega arith))
-
-        pub all_on : size ≤ k → left_sound n ≡ left_sound (k - size)
-        all_on l = on
-
-        pub all_falls : k - size < k
+        pub all_falls : j < k
         all_falls = omega (arith, words_some m)
 
-pub ruleset all_ends = (all_end, all_stop, all_front, all_falls, all_on)
+pub ruleset all_ends = (all_end, all_stop, all_falls, all_on)
 
 module _ (mask : ℕ) (ws : List ℕ) (n : ℕ) {x : Bool} (p : x ≡ all_sound (suc n) (terms_sound mask) ws n) where
   pub nodes_stop : not x ≡ true → false ≡ nodes_sound mask ws n

@@ -31,9 +31,6 @@ unfolding node_of
 node_parts w v = refl
 
 module _ (ws : List ℕ) where
-  pub word_front : (k d : ℕ) {r : ℕ} → k < d → r ≡ get_or ws 0 0 → r ≡ get_or ws (k - d) 0
-  word_front k d h e = let z : k - d ≡ 0 = omega arith in rw z e
-
   pub node_none : (k : ℕ) {r : Node} → k ≡ 0 → r ≡ node_of 0 0 → r ≡ node_at ws k
   unfolding node_at no_node node_of
   node_none k e h = h ∙ rw e

@@ -41,10 +41,7 @@ impl Node {
 fn word(words: &[u32], k: usize, d: usize) -> u32
     ensures { result ≡ get_or words.now (k - d) 0 }
 {
-    if k < d {
-        return places::word_in(words, 0);
-    }
-    places::word_in(words, k - d)
+    places::word_in(words, k.saturating_sub(d))
 }
 
 // Returns the value of two halves.
@@ -140,14 +137,7 @@ pub fn put_node(words: &mut [u32], b: usize, n: Node)
 pub fn link_of(words: &[u32], k: usize) -> usize
     ensures { result ≡ link words.now k }
 {
-    if k == 0 {
-        return 0;
-    }
-    let b = (word(words, k, 1) / 16777216) as usize;
-    if k - 1 < b {
-        return k - 1;
-    }
-    b
+    ((word(words, k, 1) / 16777216) as usize).min(k.saturating_sub(1))
 }
 
 // The list of conditions that ends at a place goes down to a stop.
@@ -251,11 +241,7 @@ fn all_sound(words: &[u32], n: usize, mask: u32) -> bool
         if !node_sound(words, k, node, mask) {
             return false;
         }
-        let size = node_words(node);
-        if k < size {
-            return true;
-        }
-        k = k - size;
+        k = k.saturating_sub(node_words(node));
     }
     true
 }

@@ -133,5 +133,3 @@ module _ (ns : List ℕ) (fs : List Form) where
 
   pub plan_end : (p : Plan) (i : ℕ) → i ≤ 0 → p ≡ plan_in ns (drop i fs) → p ≡ plan_in ns fs
   plan_end p i h e = let z : i ≡ 0 = omega arith in e ∙ ap (λ k. plan_in ns (drop k fs)) z
-
-pub ruleset plan_ends = (plan_start, plan_more, plan_end)

@@ -53,10 +53,8 @@ fn stream_order(names: &[u64], s: u32) -> u64
     if Stream::MOST <= s as usize {
         return m;
     }
-    let mut c: usize = 0;
-    while c < n {
+    for c in 0..n {
         m = orders::with_code(m, (s as usize * Stream::COLUMNS + c) as u32);
-        c += 1;
     }
     m
 }
@@ -241,10 +239,8 @@ impl Plan {
 pub fn laid(table: &[u32], n: u32, names: &[u64]) -> Plan
     ensures { result ≡ plan_in names.now (forms_in table.now n) }
 {
-    let mut i = query::count_in(n);
     let mut p = Plan::new();
-    while 0 < i {
-        i -= 1;
+    for i in (0..query::count_in(n)).rev() {
         p = p.with(query::form_in(table, n, i), names);
     }
     p

@@ -7,8 +7,9 @@ use native.Mathlib.Numerals.{add-one}
 use native.Mathlib.Omega.{arith}
 use lib.Bits.{bit_or}
 use lib.Dec.{eqb}
-use lib.ListN.{length, get_or, drop, drop_of_length-le, get_or-eq_default}
-use lib.Seq.{drop-cons}
+use lib.ListN.{length, get_or, take, drop, drop_of_length-le, length-take, length-drop}
+use lib.Seq.{drop-cons, drop-length, take_all}
+use Rattle.std.proofs.lemmas.List.{take_min}
 use borrow.Author.Tests.{eq-eqb, ne_eqb}
 use Rattle.lists.specs.Lists.{select, gather, count_from}
 use Rattle.lists.proofs.Laws.{append_nil}
@@ -24,13 +25,11 @@ use Rattle.orders.proofs.Turns.{passed}
 use Rattle.grant.specs.Grants.{column_codes}
 use Rattle.query.specs.Forms.{rows_form, pick_form, keep_of, form_order}
 use Rattle.query.specs.Tables.{blank, query_forms, Rewritten, held, rewritten_with, rewritten_from, rewritten_table}
-use Rattle.query.proofs.Tables.{query_most, length_told}
 use Rattle.query.proofs.Rewritten.{from_append}
 use Rattle.query.specs.declared.Form.{Form}
 use Rattle.query.specs.declared.Query.{Query}
 use Rattle.rewrite.specs.declared.Restriction.{Restriction}
 use Rattle.rewrite.specs.Rewrites.{under_of, cut_form, shown_order, seen_forms, cut_forms, side_forms, side_picks, side_stream, side_rest, side_order, pair_order, view_forms, joined_forms, pair_forms, sum_forms}
-use Rattle.rewrite.specs.Parts.{StreamAt}
 use Rattle.rewrite.proofs.Shown.{codes_few, codes_small}
 
 -- ---- one form
@@ -113,151 +112,163 @@ pub ruleset columns_ends = (columns_past, columns_most, columns_start, columns_o
 shown_codes : (ns : List ℕ) (mask : ℕ) (ss : List ℕ) → length ss ≤ 2 → order_within mask (order_of (column_codes ns ss)) ≡ order_of (select (bit? mask) (column_codes ns ss))
 shown_codes ns mask ss h = let l = codes_few ns ss in within_of mask (column_codes ns ss) (omega arith) (codes_small ns ss)
 
+-- ---- the forms of a query
+
+pub forms_counted : (q : Query) {n : ℕ} → n ≡ length (query_forms q) → n ≡ length (take n q.forms)
+unfolding query_forms
+forms_counted q {n} e = let l = length-take q.len q.forms in let m = length-take n q.forms in omega arith
+
+pub forms_first : (q : Query) {n : ℕ} → n ≡ length (query_forms q) → take n q.forms ≡ query_forms q
+unfolding query_forms
+forms_first q e = rw (e, length-take q.len q.forms) (take_min q.len q.forms)
+
 -- ---- the forms that are left
 
-next : (fs : List Form) (i n : ℕ) {f : Form} → n ≡ length fs → i < n → f ≡ get_or fs i blank → drop i fs ≡ f ∷ drop (i + 1) fs
-next fs i n e h k = drop-cons fs i blank (omega arith) ∙ rw (k, add-one i)
+pub tail : (fs : List Form) (k : ℕ) → take (length fs - k) (drop k fs) ≡ drop k fs
+tail fs k = take_all (length fs - k) (drop k fs) (let l = length-drop k fs in omega arith)
 
-over : (fs : List Form) (i n : ℕ) → n ≡ length fs → n ≤ i → drop i fs ≡ []
-over fs i n e h = drop_of_length-le fs {i = i} (omega arith)
+module _ (fs : List Form) (i : ℕ) where
+  next : i < length fs → drop i fs ≡ get_or fs i blank ∷ drop (i + 1) fs
+  next h = rw (add-one i) (drop-cons fs i blank h)
 
-module _ (fs : List Form) (i n : ℕ) (e : n ≡ length fs) where
+  over : length fs ≤ i → drop i fs ≡ []
+  over h = drop_of_length-le fs {i = i} h
+
+  abbrev here : Form
+  here = get_or fs i blank
+
   -- ---- a side's stream
-  module _ (from : ℕ) (s : side_stream (drop from fs) ≡ side_stream (drop i fs)) (r : side_rest (drop from fs) ≡ side_rest (drop i fs)) where
-    module _ {f : Form} {b : Bool} (h : i < n) (k : f ≡ get_or fs i blank) (l : b ≡ eqb f.kind rows_form) where
-      pub stream_here : i ≤ from + 12 → b ≡ true → StreamAt fs from i
-      unfolding side_stream side_rest
-      stream_here u t =
-          let d = next fs i n e h k in
-          let z : eqb f.kind rows_form ≡ true = sym l ∙ t in
-          record {
-            bound = u;
-            stream = sym (s ∙ rw (d, z) k);
-            rest = sym (r ∙ rw (d, z));
-          }
-
-      pub stream_on : b ≡ false → side_stream (drop from fs) ≡ side_stream (drop (i + 1) fs)
+  module _ (s : side_stream fs ≡ side_stream (drop i fs)) (r : side_rest fs ≡ side_rest (drop i fs)) where
+    module _ {b : Bool} (h : i < length fs) (l : b ≡ eqb here.kind rows_form) where
+      pub stream_here : b ≡ true → here ≡ side_stream fs
       unfolding side_stream
-      stream_on t = s ∙ rw (next fs i n e h k, sym l ∙ t)
+      stream_here t = sym (s ∙ rw (next h, sym l ∙ t))
 
-      pub rest_on : b ≡ false → side_rest (drop from fs) ≡ side_rest (drop (i + 1) fs)
+      pub rest_here : b ≡ true → take (length fs - (i + 1)) (drop (i + 1) fs) ≡ side_rest fs
       unfolding side_rest
-      rest_on t = r ∙ rw (next fs i n e h k, sym l ∙ t)
+      rest_here t = tail fs (i + 1) ∙ sym (r ∙ rw (next h, sym l ∙ t))
 
-    pub stream_none : i ≤ from + 12 → n ≤ i → StreamAt fs from i
-    unfolding side_stream side_rest
-    stream_none u h =
-        record {
-          bound = u;
-          stream = sym (s ∙ rw (over fs i n e h) (sym (get_or-eq_default fs blank (omega arith))));
-          rest = sym (r ∙ rw (over fs i n e h) (sym (over fs (i + 1) n e (omega arith))));
-        }
+      pub stream_on : b ≡ false → side_stream fs ≡ side_stream (drop (i + 1) fs)
+      unfolding side_stream
+      stream_on t = s ∙ rw (next h, sym l ∙ t)
+
+      pub rest_on : b ≡ false → side_rest fs ≡ side_rest (drop (i + 1) fs)
+      unfolding side_rest
+      rest_on t = r ∙ rw (next h, sym l ∙ t)
+
+    pub stream_none : length fs ≤ i → blank ≡ side_stream fs
+    unfolding side_stream
+    stream_none h = sym (s ∙ rw (over h))
+
+    pub rest_none : length fs ≤ i → take (length fs - length fs) (drop (length fs) fs) ≡ side_rest fs
+    unfolding side_rest
+    rest_none h = tail fs (length fs) ∙ drop-length fs ∙ sym (r ∙ rw (over h))
 
   -- ---- its columns
-  module _ (ns : List ℕ) (from mask : ℕ) (inv : side_order ns (drop from fs) ≡ side_order ns (drop i fs)) where
-    module _ {f : Form} {b : Bool} (h : i < n) (k : f ≡ get_or fs i blank) (l : b ≡ eqb f.kind rows_form) where
-      pub order_stream : {m : ℕ} → b ≡ true → m ≡ order_from 0 (select (bit? mask) (column_codes ns (f.first ∷ []))) → m ≡ order_within mask (side_order ns (drop from fs))
+  module _ (ns : List ℕ) (mask : ℕ) (inv : side_order ns fs ≡ side_order ns (drop i fs)) where
+    module _ {b : Bool} (h : i < length fs) (l : b ≡ eqb here.kind rows_form) where
+      pub order_stream : {m : ℕ} → b ≡ true → m ≡ order_from 0 (select (bit? mask) (column_codes ns (here.first ∷ []))) → m ≡ order_within mask (side_order ns fs)
       unfolding side_order order_of
-      order_stream t u = u ∙ sym (ap (order_within mask) (inv ∙ rw (next fs i n e h k, sym l ∙ t)) ∙ shown_codes ns mask (f.first ∷ []) (omega arith))
+      order_stream t u = u ∙ sym (ap (order_within mask) (inv ∙ rw (next h, sym l ∙ t)) ∙ shown_codes ns mask (here.first ∷ []) (omega arith))
 
-      pub order_keep : {o m : ℕ} → b ≡ false → f.kind ≡ 2 → o ≡ form_order f → m ≡ order_within mask o → m ≡ order_within mask (side_order ns (drop from fs))
+      pub order_keep : {o m : ℕ} → b ≡ false → here.kind ≡ 2 → o ≡ form_order here → m ≡ order_within mask o → m ≡ order_within mask (side_order ns fs)
       unfolding side_order
-      order_keep t u v w = w ∙ ap (order_within mask) (v ∙ sym (inv ∙ rw (next fs i n e h k, sym l ∙ t, eq-eqb f.kind 2 u)))
+      order_keep t u v w = w ∙ ap (order_within mask) (v ∙ sym (inv ∙ rw (next h, sym l ∙ t, eq-eqb here.kind 2 u)))
 
-      pub order_on : b ≡ false → (f.kind ≡ 2 → ⊥) → side_order ns (drop from fs) ≡ side_order ns (drop (i + 1) fs)
+      pub order_on : b ≡ false → (here.kind ≡ 2 → ⊥) → side_order ns fs ≡ side_order ns (drop (i + 1) fs)
       unfolding side_order
-      order_on t u = inv ∙ rw (next fs i n e h k, sym l ∙ t, ne_eqb f.kind 2 u)
+      order_on t u = inv ∙ rw (next h, sym l ∙ t, ne_eqb here.kind 2 u)
 
-    pub order_none : n ≤ i → 0 ≡ order_within mask (side_order ns (drop from fs))
+    pub order_none : length fs ≤ i → 0 ≡ order_within mask (side_order ns fs)
     unfolding side_order order_within order_of order_from select
-    order_none h = sym (ap (order_within mask) (inv ∙ rw (over fs i n e h)) ∙ ap (λ l. order_of (select (bit? mask) l)) codes_empty)
+    order_none h = sym (ap (order_within mask) (inv ∙ rw (over h)) ∙ ap (λ l. order_of (select (bit? mask) l)) codes_empty)
 
   -- ---- its picks
-  module _ (r x : Rewritten) (from : ℕ) (inv : rewritten_from r (side_picks (drop from fs)) ≡ rewritten_from x (side_picks (drop i fs))) where
-    module _ {f : Form} {b : Bool} (h : i < n) (k : f ≡ get_or fs i blank) (l : b ≡ eqb f.kind rows_form) where
-      pub picks_stop : b ≡ true → x ≡ rewritten_from r (side_picks (drop from fs))
+  module _ (r x : Rewritten) (inv : rewritten_from r (side_picks fs) ≡ rewritten_from x (side_picks (drop i fs))) where
+    module _ {b : Bool} (h : i < length fs) (l : b ≡ eqb here.kind rows_form) where
+      pub picks_stop : b ≡ true → x ≡ rewritten_from r (side_picks fs)
       unfolding side_picks rewritten_from
-      picks_stop t = sym (inv ∙ rw (next fs i n e h k, sym l ∙ t))
+      picks_stop t = sym (inv ∙ rw (next h, sym l ∙ t))
 
-      pub picks_on : {y : Rewritten} → b ≡ false → y ≡ rewritten_from x (cond (eqb f.kind pick_form) (f ∷ []) []) → rewritten_from r (side_picks (drop from fs)) ≡ rewritten_from y (side_picks (drop (i + 1) fs))
+      pub picks_on : {y : Rewritten} → b ≡ false → y ≡ rewritten_from x (cond (eqb here.kind pick_form) (here ∷ []) []) → rewritten_from r (side_picks fs) ≡ rewritten_from y (side_picks (drop (i + 1) fs))
       unfolding side_picks rewritten_from
-      picks_on {y} t u = inv ∙ rw (next fs i n e h k, sym l ∙ t) (go (eqb f.kind pick_form) u)
+      picks_on {y} t u = inv ∙ rw (next h, sym l ∙ t) (go (eqb here.kind pick_form) u)
         where
-          go : (p : Bool) → y ≡ rewritten_from x (cond p (f ∷ []) []) → rewritten_from x (cond p (f ∷ side_picks (drop (i + 1) fs)) (side_picks (drop (i + 1) fs))) ≡ rewritten_from y (side_picks (drop (i + 1) fs))
+          go : (p : Bool) → y ≡ rewritten_from x (cond p (here ∷ []) []) → rewritten_from x (cond p (here ∷ side_picks (drop (i + 1) fs)) (side_picks (drop (i + 1) fs))) ≡ rewritten_from y (side_picks (drop (i + 1) fs))
           go true v = rw v
           go false v = rw v
 
-    pub picks_end : n ≤ i → x ≡ rewritten_from r (side_picks (drop from fs))
+    pub picks_end : length fs ≤ i → x ≡ rewritten_from r (side_picks fs)
     unfolding side_picks rewritten_from
-    picks_end h = sym (inv ∙ rw (over fs i n e h))
+    picks_end h = sym (inv ∙ rw (over h))
 
   -- ---- a grant for each stream
   module _ (ns : List ℕ) (mask : ℕ) (g second : Restriction) (r t : Rewritten) (inv : t ≡ rewritten_from r (cut_forms ns mask g second (drop i fs))) where
-    pub sides_on : {f : Form} {x : Rewritten} {h : Restriction} → i < n → f ≡ get_or fs i blank
-        → x ≡ rewritten_from r (cond (eqb f.kind rows_form) (seen_forms ns g f) (cut_form mask f ∷ [])) → h ≡ cond (eqb f.kind rows_form) second g
+    pub sides_on : {x : Rewritten} {h : Restriction} → i < length fs
+        → x ≡ rewritten_from r (cond (eqb here.kind rows_form) (seen_forms ns g here) (cut_form mask here ∷ [])) → h ≡ cond (eqb here.kind rows_form) second g
         → t ≡ rewritten_from x (cut_forms ns mask h second (drop (i + 1) fs))
     unfolding cut_forms
-    sides_on {f} {x} {h} l k u v = inv ∙ rw (next fs i n e l k) (go (eqb f.kind rows_form) u v)
+    sides_on {x} {h} l u v = inv ∙ rw (next l) (go (eqb here.kind rows_form) u v)
       where
         rest : Restriction → List Form
         rest y = cut_forms ns mask y second (drop (i + 1) fs)
 
-        go : (b : Bool) → x ≡ rewritten_from r (cond b (seen_forms ns g f) (cut_form mask f ∷ [])) → h ≡ cond b second g
-            → rewritten_from r (cond b (seen_forms ns g f ++ cut_forms ns mask second second (drop (i + 1) fs)) (cut_form mask f ∷ cut_forms ns mask g second (drop (i + 1) fs))) ≡ rewritten_from x (cut_forms ns mask h second (drop (i + 1) fs))
-        go true u v = from_append r (seen_forms ns g f) (rest second) ∙ rw (u, v)
-        go false u v = from_append r (cut_form mask f ∷ []) (rest g) ∙ rw (u, v)
+        go : (b : Bool) → x ≡ rewritten_from r (cond b (seen_forms ns g here) (cut_form mask here ∷ [])) → h ≡ cond b second g
+            → rewritten_from r (cond b (seen_forms ns g here ++ cut_forms ns mask second second (drop (i + 1) fs)) (cut_form mask here ∷ cut_forms ns mask g second (drop (i + 1) fs))) ≡ rewritten_from x (cut_forms ns mask h second (drop (i + 1) fs))
+        go true u v = from_append r (seen_forms ns g here) (rest second) ∙ rw (u, v)
+        go false u v = from_append r (cut_form mask here ∷ []) (rest g) ∙ rw (u, v)
 
-    pub sides_end : n ≤ i → r ≡ t
+    pub sides_end : length fs ≤ i → r ≡ t
     unfolding cut_forms rewritten_from
-    sides_end h = sym (inv ∙ rw (over fs i n e h))
+    sides_end h = sym (inv ∙ rw (over h))
 
   -- ---- a grant on the pair
   module _ (ns : List ℕ) (g : Restriction) (r t : Rewritten) (inv : t ≡ rewritten_from r (pair_forms ns g (drop i fs))) where
-    module _ {f : Form} (h : i < n) (k : f ≡ get_or fs i blank) where
-      pub pair_joined : {x : Rewritten} → f.kind ≡ 3 → x ≡ rewritten_from r (joined_forms ns g (get_or fs i blank) (drop (i + 1) fs)) → x ≡ t
+    module _ (h : i < length fs) where
+      pub pair_joined : {x : Rewritten} → here.kind ≡ 3 → x ≡ rewritten_from r (joined_forms ns g here (take (length fs - (i + 1)) (drop (i + 1) fs))) → x ≡ t
       unfolding pair_forms
-      pair_joined u v = v ∙ sym (inv ∙ rw (next fs i n e h k, eq-eqb f.kind 3 u, k))
+      pair_joined u v = v ∙ rw (tail fs (i + 1)) (sym (inv ∙ rw (next h, eq-eqb here.kind 3 u)))
 
-      pub pair_on : {x : Rewritten} {z : Form} → (f.kind ≡ 3 → ⊥) → z ≡ cut_form g.shown f → x ≡ rewritten_with r z → t ≡ rewritten_from x (pair_forms ns g (drop (i + 1) fs))
+      pub pair_on : {x : Rewritten} {z : Form} → (here.kind ≡ 3 → ⊥) → z ≡ cut_form g.shown here → x ≡ rewritten_with r z → t ≡ rewritten_from x (pair_forms ns g (drop (i + 1) fs))
       unfolding pair_forms rewritten_from
-      pair_on u v w = inv ∙ rw (next fs i n e h k, ne_eqb f.kind 3 u) (rw (w, v))
+      pair_on u v w = inv ∙ rw (next h, ne_eqb here.kind 3 u) (rw (w, v))
 
-    pub pair_end : n ≤ i → r ≡ t
+    pub pair_end : length fs ≤ i → r ≡ t
     unfolding pair_forms rewritten_from
-    pair_end h = sym (inv ∙ rw (over fs i n e h))
+    pair_end h = sym (inv ∙ rw (over h))
 
   -- ---- an aggregate grant
   module _ (ns : List ℕ) (g : Restriction) (r t : Rewritten) (inv : t ≡ rewritten_from r (sum_forms ns g (drop i fs))) where
-    module _ {f : Form} (h : i < n) (k : f ≡ get_or fs i blank) {x : Rewritten} (w : x ≡ rewritten_with r f) where
-      pub sum_seen : {y : Rewritten} {p : ℕ} {z : Form} → f.kind ≡ 4 → StreamAt fs (i + 1) p → z ≡ get_or fs p blank → y ≡ rewritten_from x (seen_forms ns g z) → y ≡ t
+    module _ (h : i < length fs) {x : Rewritten} (w : x ≡ rewritten_with r here) where
+      pub sum_seen : {y : Rewritten} {z : Form} → here.kind ≡ 4 → z ≡ side_stream (take (length fs - (i + 1)) (drop (i + 1) fs)) → y ≡ rewritten_from x (seen_forms ns g z) → y ≡ t
       unfolding sum_forms rewritten_from
-      sum_seen u s v l = l ∙ sym (inv ∙ rw (next fs i n e h k, eq-eqb f.kind 4 u) (rw (w, v, s.stream)))
+      sum_seen u v l = l ∙ sym (inv ∙ rw (next h, eq-eqb here.kind 4 u) (rw (w, v, tail fs (i + 1))))
 
-      pub sum_on : (f.kind ≡ 4 → ⊥) → t ≡ rewritten_from x (sum_forms ns g (drop (i + 1) fs))
+      pub sum_on : (here.kind ≡ 4 → ⊥) → t ≡ rewritten_from x (sum_forms ns g (drop (i + 1) fs))
       unfolding sum_forms rewritten_from
-      sum_on u = inv ∙ rw (next fs i n e h k, ne_eqb f.kind 4 u) (rw w)
+      sum_on u = inv ∙ rw (next h, ne_eqb here.kind 4 u) (rw w)
 
-    pub sum_end : n ≤ i → r ≡ t
+    pub sum_end : length fs ≤ i → r ≡ t
     unfolding sum_forms rewritten_from
-    sum_end h = sym (inv ∙ rw (over fs i n e h))
+    sum_end h = sym (inv ∙ rw (over h))
 
-pub ruleset stream_ends = (stream_here, stream_on, rest_on, stream_none)
+pub ruleset stream_ends = (stream_here, rest_here, stream_on, rest_on, stream_none, rest_none)
 
 pub ruleset order_ends = (order_stream, order_keep, order_on, order_none)
 
 pub ruleset picks_ends = (picks_stop, picks_on, picks_end)
 
-pub sides_start : (ws ns : List ℕ) (g h : Restriction) (fs : List Form) {mask : ℕ} → mask ≡ bit_or g.shown h.shown → rewritten_table ws (side_forms ns g h fs) ≡ rewritten_from (held ws 0) (cut_forms ns mask g h (drop 0 fs))
+pub sides_start : (ws ns : List ℕ) (g h : Restriction) (fs : List Form) {mask : ℕ} {all : List Form} → mask ≡ bit_or g.shown h.shown → all ≡ fs → rewritten_table ws (side_forms ns g h fs) ≡ rewritten_from (held ws 0) (cut_forms ns mask g h all)
 unfolding rewritten_table side_forms
-sides_start ws ns g h fs e = rw e
+sides_start ws ns g h fs e d = rw (e, d)
 
-pub pair_start : (ws ns : List ℕ) (g : Restriction) (fs : List Form) → rewritten_table ws (pair_forms ns g fs) ≡ rewritten_from (held ws 0) (pair_forms ns g (drop 0 fs))
+pub pair_start : (ws ns : List ℕ) (g : Restriction) (fs : List Form) {all : List Form} → all ≡ fs → rewritten_table ws (pair_forms ns g fs) ≡ rewritten_from (held ws 0) (pair_forms ns g all)
 unfolding rewritten_table
-pair_start ws ns g fs = refl
+pair_start ws ns g fs d = rw d
 
-pub sum_start : (ws ns : List ℕ) (g : Restriction) (fs : List Form) → rewritten_table ws (sum_forms ns g fs) ≡ rewritten_from (held ws 0) (sum_forms ns g (drop 0 fs))
+pub sum_start : (ws ns : List ℕ) (g : Restriction) (fs : List Form) {all : List Form} → all ≡ fs → rewritten_table ws (sum_forms ns g fs) ≡ rewritten_from (held ws 0) (sum_forms ns g all)
 unfolding rewritten_table
-sum_start ws ns g fs = refl
+sum_start ws ns g fs d = rw d
 
 pub ruleset sides_ends = (sides_start, sides_on, sides_end)
 
@@ -299,29 +310,15 @@ view_made r ns g j a b {l} {o} d e i p q s t u v =
     let m : o ≡ order_within g.shown (order_of (column_codes ns (a.first ∷ b.first ∷ []))) = e ∙ ap (λ x. order_from x (select (bit? g.shown) (column_codes ns (b.first ∷ [])))) d ∙ sym (both_shown ns g.shown a.first b.first) in
     v ∙ rw (u, t, s, p, q, i, m)
 
-pub joined_made : (r : Rewritten) (fs : List Form) (ns : List ℕ) (g : Restriction) (at : ℕ) {a b l m o : ℕ} {k f c d : Form} {x y z t : Rewritten} → StreamAt fs (at + 1) a → StreamAt fs (a + 1) b
-    → l ≡ order_within g.shown (side_order ns (drop (at + 1) fs)) → m ≡ order_within g.shown (side_order ns (drop (a + 1) fs)) → o ≡ order_from l (codes_in m) → k ≡ keep_of o → x ≡ rewritten_with r k
-    → y ≡ rewritten_from x (side_picks (drop (a + 1) fs)) → z ≡ rewritten_from y (side_picks (drop (at + 1) fs)) → f ≡ get_or fs at blank → c ≡ get_or fs a blank → d ≡ get_or fs b blank
-    → t ≡ rewritten_from z (view_forms ns g f c d) → t ≡ rewritten_from r (joined_forms ns g (get_or fs at blank) (drop (at + 1) fs))
+pub joined_made : (r : Rewritten) (fs : List Form) (ns : List ℕ) (g : Restriction) (j : Form) {a b : Form} {right : List Form} {l m o : ℕ} {k : Form} {x y z t : Rewritten} → a ≡ side_stream fs → right ≡ side_rest fs → b ≡ side_stream right
+    → l ≡ order_within g.shown (side_order ns fs) → m ≡ order_within g.shown (side_order ns right) → o ≡ order_from l (codes_in m) → k ≡ keep_of o → x ≡ rewritten_with r k
+    → y ≡ rewritten_from x (side_picks right) → z ≡ rewritten_from y (side_picks fs) → t ≡ rewritten_from z (view_forms ns g j a b) → t ≡ rewritten_from r (joined_forms ns g j fs)
 unfolding rewritten_from joined_forms pair_order
-joined_made r fs ns g at {a} {b} {l} {m} {o} {k} {f} {c} {d} {x} {y} {z} {t} p q el em e h i j v u vc w made-view =
-    let s : d ≡ side_stream (side_rest (drop (at + 1) fs)) = w ∙ q.stream ∙ ap side_stream p.rest in
-    let n : c ≡ side_stream (drop (at + 1) fs) = vc ∙ p.stream in
-    let first = side_picks (side_rest (drop (at + 1) fs)) in
-    let second = side_picks (drop (at + 1) fs) in
-    let view = view_forms ns g f c d in
+joined_made r fs ns g j {a} {b} {right} {l} {m} {o} {k} {x} {y} {z} {t} p q s el em e h i u v made-view =
+    let first = side_picks right in
+    let second = side_picks fs in
+    let view = view_forms ns g j a b in
     let made : t ≡ rewritten_from x (first ++ (second ++ view)) =
-    made-view ∙ ap (λ z. rewritten_from z view) (v ∙ ap (λ y. rewritten_from y second) (j ∙ ap (λ fs. rewritten_from x (side_picks fs)) p.rest))
+    made-view ∙ ap (λ z. rewritten_from z view) (v ∙ ap (λ y. rewritten_from y second) u)
     ∙ sym (from_append x first (second ++ view) ∙ from_append (rewritten_from x first) second view) in
-    made ∙ rw (i, h, e, el, em, p.rest, sym u, sym n, sym s)
-
--- a place after a form of a query is one of a dozen
-pub place_few : (from i n : ℕ) (q : Query) → n ≡ length (query_forms q) → length (query_forms q) ≤ 12 → i < n → i + 1 ≤ from + 12
-place_few from i n q e m h = omega arith
-
-pub ruleset few = (place_few, query_most, length_told)
-
-pub place_below : (i n : ℕ) (q : Query) → n ≡ length (query_forms q) → length (query_forms q) ≤ 12 → i < n → i < 12
-place_below i n q e m h = omega arith
-
-pub ruleset few_below = (place_below, query_most, length_told)
+    made ∙ rw (i, h, e, el, em, s, p, q)

@@ -1,3 +1,2 @@
 pub mod Rewrites
-pub mod Parts
 pub mod Routed

@@ -1,16 +1,14 @@
 // The rewritten query of a route: the table of a checked query, with each grant's view in the place of the streams that it opens, in lent words.
 #![tactic(auto)]
 
-ghost use Rattle.std.specs.Prelude.{◌≡◌, [], ◌∷◌, cond, ◌+◌, ◌<◌, eqb, get_or, drop};
+ghost use Rattle.std.specs.Prelude.{◌≡◌, [], ◌∷◌, cond, eqb};
 ghost use Rattle.lists.specs.Lists.{select};
 ghost use Rattle.masks.specs.Masks.{bit?};
 ghost use Rattle.orders.specs.Orders.{order_from, order_within};
-ghost use Rattle.syntax.specs.Limits.{max_forms};
 ghost use Rattle.grant.specs.Grants.{column_codes};
 ghost use Rattle.query.specs.Forms.{rows_form, pick_form};
-ghost use Rattle.query.specs.Tables.{blank, query_forms, held, rewritten_from, rewritten_table};
-ghost use Rattle.rewrite.specs.Rewrites.{under_of, cut_form, seen_forms, side_forms, side_picks, side_order, view_forms, joined_forms, pair_forms, sum_forms};
-ghost use Rattle.rewrite.specs.Parts.{StreamAt};
+ghost use Rattle.query.specs.Tables.{query_forms, held, rewritten_from, rewritten_table};
+ghost use Rattle.rewrite.specs.Rewrites.{under_of, cut_form, seen_forms, side_forms, side_picks, side_stream, side_rest, side_order, view_forms, joined_forms, pair_forms, sum_forms};
 
 use query::{Form, Query};
 use schema::Stream;
@@ -34,6 +32,14 @@ impl Restriction {
     }
 }
 
+// The forms of a query.
+fn forms(q: &Query) -> &[Form]
+    ensures { result.now ≡ query_forms q.now }
+{
+    let places: &[Form] = &q.forms;
+    &places[..q.count() as usize]
+}
+
 // A form as far as its columns are those of a mask.
 fn cut(f: Form, mask: u32) -> Form
     ensures { result ≡ cut_form mask f }
@@ -53,10 +59,8 @@ fn with_columns(order: u64, names: &[u64], s: u32, mask: u32) -> u64
     if Stream::MOST <= s as usize {
         return m;
     }
-    let mut c: usize = 0;
-    while c < n {
+    for c in 0..n {
         m = orders::with_shown(m, mask, (s as usize * Stream::COLUMNS + c) as u32);
-        c += 1;
     }
     m
 }
@@ -102,51 +106,40 @@ pub fn sides(
 ) -> u32
     ensures { held table.new result ≡ rewritten_table table.old (side_forms names.now first second (query_forms q)) }
 {
-    let n = q.count();
     let mask = masks::either(first.shown, second.shown);
-    let mut r: u32 = 0;
+    let mut r = 0;
     let mut g = first;
-    let mut i: u32 = 0;
-    while i < n {
-        let f = q.form(i);
-        r = put_side(table, r, names, f, g, mask);
-        g = after(f, g, second);
-        i += 1;
+    for f in forms(&q) {
+        r = put_side(table, r, names, *f, g, mask);
+        g = after(*f, g, second);
     }
     r
 }
 
-// The place of the stream of a side that begins at a place.
-fn stream_place(q: Query, from: u32) -> u32
-    ensures { StreamAt (query_forms q) from result }
+// The stream of a side, and the forms after it: a form of zeros and none where there is no stream.
+fn side(forms: &[Form]) -> (Form, &[Form])
+    ensures stream { result.0 ≡ side_stream forms.now }
+    ensures rest { result.1.now ≡ side_rest forms.now }
 {
-    let n = q.count();
-    let mut i = from;
-    while i < n {
-        let f = q.form(i);
+    for (i, f) in forms.iter().enumerate() {
         if f.is_rows() {
-            return i;
+            return (*f, &forms[i + 1..]);
         }
-        i += 1;
     }
-    i
+    (Form::rows(0), &forms[forms.len()..])
 }
 
-// The columns of a side that begins at a place, as far as a mask has them: those of its outermost keep, or its stream's.
-fn side_columns(q: Query, names: &[u64], from: u32, mask: u32) -> u64
-    ensures { result ≡ order_within mask (side_order names.now (drop from (query_forms q))) }
+// The columns of a side, as far as a mask has them: those of its outermost keep, or its stream's.
+fn side_columns(forms: &[Form], names: &[u64], mask: u32) -> u64
+    ensures { result ≡ order_within mask (side_order names.now forms.now) }
 {
-    let n = q.count();
-    let mut i = from;
-    while i < n {
-        let f = q.form(i);
+    for f in forms {
         if f.is_rows() {
             return with_columns(0, names, f.first, mask);
         }
         if f.kind == Form::KEEP {
             return orders::within(f.order(), mask);
         }
-        i += 1;
     }
     0
 }
@@ -161,20 +154,16 @@ fn put_pick(table: &mut [u32], n: u32, f: Form) -> u32
     n
 }
 
-// A table with the picks of a side that begins at a place.
-fn put_picks(table: &mut [u32], r: u32, q: Query, from: u32) -> u32
-    ensures { held table.new result ≡ rewritten_from (held table.old r) (side_picks (drop from (query_forms q))) }
+// A table with the picks of a side.
+fn put_picks(table: &mut [u32], r: u32, forms: &[Form]) -> u32
+    ensures { held table.new result ≡ rewritten_from (held table.old r) (side_picks forms.now) }
 {
-    let n = q.count();
     let mut x = r;
-    let mut i = from;
-    while i < n {
-        let f = q.form(i);
+    for f in forms {
         if f.is_rows() {
             return x;
         }
-        x = put_pick(table, x, f);
-        i += 1;
+        x = put_pick(table, x, *f);
     }
     x
 }
@@ -200,21 +189,25 @@ fn put_view(
     query::put_form(table, one, b)
 }
 
-// A table with the join at a place more, as a grant shows it.
-fn put_joined(table: &mut [u32], n: u32, q: Query, names: &[u64], g: Restriction, at: u32) -> u32
-    requires { at < max_forms }
-    ensures { held table.new result ≡ rewritten_from (held table.old n) (joined_forms names.now g (get_or (query_forms q) at blank) (drop (at + 1) (query_forms q))) }
+// A table with a join of the forms after it more, as a grant shows it.
+fn put_joined(
+    table: &mut [u32],
+    n: u32,
+    names: &[u64],
+    g: Restriction,
+    join: Form,
+    forms: &[Form],
+) -> u32
+    ensures { held table.new result ≡ rewritten_from (held table.old n) (joined_forms names.now g join forms.now) }
 {
-    let left = at + 1;
-    let a = stream_place(q, left);
-    let right = a + 1;
-    let b = stream_place(q, right);
-    let first = side_columns(q, names, left, g.shown);
-    let second = side_columns(q, names, right, g.shown);
+    let (a, right) = side(forms);
+    let (b, _) = side(right);
+    let first = side_columns(forms, names, g.shown);
+    let second = side_columns(right, names, g.shown);
     let kept = query::put_form(table, n, Form::keep(orders::joined(first, second)));
-    let outer = put_picks(table, kept, q, right);
-    let inner = put_picks(table, outer, q, left);
-    put_view(table, inner, names, g, q.form(at), q.form(a), q.form(b))
+    let outer = put_picks(table, kept, right);
+    let inner = put_picks(table, outer, forms);
+    put_view(table, inner, names, g, join, a, b)
 }
 
 // Returns how many forms the rewritten query of a route has with one grant on the pair.
@@ -222,16 +215,13 @@ fn put_joined(table: &mut [u32], n: u32, q: Query, names: &[u64], g: Restriction
 pub fn pair(q: Query, names: &[u64], g: Restriction, table: &mut [u32]) -> u32
     ensures { held table.new result ≡ rewritten_table table.old (pair_forms names.now g (query_forms q)) }
 {
-    let n = q.count();
-    let mut r: u32 = 0;
-    let mut i: u32 = 0;
-    while i < n {
-        let f = q.form(i);
+    let all = forms(&q);
+    let mut r = 0;
+    for (i, f) in all.iter().enumerate() {
         if f.kind == Form::JOIN {
-            return put_joined(table, r, q, names, g, i);
+            return put_joined(table, r, names, g, *f, &all[i + 1..]);
         }
-        r = query::put_form(table, r, cut(f, g.shown));
-        i += 1;
+        r = query::put_form(table, r, cut(*f, g.shown));
     }
     r
 }
@@ -241,15 +231,13 @@ pub fn pair(q: Query, names: &[u64], g: Restriction, table: &mut [u32]) -> u32
 pub fn sum(q: Query, names: &[u64], g: Restriction, table: &mut [u32]) -> u32
     ensures { held table.new result ≡ rewritten_table table.old (sum_forms names.now g (query_forms q)) }
 {
-    let n = q.count();
-    let mut r: u32 = 0;
-    let mut i: u32 = 0;
-    while i < n {
-        let f = q.form(i);
-        r = query::put_form(table, r, f);
-        i += 1;
+    let all = forms(&q);
+    let mut r = 0;
+    for (i, f) in all.iter().enumerate() {
+        r = query::put_form(table, r, *f);
         if f.kind == Form::AGGREGATE {
-            return put_seen(table, r, names, q.form(stream_place(q, i)), g);
+            let (stream, _) = side(&all[i + 1..]);
+            return put_seen(table, r, names, stream, g);
         }
     }
     r

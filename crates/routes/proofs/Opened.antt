@@ -1,16 +1,16 @@
 -- What a grant opens, test by test, in the order of the code.
-use mathlib.Core.Path.{◌≡◌, refl, sym, ap, ◌∙◌}
-use mathlib.Core.List.{List, [], ◌∷◌, map, map-map}
+use mathlib.Core.Path.{◌≡◌, refl, sym, ap, ap₂, ◌∙◌}
+use mathlib.Core.List.{List, [], ◌∷◌, map}
 use mathlib.Core.Bool.{Bool, true, false, ◌&&◌, ◌||◌, not, cond, and-true, and-false}
-use Prim.Native.Nat.{ℕ, zero, suc, ◌+◌, ◌-◌, ◌≤◌, ◌<◌, min}
+use Prim.Native.Nat.{ℕ, zero, suc, ◌+◌, ◌≤◌, ◌<◌, min}
 use native.Mathlib.Omega.{arith}
 use lib.Bits.{bit_and, bit_or}
 use lib.Dec.{leb, eqb}
-use lib.ListN.{length, get_or}
+use lib.ListN.{get_or}
 use borrow.Author.Tests.{eq-eqb, ne_eqb, le-ltb, le-leb, lt-leb, not-true, not-false}
 use Rattle.lists.specs.Lists.{every, some?, same_list, count_from}
-use Rattle.lists.proofs.Laws.{same_list_refl, T_true}
-use Rattle.lists.proofs.Counting.{count_left, count_done, map_places}
+use Rattle.std.specs.List.{list_any}
+use Rattle.columns.proofs.Closing.{eqb_sym}
 use Rattle.model.specs.Routes.{is_equality}
 use Rattle.text.specs.Words.{name_of}
 use Rattle.schema.specs.Schemas.{code_end}
@@ -27,35 +27,11 @@ use Rattle.routes.specs.Opening.{belongs_in, stream_bits, streams_asked, equalit
 
 -- ---- roles
 
--- a name among those from place i on, up to n
-abbrev pub held_from : List ℕ → ℕ → ℕ → ℕ → Bool
-held_from roles role i n = some? (same_list (name_of role)) (map (λ j. name_of (get_or roles j 0)) (count_from i (n - i)))
-
-pub role_start : (roles : List ℕ) (role : ℕ) → some? (same_list (name_of role)) (map name_of roles) ≡ held_from roles role 0 (length roles)
-role_start roles role =
-    let e : length roles ≡ length roles - 0 = omega arith in
-    ap (λ l. some? (same_list (name_of role)) (map name_of l)) (sym (map_places 0 roles))
-    ∙ ap (some? (same_list (name_of role))) (map-map name_of (λ j. get_or roles j 0) (count_from 0 (length roles)) ∙ ap (λ n. map (λ j. name_of (get_or roles j 0)) (count_from 0 n)) e)
-
-module _ (roles : List ℕ) (role i n : ℕ) {p : Bool} (inv : p ≡ held_from roles role i n) where
-  pub role_found : {x : ℕ} → i < n → x ≡ get_or roles i 0 → x ≡ role → true ≡ p
-  unfolding some?
-  role_found h e f =
-      let s : same_list (name_of role) (name_of (get_or roles i 0)) ≡ true = rw (sym e ∙ f) (T_true (same_list (name_of role) (name_of role)) (same_list_refl (name_of role))) in
-      sym (inv ∙ rw (count_left i n h, s))
-
-  pub role_on : {x : ℕ} → i < n → x ≡ get_or roles i 0 → role < code_end → x < code_end → (x ≡ role → ⊥) → p ≡ held_from roles role (i + 1) n
-  unfolding some?
-  role_on {x} h e l m d =
-      let k : get_or roles i 0 < code_end = omega arith in
-      let s : same_list (name_of role) (name_of (get_or roles i 0)) ≡ false = name_one role (get_or roles i 0) l k ∙ ne_eqb role (get_or roles i 0) (λ q. d (e ∙ sym q)) in
-      inv ∙ rw (count_left i n h, s)
-
-  pub role_end : n ≤ i → false ≡ p
-  unfolding some?
-  role_end h = sym (inv ∙ rw (count_done i n h))
-
-pub ruleset role_ends = (role_start, role_found, role_on, role_end)
+-- by their numbers
+pub role_told : (role : ℕ) (roles : List ℕ) → role < code_end → ((i : ℕ) → get_or roles i 0 < code_end) → list_any (λ x. eqb x role) roles ≡ some? (same_list (name_of role)) (map name_of roles)
+unfolding some?
+role_told role [] h f = refl
+role_told role (x ∷ xs) h f = ap₂ ◌||◌ (eqb_sym x role ∙ sym (name_one role x h (f 0))) (role_told role xs h (λ i. f (suc i)))
 
 module _ (g : Grant) (ws roles profile : List ℕ) {x : Bool} (e : x ≡ some? (same_list (name_of g.role)) (map name_of roles)) where
   pub belongs_none : not x ≡ true → false ≡ belongs_in g ws roles profile

@@ -21,15 +21,7 @@ use rows::Rows;
 fn role_held(role: u64, roles: &[u64]) -> bool
     ensures { result ≡ some? (same_list (name_of role)) (map name_of roles.now) }
 {
-    let n = roles.len();
-    let mut i: usize = 0;
-    while i < n {
-        if places::number_at(roles, i) == role {
-            return true;
-        }
-        i += 1;
-    }
-    false
+    roles.contains(&role)
 }
 
 // Returns whether a grant is the caller's: one who has its role, and every profile entry that the comparisons of its words name.

@@ -95,8 +95,6 @@ module _ (head : ℕ) (f g : ℕ → ℤ) (from n : ℕ) where
     unfolding numbered_op compared_at compares
     denied_gt e = denied (compared_at le f g) (λ i. rw e (ap not (le_not (f i) (g i)) ∙ not_not (lt_z (g i) (f i)))) ex
 
-pub ruleset compared_ends = (compared_eq, compared_lt, compared_gt, compared_ne, compared_le, compared_ge)
-
 -- ---- turned
 
 module _ (head : ℕ) where

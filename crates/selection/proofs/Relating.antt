@@ -26,10 +26,11 @@ use Rattle.rows.proofs.Masks.{rows_alike}
 use Rattle.column_masks.specs.Columns.{strip, strip_lent, compared_at}
 use Rattle.column_masks.proofs.Columns.{lent_true}
 use Rattle.selection.specs.declared.Origin.{Origin}
+use Rattle.selection.specs.declared.Origin.TheVariants.{Value, Column, Time}
 use Rattle.selection.specs.declared.Scope.{Scope}
 use Rattle.selection.specs.Scopes.{scope_columns, scope_row, paired, entry_at, profile_in}
 use Rattle.time_masks.specs.Times.{column_end}
-use Rattle.selection.specs.Evaluating.{relate, left_time, time_at, clock_at, side_value, parted, bare, Stands, wide, narrow, test_at, passing}
+use Rattle.selection.specs.Evaluating.{relate, left_time, time_at, clock_at, side_value, bare, Near, Stands, wide, narrow, test_at, passing}
 use Rattle.selection.proofs.Comparing.{le_not, Turned}
 
 -- ---- sides
@@ -37,31 +38,36 @@ use Rattle.selection.proofs.Comparing.{le_not, Turned}
 pub plain_lent : (vs : List ℤ) (p n : ℕ) → n ≤ max_rows → p < column_end → values_size ≤ length vs → strip_lent (length vs) p 6 n ≡ true
 plain_lent vs p n h k l = lent_true vs p 6 n h (omega arith) (omega arith) (λ m. omega arith)
 
+pub near_column : {x : Origin} {at : ℕ} → x ≡ Column at → Near x → at < column_end
+near_column e h = rw e at h
+
 -- numbers that are a side's in each row
 pub record Valued (f : ℕ → ℤ) (x : Origin) (sc : Scope) (ts : List ℕ) (vs : List ℤ) : Type 0 where
   pub each : (i : ℕ) → f i ≡ side_value x sc ts vs i
 
 module _ (sc : Scope) (ts : List ℕ) (vs : List ℤ) where
-  pub valued_column : (x : Origin) → x.kind ≡ 1 → Valued (strip vs x.at 6) x sc ts vs
+  pub valued_column : {x : Origin} (at : ℕ) → x ≡ Column at → Valued (strip vs at 6) x sc ts vs
   unfolding strip side_value
-  valued_column x e = record { each = λ i. rw e }
+  valued_column at e = rw e (record { each = λ i. refl })
 
-  pub valued_fixed : (x : Origin) {v : ℤ} → v ≡ x.value → (x.kind ≡ 1 → ⊥) → (x.kind ≡ 2 → ⊥) → Valued (λ i. v) x sc ts vs
+  pub valued_fixed : {x : Origin} {u v : ℤ} → x ≡ Value v → u ≡ v → Valued (λ i. u) x sc ts vs
   unfolding side_value
-  valued_fixed x e n m = record { each = λ i. rw (ne_eqb x.kind 1 n, ne_eqb x.kind 2 m) e }
+  valued_fixed e d = rw e (record { each = λ i. d })
 
-  pub valued_time : (x : Origin) → x.kind ≡ 2 → Valued (clock_at sc ts) x sc ts vs
+  pub valued_time : {x : Origin} → x ≡ Time → Valued (clock_at sc ts) x sc ts vs
   unfolding side_value clock_at
-  valued_time x e = record { each = λ i. rw e }
+  valued_time e = rw e (record { each = λ i. refl })
 
-  -- by their parts
-  pub valued_bare : (x : Origin) → x.kind ≡ 2 → Valued (clock_at (bare sc.stream sc.rows sc.fixed) ts) x sc ts vs
+  -- in the scope without its columns
+  pub valued_bare : {x : Origin} → x ≡ Time → Valued (clock_at (bare sc.stream sc.rows sc.fixed) ts) x sc ts vs
   unfolding side_value clock_at time_at left_time paired
-  valued_bare x e = record { each = λ i. rw e }
+  valued_bare e = rw e (record { each = λ i. refl })
 
-  pub valued_parted : (x : Origin) {v : ℤ} → v ≡ x.value → Valued (side_value (parted x.kind x.at v) (bare sc.stream sc.rows sc.fixed) ts vs) x sc ts vs
+  pub valued_other : (x : Origin) → Valued (side_value x (bare sc.stream sc.rows sc.fixed) ts vs) x sc ts vs
   unfolding side_value time_at left_time paired
-  valued_parted x e = record { each = λ i. rw e }
+  valued_other (Value v) = record { each = λ i. refl }
+  valued_other (Column at) = record { each = λ i. refl }
+  valued_other Time = record { each = λ i. refl }
 
   module _ (l r : Origin) where
     -- the rows that are asked for
@@ -95,11 +101,11 @@ self le t = le-leb t t (omega arith)
 self gt t = le-ltb t t (omega arith)
 self ge t = le-leb t t (omega arith)
 
-pub times_self : (sc : Scope) (ts : List ℕ) (vs : List ℤ) (head : ℕ) (r : Origin) {x : Rows} → r.kind ≡ 2 → x ≡ rows_of (relate head (λ i. pos 0) (λ i. pos 0)) 0 sc.rows
+pub times_self : (sc : Scope) (ts : List ℕ) (vs : List ℤ) (head : ℕ) (r : Origin) {x : Rows} → r ≡ Time → x ≡ rows_of (relate head (λ i. pos 0) (λ i. pos 0)) 0 sc.rows
     → x ≡ rows_of (relate head (clock_at sc ts) (side_value r sc ts vs)) 0 sc.rows
 unfolding compared_at clock_at
 times_self sc ts vs head r k e =
-    times_valued sc ts vs head r (valued_time sc ts vs r k)
+    times_valued sc ts vs head r (valued_time sc ts vs k)
     (e ∙ rows_alike (relate head (λ i. pos 0) (λ i. pos 0)) (relate head (clock_at sc ts) (clock_at sc ts)) 0 sc.rows (λ i a b. sym (self (numbered_op head) (time_at sc ts i))))
 
 pub left_some : (sc : Scope) (ts : List ℕ) → sc.fixed < 512 → get_or ts sc.fixed 0 ≡ left_time sc ts

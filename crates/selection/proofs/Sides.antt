@@ -1,19 +1,22 @@
 -- What stands for a side of a comparison: a column of either row, the time, a number or a profile entry.
 use mathlib.Core.Path.{◌≡◌, refl, sym, ap, ◌∙◌}
-use mathlib.Core.List.{List, ◌++◌, map}
+use mathlib.Core.List.{List, [], ◌++◌, map}
 use mathlib.Core.Bool.{Bool, true, false, ◌&&◌, cond}
 use Prim.Native.Nat.{ℕ, zero, suc, ◌+◌, ◌*◌, ◌-◌, ◌/◌, ◌%◌, ◌<◌, ◌≤◌, min, max}
 use native.Mathlib.Omega.{arith}
 use lib.IntN.{ℤ, pos, negsuc, ◌-ℤ◌}
 use lib.Dec.{ltb, eqb, ltb→lt, eqb→eq}
-use lib.ListN.{length, get_or}
+use lib.ListN.{length, get_or, drop, drop_of_length-le}
+use lib.Seq.{drop-cons}
+use native.Mathlib.Numerals.{add-one}
+use Rattle.std.specs.Simd.{first_chunks}
+use Rattle.nodes.proofs.Profiles.{entry_of, profile_pairs}
 use mir.Syntax.{w32}
 use mir.Val.{of_z, to_z, Fits, SFits}
 use mir.ValLaws.{to_z-of_z, to_z_pos}
 use borrow.Author.Tests.{eq-eqb, ne_eqb, lt-ltb, le-ltb, le-leb, lt-leb}
 use Rattle.lists.specs.Lists.{count_from, same_list}
 use Rattle.lists.proofs.Laws.{T_true, true_T, same_list_refl, parts}
-use Rattle.lists.proofs.Counting.{count_left, count_done}
 use Rattle.syntax.specs.Grammar.{Entry}
 use Rattle.syntax.specs.Limits.{max_streams, max_columns, max_rows, top}
 use Rattle.model.specs.Queries.{Col, col, figure, same_col, Term, column, Row}
@@ -25,8 +28,9 @@ use Rattle.ledger.specs.Records.{row_in, places_size, values_size}
 use Rattle.nodes.specs.Nodes.{unbiased, coded_term}
 use Rattle.cells.proofs.Shown.{value_left, value_own}
 use Rattle.selection.specs.declared.Origin.{Origin}
+use Rattle.selection.specs.declared.Origin.TheVariants.{Value, Column, Time}
 use Rattle.selection.specs.declared.Scope.{Scope}
-use Rattle.selection.specs.Scopes.{columns_in, row_at, paired, scope_columns, scope_row, entry_at, profile_in}
+use Rattle.selection.specs.Scopes.{columns_in, row_at, paired, scope_columns, scope_row, profile_in}
 use Rattle.selection.specs.Evaluating.{left_time, time_at, side_value, Stands, left_named}
 
 -- ---- the value of what is no column among columns numbered from a on, with others after them
@@ -115,25 +119,25 @@ module _ (sc : Scope) (vs : List ℤ) (s c : ℕ) where
     pub left_inside : b ≡ true → c < max_columns → values_size ≤ length vs → sc.fixed * max_columns + c < length vs
     left_inside t k l = let h = left_place (sym e ∙ t) in omega arith
 
-    pub column_left : b ≡ true → {v : ℤ} → v ≡ get_or vs (sc.fixed * max_columns + c) (pos 0) → Stands sc vs place (record { kind = 0; at = 0; value = v })
+    pub column_left : b ≡ true → {v : ℤ} → v ≡ get_or vs (sc.fixed * max_columns + c) (pos 0) → Stands sc vs place (Value v)
     unfolding side_value
-    column_left t f = record { near = omega arith; value = λ ts i. f ∙ sym (found_left (sym e ∙ t) ts i) }
+    column_left t f = record { near = tt; value = λ ts i. f ∙ sym (found_left (sym e ∙ t) ts i) }
 
-    pub column_other : b ≡ false → (s ≡ sc.stream → ⊥) → Stands sc vs place (record { kind = 0; at = 0; value = pos 0 })
+    pub column_other : b ≡ false → (s ≡ sc.stream → ⊥) → Stands sc vs place (Value (pos 0))
     unfolding side_value same_col
     column_other t n =
-        record { near = omega arith; value = λ ts i. sym (found_right (sym e ∙ t) ts i ∙ value_none sc.stream (cells (sc.stream * max_rows + i)) (col s c) sc.width 0 (λ j k l. rw (ne_eqb s sc.stream n))) }
+        record { near = tt; value = λ ts i. sym (found_right (sym e ∙ t) ts i ∙ value_none sc.stream (cells (sc.stream * max_rows + i)) (col s c) sc.width 0 (λ j k l. rw (ne_eqb s sc.stream n))) }
 
-    pub column_past : b ≡ false → sc.width ≤ c → Stands sc vs place (record { kind = 0; at = 0; value = pos 0 })
+    pub column_past : b ≡ false → sc.width ≤ c → Stands sc vs place (Value (pos 0))
     unfolding side_value same_col
     column_past t n =
-        record { near = omega arith; value = λ ts i. sym (found_right (sym e ∙ t) ts i ∙ value_none sc.stream (cells (sc.stream * max_rows + i)) (col s c) sc.width 0 (λ j k l. rw (ne_eqb c j (λ z. omega arith)) (and_none (eqb s sc.stream)))) }
+        record { near = tt; value = λ ts i. sym (found_right (sym e ∙ t) ts i ∙ value_none sc.stream (cells (sc.stream * max_rows + i)) (col s c) sc.width 0 (λ j k l. rw (ne_eqb c j (λ z. omega arith)) (and_none (eqb s sc.stream)))) }
       where
         and_none : (d : Bool) → (d && false) ≡ false
         and_none true = refl
         and_none false = refl
 
-    pub column_here : b ≡ false → s ≡ sc.stream → c < sc.width → c < max_columns → sc.stream < max_streams → {v : ℤ} → Stands sc vs place (record { kind = 1; at = sc.stream * max_rows * max_columns + c; value = v })
+    pub column_here : b ≡ false → s ≡ sc.stream → c < sc.width → c < max_columns → sc.stream < max_streams → Stands sc vs place (Column (sc.stream * max_rows * max_columns + c))
     unfolding side_value
     column_here t f l m n =
         record {
@@ -204,28 +208,27 @@ pub ruleset number_ends = (negative_fits, number_negative, number_positive)
 
 -- ---- profile entries
 
-module _ (ps : List ℕ) (n v : ℕ) where
-  -- the value by the entries from number i on
-  abbrev pub value_from : ℕ → ℤ
-  value_from i = entry_value (map (entry_at ps) (count_from i (n - i))) (name_of v)
+-- the value of a name among pairs of numbers
+abbrev pub value_of : ℕ → List (List ℕ) → ℤ
+value_of v es = entry_value (map entry_of es) (name_of v)
 
-  pub entry_start : n ≡ length ps / 2 → entry_value (profile_in ps) (name_of v) ≡ value_from 0
-  unfolding profile_in
-  entry_start h = let e : length ps / 2 ≡ n - 0 = omega arith in ap (λ (k : ℕ). entry_value (map (entry_at ps) (count_from 0 k)) (name_of v)) e
+pub entry_start : (ps : List ℕ) (v : ℕ) {es : List (List ℕ)} → es ≡ first_chunks 2 (length ps / 2) ps → entry_value (profile_in ps) (name_of v) ≡ value_of v es
+entry_start ps v e = ap (λ p. entry_value p (name_of v)) (profile_pairs ps) ∙ ap (value_of v) (sym e)
 
-  step : (i : ℕ) → i < n → value_from i ≡ cond (same_list (name_of (get_or ps (i * 2) 0)) (name_of v)) (unbiased (get_or ps (i * 2 + 1) 0 % 4294967296)) (value_from (i + 1))
-  unfolding entry_value entry_at
-  step i h = ap (λ l. entry_value (map (entry_at ps) l) (name_of v)) (count_left i n h)
-
-  pub entry_found : (i : ℕ) {x : ℤ} {z : ℤ} → z ≡ value_from i → i < n → get_or ps (i * 2) 0 ≡ v → x ≡ unbiased (get_or ps (i * 2 + 1) 0 % 4294967296) → x ≡ z
-  entry_found i e h f g = g ∙ sym (e ∙ step i h ∙ (rw (f, T_true (same_list (name_of v) (name_of v)) (same_list_refl (name_of v)))))
-
-  pub entry_on : (i : ℕ) {z : ℤ} → z ≡ value_from i → i < n → get_or ps (i * 2) 0 < 18446744073709551616 → v < 18446744073709551616 → (get_or ps (i * 2) 0 ≡ v → ⊥) → z ≡ value_from (i + 1)
-  entry_on i e h f g k = e ∙ step i h ∙ (rw (name_one (get_or ps (i * 2) 0) v f g, ne_eqb (get_or ps (i * 2) 0) v k))
-
-  pub entry_none : (i : ℕ) {z : ℤ} → z ≡ value_from i → n ≤ i → pos 0 ≡ z
+module _ (es : List (List ℕ)) (v i : ℕ) {z : ℤ} (inv : z ≡ value_of v (drop i es)) where
+  here : i < length es → z ≡ cond (same_list (name_of (get_or (get_or es i []) 0 0)) (name_of v)) (unbiased (get_or (get_or es i []) 1 0 % 4294967296)) (value_of v (drop (suc i) es))
   unfolding entry_value
-  entry_none i e h = sym (e ∙ ap (λ l. entry_value (map (entry_at ps) l) (name_of v)) (count_done i n h))
+  here h = inv ∙ ap (value_of v) (drop-cons es i [] h)
+
+  pub entry_found : {x : ℤ} → i < length es → get_or (get_or es i []) 0 0 ≡ v → x ≡ unbiased (get_or (get_or es i []) 1 0 % 4294967296) → x ≡ z
+  entry_found h f g = g ∙ sym (here h ∙ (rw (f, T_true (same_list (name_of v) (name_of v)) (same_list_refl (name_of v)))))
+
+  pub entry_on : i < length es → get_or (get_or es i []) 0 0 < 18446744073709551616 → v < 18446744073709551616 → (get_or (get_or es i []) 0 0 ≡ v → ⊥) → z ≡ value_of v (drop (i + 1) es)
+  entry_on h f g k = here h ∙ rw (name_one (get_or (get_or es i []) 0 0) v f g, ne_eqb (get_or (get_or es i []) 0 0) v k, add-one i)
+
+  pub entry_none : length es ≤ i → pos 0 ≡ z
+  unfolding entry_value
+  entry_none h = sym (inv ∙ ap (value_of v) (drop_of_length-le es {i = i} h))
 
 pub ruleset entry_ends = (entry_start, entry_found, entry_on, entry_none)
 
@@ -239,23 +242,23 @@ module _ (sc : Scope) (vs : List ℤ) (p : List Entry) (code v : ℕ) where
   unfolding coded_term fill_term
   side_column_term h s = rw (lt-ltb code 24 h) s
 
-  pub side_time_term : code ≡ 24 → Stands sc vs filled_term (record { kind = 2; at = 0; value = pos 0 })
+  pub side_time_term : code ≡ 24 → Stands sc vs filled_term Time
   unfolding coded_term fill_term term_value side_value
-  side_time_term e = rw e (record { near = omega arith; value = λ ts i. ap pos (sym (row_time sc vs ts i)) })
+  side_time_term e = rw e (record { near = tt; value = λ ts i. ap pos (sym (row_time sc vs ts i)) })
 
-  pub side_figure_term : code ≡ 25 → Stands sc vs filled_term (record { kind = 0; at = 0; value = pos 0 })
+  pub side_figure_term : code ≡ 25 → Stands sc vs filled_term (Value (pos 0))
   unfolding coded_term fill_term term_value side_value
-  side_figure_term e = rw e (record { near = omega arith; value = λ ts i. sym (row_figure sc vs ts i) })
+  side_figure_term e = rw e (record { near = tt; value = λ ts i. sym (row_figure sc vs ts i) })
 
-  fixed : {r : Origin} (z : ℤ) → ((ds : List Col) (x : Row) → term_value ds x filled_term ≡ z) → r.kind ≡ 0 → r.at ≡ 0 → r.value ≡ z → Stands sc vs filled_term r
+  fixed : (z : ℤ) → ((ds : List Col) (x : Row) → term_value ds x filled_term ≡ z) → {y : ℤ} → y ≡ z → Stands sc vs filled_term (Value y)
   unfolding side_value
-  fixed {r} z f k c e = record { near = omega arith; value = λ ts i. rw k (e ∙ sym (f (scope_columns sc) (scope_row sc ts vs i))) }
+  fixed z f e = record { near = tt; value = λ ts i. e ∙ sym (f (scope_columns sc) (scope_row sc ts vs i)) }
 
-  pub side_number_term : {r : Origin} → code ≡ 26 → r.kind ≡ 0 → r.at ≡ 0 → r.value ≡ unbiased v → Stands sc vs filled_term r
+  pub side_number_term : code ≡ 26 → {y : ℤ} → y ≡ unbiased v → Stands sc vs filled_term (Value y)
   unfolding coded_term fill_term term_value
   side_number_term e = fixed (unbiased v) (λ ds x. rw e)
 
-  pub side_entry_term : {r : Origin} → 24 ≤ code → (code ≡ 24 → ⊥) → (code ≡ 25 → ⊥) → (code ≡ 26 → ⊥) → r.kind ≡ 0 → r.at ≡ 0 → r.value ≡ entry_value p (name_of v) → Stands sc vs filled_term r
+  pub side_entry_term : 24 ≤ code → (code ≡ 24 → ⊥) → (code ≡ 25 → ⊥) → (code ≡ 26 → ⊥) → {y : ℤ} → y ≡ entry_value p (name_of v) → Stands sc vs filled_term (Value y)
   unfolding coded_term fill_term term_value
   side_entry_term a b c d = fixed (entry_value p (name_of v)) (λ ds x. rw (le-ltb code 24 a, ne_eqb code 24 b, ne_eqb code 25 c, ne_eqb code 26 d))
 

@@ -17,6 +17,7 @@ use Rattle.rows.specs.Masks.{rows_of, no_rows, first_rows, both_of, either_of}
 use Rattle.column_masks.specs.Columns.{compared_at}
 use Rattle.time_masks.specs.Times.{column_end}
 use Rattle.selection.specs.declared.Origin.{Origin}
+use Rattle.selection.specs.declared.Origin.TheVariants.{Value, Column, Time}
 use Rattle.selection.specs.declared.Scope.{Scope}
 use Rattle.selection.specs.Scopes.{paired, scope_columns, scope_row, profile_in, cond_at}
 
@@ -40,20 +41,25 @@ time_at sc ts i = min (max (left_time sc ts) (get_or ts (sc.stream * max_rows + 
 unfoldable pub clock_at : Scope → List ℕ → ℕ → ℤ
 clock_at sc ts i = pos (time_at sc ts i)
 
--- 1 is a column that begins at a place of the values, 2 the time, any other the side's value
+-- the value of a side in a row
 unfoldable pub side_value : Origin → Scope → List ℕ → List ℤ → ℕ → ℤ
-side_value x sc ts vs i = cond (eqb x.kind 1) (get_or vs (x.at + i * max_columns) (pos 0)) (cond (eqb x.kind 2) (pos (time_at sc ts i)) x.value)
+side_value (Value v) sc ts vs i = v
+side_value (Column at) sc ts vs i = get_or vs (at + i * max_columns) (pos 0)
+side_value Time sc ts vs i = pos (time_at sc ts i)
 
--- a side of its parts, and the rows of a stream beside a place, whatever their columns
-abbrev pub parted : ℕ → ℕ → ℤ → Origin
-parted kind at v = record { kind = kind; at = at; value = v }
+-- a column begins among the first places
+abbrev pub Near : Origin → Type 0
+Near (Value v) = Unit {0}
+Near (Column at) = at < column_end
+Near Time = Unit {0}
 
+-- the rows of a stream beside a place, whatever their columns
 abbrev pub bare : ℕ → ℕ → ℕ → Scope
 bare stream n fixed = record { stream = stream; width = 0; rows = n; fixed = fixed; other = 0; breadth = 0 }
 
 -- a side stands for a term: it has its value in each row
 pub record Stands (sc : Scope) (vs : List ℤ) (t : Term) (x : Origin) : Type 0 where
-  pub near : x.at < column_end
+  pub near : Near x
   pub value : (ts : List ℕ) (i : ℕ) → side_value x sc ts vs i ≡ term_value (scope_columns sc) (scope_row sc ts vs i) t
 
 -- a column by its stream and number is one of the left row

@@ -1,8 +1,8 @@
 // The rows that conditions select, for all rows of a stream at once.
 #![tactic(auto)]
 
-ghost use Rattle.std.specs.Prelude.{◌≡◌, map, true, false, ◌≤◌, ◌<◌, ◌-◌, ◌/◌, ◌%◌, T, ℤ, length};
-ghost use Rattle.syntax.specs.Grammar.{test};
+ghost use Rattle.std.specs.Prelude.{◌≡◌, ℕ, map, true, false, ◌≤◌, ◌<◌, ◌-◌, ◌/◌, ◌%◌, T, ℤ, length};
+ghost use Rattle.syntax.specs.Grammar.{test, eq, lt};
 ghost use Rattle.syntax.specs.Limits.{max_streams, max_columns, max_rows};
 ghost use Rattle.model.specs.Queries.{column, col};
 ghost use Rattle.model.specs.Meaning.{compares};
@@ -11,10 +11,10 @@ ghost use Rattle.text.specs.Words.{name_of};
 ghost use Rattle.ledger.specs.Records.{places_size, values_size};
 ghost use Rattle.nodes.specs.Nodes.{unbiased, coded_term, numbered_op, node_at, node_compare, link, conditions_of};
 ghost use Rattle.rows.specs.Masks.{rows_of};
-ghost use Rattle.column_masks.specs.Columns.{strip, strip_lent};
+ghost use Rattle.column_masks.specs.Columns.{strip, strip_lent, compared_at};
 ghost use Rattle.selection.specs.Scopes.{times_fit, scope_fits, profile_in, cond_at, selected, selected_all, timely};
 ghost use Rattle.time_masks.specs.Times.{column_end, clocked};
-ghost use Rattle.selection.specs.Evaluating.{relate, left_time, side_value, Stands, Lent, left_named, wide, narrow, Taken, Leads, passing, list_passing, list_at, start_of, joined_of, past, low_of, high_of, in_limits, time_at, clock_at, bare, parted, lists, Carried};
+ghost use Rattle.selection.specs.Evaluating.{relate, left_time, side_value, Stands, Lent, left_named, wide, narrow, Taken, Leads, passing, list_passing, list_at, start_of, joined_of, past, low_of, high_of, in_limits, time_at, clock_at, bare, Near, lists, Carried};
 
 use cells::Datum;
 use grant::Grant;
@@ -51,12 +51,12 @@ impl Scope {
     const PLACES: u32 = Ledger::PLACES as u32;
 }
 
-// Where a side of a comparison takes its values from: a column that begins at a place of the values, the time, or a value.
+// Where a side of a comparison takes its values from: one value, a column that begins at a place of the values, or the time.
 #[derive(Clone, Copy)]
-struct Origin {
-    kind: u32,
-    at: u32,
-    value: i32,
+enum Origin {
+    Value(i32),
+    Column(u32),
+    Time,
 }
 
 // Rows so far, and the place of the next condition.
@@ -66,38 +66,44 @@ struct Reached {
     at: u32,
 }
 
-impl Origin {
-    const VALUE: u32 = 0;
-
-    const COLUMN: u32 = 1;
-
-    const TIME: u32 = 2;
-}
-
 // ---- two numbers for each row
 
-// The rows where two columns, which begin at places of the values, compare so; 1 to 5 are `=` `/=` `<` `<=` `>`, any other is `>=`.
+// The rows where two numbers compare so, by those where they are the same, where the first is below and where it is above;
+// 1 to 5 are `=` `/=` `<` `<=` `>`, any other is `>=`.
+fn by_head<S: Fn() -> Rows, B: Fn() -> Rows, A: Fn() -> Rows>(
+    head: u32,
+    n: u32,
+    same: S,
+    below: B,
+    above: A,
+) -> Rows
+    requires { S.IsAlwaysCallable same × B.IsAlwaysCallable below × A.IsAlwaysCallable above }
+    ensures { (f g : ℕ → ℤ) → ((r : _) → S.post same r → r ≡ rows_of (compared_at eq f g) 0 n) → ((r : _) → B.post below r → r ≡ rows_of (compared_at lt f g) 0 n)
+        → ((r : _) → A.post above r → r ≡ rows_of (compared_at lt g f) 0 n) → result ≡ rows_of (relate head f g) 0 n }
+{
+    match head {
+        1 => same(),
+        2 => Rows::first(n).flip(same()),
+        3 => below(),
+        4 => Rows::first(n).flip(above()),
+        5 => above(),
+        _ => Rows::first(n).flip(below()),
+    }
+}
+
+// The rows where two columns, which begin at places of the values, compare so.
 fn related(head: u32, values: &[i32], p: u32, q: u32, n: u32) -> Rows
     requires { (strip_lent (length values.now) p max_columns n ≡ true) × (strip_lent (length values.now) q max_columns n ≡ true) }
     ensures { result ≡ rows_of (relate head (strip values.now p max_columns) (strip values.now q max_columns)) 0 n }
 {
     let s = Scope::COLUMNS;
-    if head == 1 {
-        return column_masks::same_rows(values, p, s, values, q, s, n);
-    }
-    if head == 2 {
-        return Rows::first(n).flip(column_masks::same_rows(values, p, s, values, q, s, n));
-    }
-    if head == 3 {
-        return column_masks::less_rows(values, p, s, values, q, s, n);
-    }
-    if head == 4 {
-        return Rows::first(n).flip(column_masks::less_rows(values, q, s, values, p, s, n));
-    }
-    if head == 5 {
-        return column_masks::less_rows(values, q, s, values, p, s, n);
-    }
-    Rows::first(n).flip(column_masks::less_rows(values, p, s, values, q, s, n))
+    by_head(
+        head,
+        n,
+        || column_masks::same_rows(values, p, s, values, q, s, n),
+        || column_masks::less_rows(values, p, s, values, q, s, n),
+        || column_masks::less_rows(values, q, s, values, p, s, n),
+    )
 }
 
 // The rows where a column, which begins at a place of the values, compares so with a value.
@@ -105,22 +111,13 @@ fn by_value(head: u32, values: &[i32], p: u32, v: Datum, n: u32) -> Rows
     requires { strip_lent (length values.now) p max_columns n ≡ true }
     ensures { result ≡ rows_of (relate head (strip values.now p max_columns) (λ i. v.v)) 0 n }
 {
-    if head == 1 {
-        return column_masks::matched(Datum::SAME, values, p, v, n);
-    }
-    if head == 2 {
-        return Rows::first(n).flip(column_masks::matched(Datum::SAME, values, p, v, n));
-    }
-    if head == 3 {
-        return column_masks::matched(Datum::BELOW, values, p, v, n);
-    }
-    if head == 4 {
-        return Rows::first(n).flip(column_masks::matched(Datum::ABOVE, values, p, v, n));
-    }
-    if head == 5 {
-        return column_masks::matched(Datum::ABOVE, values, p, v, n);
-    }
-    Rows::first(n).flip(column_masks::matched(Datum::BELOW, values, p, v, n))
+    by_head(
+        head,
+        n,
+        || column_masks::matched(Datum::SAME, values, p, v, n),
+        || column_masks::matched(Datum::BELOW, values, p, v, n),
+        || column_masks::matched(Datum::ABOVE, values, p, v, n),
+    )
 }
 
 // The head of a comparison whose sides are turned.
@@ -196,25 +193,16 @@ fn by_clock(head: u32, low: Datum, times: &[u32], from: u32, values: &[i32], p: 
     requires { (from ≤ 384) × (places_size ≤ length times.now) × (p < column_end) × (values_size ≤ length values.now) }
     ensures { result ≡ rows_of (relate head (clocked low.v times.now from) (strip values.now p max_columns)) 0 n }
 {
-    if head == 5 {
-        return time_masks::above_times(low, times, from, values, p, n);
-    }
-    if head == 3 {
-        return time_masks::below_times(low, times, from, values, p, n);
-    }
-    if head == 1 {
-        return time_masks::same_times(low, times, from, values, p, n);
-    }
-    if head == 2 {
-        return Rows::first(n).flip(time_masks::same_times(low, times, from, values, p, n));
-    }
-    if head == 4 {
-        return Rows::first(n).flip(time_masks::above_times(low, times, from, values, p, n));
-    }
-    Rows::first(n).flip(time_masks::below_times(low, times, from, values, p, n))
+    by_head(
+        head,
+        n,
+        || time_masks::same_times(low, times, from, values, p, n),
+        || time_masks::below_times(low, times, from, values, p, n),
+        || time_masks::above_times(low, times, from, values, p, n),
+    )
 }
 
-// The rows whose time compares so with a value.
+// The rows whose time compares so with a value. Limits include their times, so that here `<=` and `>=` are at hand and not `<` and `>`.
 fn by_time(head: u32, v: Datum, sc: Scope, times: &[u32]) -> Rows
     requires { (sc.stream < max_streams) × (sc.rows ≤ max_rows) × (places_size ≤ length times.now) }
     ensures { result ≡ rows_of (relate head (clock_at sc times.now) (λ i. v.v)) 0 sc.rows }
@@ -242,20 +230,18 @@ fn by_time(head: u32, v: Datum, sc: Scope, times: &[u32]) -> Rows
 }
 
 // The rows whose time compares so with a side; with itself it does as any value.
-// The side and the scope are handed over in parts, which no other comparison then leaves in memory.
+// The scope is handed over in parts, which no other comparison then leaves in memory.
 fn by_times(
     head: u32,
-    kind: u32,
-    at: u32,
-    v: Datum,
+    r: Origin,
     stream: u32,
     n: u32,
     fixed: u32,
     times: &[u32],
     values: &[i32],
 ) -> Rows
-    requires { (stream < max_streams) × (n ≤ max_rows) × (places_size ≤ length times.now) × (values_size ≤ length values.now) × (at < column_end) }
-    ensures { result ≡ rows_of (relate head (clock_at (bare stream n fixed) times.now) (side_value (parted kind at v.v) (bare stream n fixed) times.now values.now)) 0 n }
+    requires { (stream < max_streams) × (n ≤ max_rows) × (places_size ≤ length times.now) × (values_size ≤ length values.now) × Near r }
+    ensures { result ≡ rows_of (relate head (clock_at (bare stream n fixed) times.now) (side_value r (bare stream n fixed) times.now values.now)) 0 n }
 {
     let sc = Scope {
         stream: stream,
@@ -265,51 +251,40 @@ fn by_times(
         other: 0,
         breadth: 0,
     };
-    if kind == Origin::COLUMN {
-        let low = time_masks::clock(Datum { v: 0 }, left_time(sc, times));
-        return by_clock(head, low, times, stream * Scope::ROWS, values, at, n);
+    match r {
+        Origin::Value(v) => by_time(head, Datum { v: v }, sc, times),
+        Origin::Column(at) => {
+            let low = time_masks::clock(Datum { v: 0 }, left_time(sc, times));
+            by_clock(head, low, times, stream * Scope::ROWS, values, at, n)
+        }
+        Origin::Time => settled(head, Datum { v: 0 }, Datum { v: 0 }, n),
     }
-    if kind == Origin::TIME {
-        return settled(head, Datum { v: 0 }, Datum { v: 0 }, n);
-    }
-    by_time(head, v, sc, times)
 }
 
 // The rows where two sides compare so.
 fn compared(head: u32, l: Origin, r: Origin, sc: Scope, times: &[u32], values: &[i32]) -> Rows
-    requires { Lent sc times.now values.now × (l.at < column_end) × (r.at < column_end) }
+    requires { Lent sc times.now values.now × Near l × Near r }
     ensures { result ≡ rows_of (relate head (side_value l sc times.now values.now) (side_value r sc times.now values.now)) 0 sc.rows }
 {
-    if l.kind == Origin::TIME {
-        let v = Datum { v: r.value };
-        return by_times(
-            head, r.kind, r.at, v, sc.stream, sc.rows, sc.fixed, times, values,
-        );
-    }
-    if r.kind == Origin::TIME {
-        let v = Datum { v: l.value };
-        return by_times(
+    match (l, r) {
+        (Origin::Time, _) => by_times(head, r, sc.stream, sc.rows, sc.fixed, times, values),
+        (_, Origin::Time) => by_times(turned(head), l, sc.stream, sc.rows, sc.fixed, times, values),
+        (Origin::Column(p), Origin::Column(q)) => related(head, values, p, q, sc.rows),
+        (Origin::Column(p), Origin::Value(v)) => by_value(head, values, p, Datum { v: v }, sc.rows),
+        (Origin::Value(v), Origin::Column(p)) => by_value(
             turned(head),
-            l.kind,
-            l.at,
-            v,
-            sc.stream,
-            sc.rows,
-            sc.fixed,
-            times,
             values,
-        );
+            p,
+            Datum { v: v },
+            sc.rows,
+        ),
+        (Origin::Value(v), Origin::Value(w)) => settled(
+            head,
+            Datum { v: v },
+            Datum { v: w },
+            sc.rows,
+        ),
     }
-    if l.kind == Origin::COLUMN {
-        if r.kind == Origin::COLUMN {
-            return related(head, values, l.at, r.at, sc.rows);
-        }
-        return by_value(head, values, l.at, Datum { v: r.value }, sc.rows);
-    }
-    if r.kind == Origin::COLUMN {
-        return by_value(turned(head), values, r.at, Datum { v: l.value }, sc.rows);
-    }
-    settled(head, Datum { v: l.value }, Datum { v: r.value }, sc.rows)
 }
 
 // ---- the sides of a comparison
@@ -336,69 +311,39 @@ fn column_side(code: u32, sc: Scope, values: &[i32]) -> Origin
     let c = code % Scope::COLUMNS;
     if left_names(sc, s, c) {
         let x = cells::value(values, sc.fixed * Scope::COLUMNS + c);
-        return Origin {
-            kind: Origin::VALUE,
-            at: 0,
-            value: x.v,
-        };
+        return Origin::Value(x.v);
     }
     if s != sc.stream {
-        return Origin {
-            kind: Origin::VALUE,
-            at: 0,
-            value: 0,
-        };
+        return Origin::Value(0);
     }
     if sc.width <= c {
-        return Origin {
-            kind: Origin::VALUE,
-            at: 0,
-            value: 0,
-        };
+        return Origin::Value(0);
     }
-    Origin {
-        kind: Origin::COLUMN,
-        at: sc.stream * Scope::ROWS * Scope::COLUMNS + c,
-        value: 0,
-    }
+    Origin::Column(sc.stream * Scope::ROWS * Scope::COLUMNS + c)
 }
 
 // A number, of which the lowest is stored as 0.
-fn number_side(value: u64) -> Origin
+fn number_value(value: u64) -> i32
     requires { value < 4294967296 }
-    ensures { (result.kind ≡ 0) × (result.at ≡ 0) × (result.value ≡ unbiased value) }
+    ensures { result ≡ unbiased value }
 {
     if value < 2147483648 {
-        return Origin {
-            kind: Origin::VALUE,
-            at: 0,
-            value: -1 - ((2147483647 - value) as i32),
-        };
+        return -1 - ((2147483647 - value) as i32);
     }
-    Origin {
-        kind: Origin::VALUE,
-        at: 0,
-        value: (value - 2147483648) as i32,
-    }
+    (value - 2147483648) as i32
 }
 
 // The value of a profile entry, or 0 where there is none of that name.
-fn entry_side(value: u64, profile: &[u64]) -> Origin
-    ensures { (result.kind ≡ 0) × (result.at ≡ 0) × (result.value ≡ entry_value (profile_in profile.now) (name_of value)) }
+fn entry_value(value: u64, profile: &[u64]) -> i32
+    ensures { result ≡ entry_value (profile_in profile.now) (name_of value) }
 {
-    let n = profile.len() / 2;
-    let mut i: usize = 0;
-    while i < n {
-        if profile[i * 2] == value {
-            return number_side(profile[i * 2 + 1] % 4294967296);
+    let (entries, _) = profile.as_chunks::<2>();
+    for e in entries {
+        if e[0] == value {
+            return number_value(e[1] % 4294967296);
         }
-        i += 1;
     }
-    Origin {
-        kind: Origin::VALUE,
-        at: 0,
-        value: 0,
-    }
+    0
 }
 
 // What stands for a side by its code, and by the node's value where the code is that of a number or of a profile entry.
@@ -410,23 +355,15 @@ fn side_of(code: u32, value: u64, sc: Scope, profile: &[u64], values: &[i32]) ->
         return column_side(code, sc, values);
     }
     if code == Term::TIME {
-        return Origin {
-            kind: Origin::TIME,
-            at: 0,
-            value: 0,
-        };
+        return Origin::Time;
     }
     if code == Term::FIGURE {
-        return Origin {
-            kind: Origin::VALUE,
-            at: 0,
-            value: 0,
-        };
+        return Origin::Value(0);
     }
     if code == Term::NUMBER {
-        return number_side(value);
+        return Origin::Value(number_value(value));
     }
-    entry_side(value, profile)
+    Origin::Value(entry_value(value, profile))
 }
 
 // The number on a comparison's left is one of more than 32 bits: then a profile entry is on its right.
@@ -454,16 +391,6 @@ fn compare_node(n: Node, sc: Scope, profile: &[u64], times: &[u32], values: &[i3
 
 // ---- nodes
 
-// Some places before another, or the first.
-fn back(k: u32, d: u32) -> u32
-    ensures { result ≡ k - d }
-{
-    if k < d {
-        return 0;
-    }
-    k - d
-}
-
 // The node that ends at a place, whatever is lent.
 fn node_of(words: &[u32], k: u32) -> Node
     ensures { Taken words.now k result }
@@ -474,14 +401,14 @@ fn node_of(words: &[u32], k: u32) -> Node
     let w = places::word_at(words, k - 1);
     let right = w / 65536 % 256;
     if right == Term::NUMBER {
-        return nodes::unpacked(w, places::word_at(words, back(k, 2)) as u64);
+        return nodes::unpacked(w, places::word_at(words, k.saturating_sub(2)) as u64);
     }
     if right == Term::ENTRY {
         return nodes::unpacked(
             w,
             nodes::joined(
-                places::word_at(words, back(k, 3)),
-                places::word_at(words, back(k, 2)),
+                places::word_at(words, k.saturating_sub(3)),
+                places::word_at(words, k.saturating_sub(2)),
             ),
         );
     }
@@ -502,14 +429,8 @@ fn head_of(words: &[u32], k: u32) -> u32
 fn link_at(words: &[u32], k: u32) -> u32
     ensures { result ≡ link words.now k }
 {
-    if k == 0 {
-        return 0;
-    }
-    let b = places::word_at(words, k - 1) / 16777216;
-    if k - 1 < b {
-        return k - 1;
-    }
-    b
+    let last = k.saturating_sub(1);
+    (places::word_at(words, last) / 16777216).min(last)
 }
 
 // Where the first condition ends of those that end at place j and before it, down to a stop; 0 where there is none.

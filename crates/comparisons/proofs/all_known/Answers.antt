@@ -7,13 +7,10 @@ use Rattle.comparisons.proofs.Entries.{known_ends}
 use Rattle.comparisons.proofs.all_known.Goals as goal
 
 pub loop-k-init : goal.loop-k-init
-loop-k-init c = let a = c.args in ap (every (compare_known (profile_in a.profile.now))) (compared_lent a.words.now a.n ∙ ap (compared a.words.now 0) (sym c.least-k.ensures))
+loop-k-init c = let a = c.args in ap (every (compare_known (profile_in a.profile.now))) (compared_lent a.words.now a.n ∙ ap (compared a.words.now 0) (sym c.min-k.ensures))
 
 pub returns-then-not-node_known : goal.returns-then-not-node_known
 returns-then-not-node_known c = search known_ends
-
-pub returns-then-k-size : goal.returns-then-k-size
-returns-then-k-size c = search known_ends
 
 pub loop-k-smaller : goal.loop-k-smaller
 loop-k-smaller c = search known_ends

@@ -1,16 +1,20 @@
--- `has_entry`: no entry passed has the name.
+-- `has_entry`: what `any` gives of the profile's pairs.
+use mathlib.Core.Path.{◌∙◌}
+use native.Mathlib.Omega.{arith}
+use Prim.Native.Nat.{◌/◌}
 use borrow.Author.Rules.{rules}
-use Rattle.comparisons.proofs.Entries.{entry_ends}
+use borrow.Author.Tests.{tests}
+use lib.Dec.{eqb}
+use lib.ListN.{length, get_or}
+use Rattle.std.specs.Simd.{first_chunks}
+use Rattle.std.proofs.lemmas.Iterator.{YieldsList-from_slice}
+use Rattle.std.proofs.lemmas.Iterator.Search.{any_from_yields_List}
+use Rattle.comparisons.proofs.Entries.{entry_told}
 use Rattle.comparisons.proofs.has_entry.Goals as goal
 
-pub loop-i-init : goal.loop-i-init
-loop-i-init c = (search rules, search rules, search entry_ends)
-
-pub returns-then-number_at-name : goal.returns-then-number_at-name
-returns-then-number_at-name c = search entry_ends
-
-pub loop-i-preserved : goal.loop-i-preserved
-loop-i-preserved c = (search rules, search rules, search entry_ends)
-
 pub returns : goal.returns
-returns c = search entry_ends
+returns c =
+    let ps = c.args.profile.now in
+    let name = c.args.name in
+    any_from_yields_List {all = first_chunks 2 (length ps / 2) ps} (λ e. eqb (get_or e 0 0) name) _ _ _ c.any.ensures.ran (YieldsList-from_slice _ cc) (λ x b q k. search (rules, tests))
+    ∙ entry_told ps name (omega arith) (λ i. omega (arith, c.type_inv.profile i))

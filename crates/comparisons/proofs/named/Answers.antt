@@ -5,9 +5,6 @@ use Rattle.comparisons.proofs.named.Goals as goal
 pub loop-at-init : goal.loop-at-init
 loop-at-init c = search named_ends
 
-pub returns-then-at-size : goal.returns-then-at-size
-returns-then-at-size c = search named_ends
-
 pub loop-at-smaller : goal.loop-at-smaller
 loop-at-smaller c = search named_ends
 

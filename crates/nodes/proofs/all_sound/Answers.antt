@@ -8,9 +8,6 @@ loop-k-init c = refl
 pub returns-then-not-node_sound : goal.returns-then-not-node_sound
 returns-then-not-node_sound c = search all_ends
 
-pub returns-then-k-size : goal.returns-then-k-size
-returns-then-k-size c = search all_ends
-
 pub loop-k-smaller : goal.loop-k-smaller
 loop-k-smaller c = search all_ends
 

@@ -8,8 +8,8 @@ returns-then-is_rows c = search order_ends
 pub returns-then-f-eq-KEEP : goal.returns-then-f-eq-KEEP
 returns-then-f-eq-KEEP c = search order_ends
 
-pub loop-i-preserved : goal.loop-i-preserved
-loop-i-preserved c = search order_ends
+pub loop-f-preserved : goal.loop-f-preserved
+loop-f-preserved c = search order_ends
 
 pub returns : goal.returns
 returns c = search order_ends

@@ -1,16 +1,8 @@
--- `role_held`: no role passed is the one.
-use borrow.Author.Rules.{rules}
-use Rattle.routes.proofs.Opened.{role_ends}
+-- `role_held`: what `contains` gives.
+use mathlib.Core.Path.{◌∙◌}
+use native.Mathlib.Omega.{arith}
+use Rattle.routes.proofs.Opened.{role_told}
 use Rattle.routes.proofs.role_held.Goals as goal
 
-pub loop-i-init : goal.loop-i-init
-loop-i-init c = (search rules, search rules, search role_ends)
-
-pub returns-then-number_at-role : goal.returns-then-number_at-role
-returns-then-number_at-role c = search role_ends
-
-pub loop-i-preserved : goal.loop-i-preserved
-loop-i-preserved c = (search rules, search rules, search role_ends)
-
 pub returns : goal.returns
-returns c = search role_ends
+returns c = c.contains.ensures.value ∙ role_told c.args.role c.args.roles.now (omega arith) (λ i. omega (arith, c.type_inv.roles i))

@@ -1,21 +1,16 @@
+-- `by_value`: what the calls of `by_head` give.
+use mathlib.Core.Path.{◌≡◌}
+use borrow.Author.Rules.{rules}
+use Rattle.column_masks.specs.Columns.{strip, matched}
 use Rattle.column_masks.proofs.Columns.{matched_same, matched_below, matched_above}
-use Rattle.selection.proofs.Comparing.{compared_eq, compared_ne, compared_lt, compared_le, compared_gt, compared_ge}
 use Rattle.selection.proofs.by_value.Goals as goal
 
-pub returns-then-head-eq1 : goal.returns-then-head-eq1
-returns-then-head-eq1 c = compared_eq _ _ _ _ _ c.if-head-eq1.true (matched_same _ _ _ _ c.requires c.matched.ensures)
-
-pub returns-then-head-eq2 : goal.returns-then-head-eq2
-returns-then-head-eq2 c = compared_ne _ _ _ _ _ c.first.ensures c.if-head-eq2.true (matched_same _ _ _ _ c.requires c.matched-then-head-eq2.ensures) c.flip.ensures
-
-pub returns-then-head-eq3 : goal.returns-then-head-eq3
-returns-then-head-eq3 c = compared_lt _ _ _ _ _ c.if-head-eq3.true (matched_below _ _ _ _ c.requires c.matched-then-head-eq3.ensures)
-
-pub returns-then-head-eq4 : goal.returns-then-head-eq4
-returns-then-head-eq4 c = compared_le _ _ _ _ _ c.first-then-head-eq4.ensures c.if-head-eq4.true (matched_above _ _ _ _ c.requires c.matched-then-head-eq4.ensures) c.flip-then-head-eq4.ensures
-
-pub returns-then-head-eq5 : goal.returns-then-head-eq5
-returns-then-head-eq5 c = compared_gt _ _ _ _ _ c.if-head-eq5.true (matched_above _ _ _ _ c.requires c.matched-then-head-eq5.ensures)
-
 pub returns : goal.returns
-returns c = compared_ge _ _ _ _ _ c.first-2.ensures c.if-head-eq1.false c.if-head-eq2.false c.if-head-eq3.false c.if-head-eq4.false c.if-head-eq5.false (matched_below _ _ _ _ c.requires c.matched-2.ensures) c.flip-2.ensures
+returns c =
+    let vs = c.args.values.now in
+    let at = c.args.p in
+    let v = c.args.v.v in
+    let n = c.args.n in
+    c.by_head.ensures (strip vs at 6) (λ i. v) (λ r p. let e : r ≡ matched 0 vs at v n = search rules in matched_same vs at v n c.requires e)
+    (λ r p. let e : r ≡ matched 1 vs at v n = search rules in matched_below vs at v n c.requires e)
+    (λ r p. let e : r ≡ matched 2 vs at v n = search rules in matched_above vs at v n c.requires e)

@@ -1,12 +1,7 @@
-use borrow.Author.Rules.{rules}
-use Rattle.nodes.proofs.Tests.{link_ends}
+use mathlib.Core.Path.{◌∙◌, ap}
+use lib.ListN.{get_or}
+use Rattle.nodes.proofs.Tests.{link_met}
 use Rattle.selection.proofs.link_at.Goals as goal
 
-pub returns-then-k-eq0 : goal.returns-then-k-eq0
-returns-then-k-eq0 c = search (link_ends, rules)
-
-pub returns-then-k-b : goal.returns-then-k-b
-returns-then-k-b c = search (link_ends, rules)
-
 pub returns : goal.returns
-returns c = search (link_ends, rules)
+returns c = let e = c.saturating_sub-last.ensures in link_met c.args.words.now c.args.k (c.word_at.ensures ∙ ap (λ i. get_or c.args.words.now i 0) e) e c.min.ensures

@@ -1,22 +1,10 @@
+-- `related`: what the calls of `by_head` give.
 use borrow.Author.Rules.{rules}
+use Rattle.column_masks.specs.Columns.{strip}
 use Rattle.column_masks.proofs.Columns.{compared_lent}
-use Rattle.selection.proofs.Comparing.{compared_ends}
 use Rattle.selection.proofs.related.Goals as goal
 
-pub returns-then-head-eq1 : goal.returns-then-head-eq1
-returns-then-head-eq1 c = search (compared_ends, compared_lent, rules)
-
-pub returns-then-head-eq2 : goal.returns-then-head-eq2
-returns-then-head-eq2 c = search (compared_ends, compared_lent, rules)
-
-pub returns-then-head-eq3 : goal.returns-then-head-eq3
-returns-then-head-eq3 c = search (compared_ends, compared_lent, rules)
-
-pub returns-then-head-eq4 : goal.returns-then-head-eq4
-returns-then-head-eq4 c = search (compared_ends, compared_lent, rules)
-
-pub returns-then-head-eq5 : goal.returns-then-head-eq5
-returns-then-head-eq5 c = search (compared_ends, compared_lent, rules)
-
 pub returns : goal.returns
-returns c = search (compared_ends, compared_lent, rules)
+returns c =
+    let a = c.args in
+    c.by_head.ensures (strip a.values.now a.p 6) (strip a.values.now a.q 6) (λ r p. search (compared_lent, rules)) (λ r p. search (compared_lent, rules)) (λ r p. search (compared_lent, rules))

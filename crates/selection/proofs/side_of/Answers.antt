@@ -11,8 +11,8 @@ returns-then-code-eq-TIME c = search (term_ends, rules)
 pub returns-then-code-eq-FIGURE : goal.returns-then-code-eq-FIGURE
 returns-then-code-eq-FIGURE c = search (term_ends, rules)
 
-pub number_side-requires : goal.number_side-requires
-number_side-requires c = c.requires.2 c.if-code-eq-NUMBER.true
+pub number_value-requires : goal.number_value-requires
+number_value-requires c = c.requires.2 c.if-code-eq-NUMBER.true
 
 pub returns-then-code-eq-NUMBER : goal.returns-then-code-eq-NUMBER
 returns-then-code-eq-NUMBER c = search (term_ends, rules)

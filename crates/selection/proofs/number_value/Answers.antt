@@ -1,6 +1,6 @@
 use borrow.Author.Rules.{rules}
 use Rattle.selection.proofs.Sides.{number_ends}
-use Rattle.selection.proofs.number_side.Goals as goal
+use Rattle.selection.proofs.number_value.Goals as goal
 
 pub overflow_sub-result : goal.overflow_sub-result
 overflow_sub-result c = search (number_ends, rules)
