@@ -1,4 +1,6 @@
 pub mod Putting
+pub mod Whole
+pub mod Copies
 pub mod Words
 pub mod Numbers
 pub mod Names
@@ -6,4 +8,3 @@ pub mod Sides
 pub mod Walks
 pub mod Conditions
 pub mod Picks
-pub mod Whole

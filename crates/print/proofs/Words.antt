@@ -1,17 +1,22 @@
 -- Words by their numbers.
 use mathlib.Core.Path.{◌≡◌, refl, sym, ap, ap₂, ◌∙◌}
 use mathlib.Core.List.{[], ◌∷◌, ◌++◌, append_assoc}
-use Prim.Native.Nat.{ℕ, suc, ◌+◌, ◌*◌, ◌-◌, ◌/◌, ◌%◌, ◌^◌, ◌<◌, ◌≤◌, min}
+use Prim.Native.Nat.{ℕ, zero, suc, ◌+◌, ◌*◌, ◌-◌, ◌/◌, ◌%◌, ◌^◌, ◌<◌, ◌≤◌, min}
 use native.Mathlib.Omega.{arith}
-use native.Mathlib.Nat.{add-mul, mul_assoc, mod-lt, mod-eq_of_lt, div-div-eq-div-mul, div-eq_of_lt, div-le_self, div-one}
-use lib.ListN.{length, set, length-append, length-set}
-use lib.Pow.{pow_pos, pow-lt, pow-add, shl_lt, shl_exact, shl-shr, shr_mono, split, high, low, field, mod-mod-pow}
+use native.Mathlib.Nat.{div-div-eq-div-mul, div-eq_of_lt, div-le_self, div-one}
+use lib.ListN.{length, take, drop, length-append}
+use lib.Seq.{take-length}
+use native.Mathlib.Numerals.{add-one}
+use lib.Pow.{pow-lt, pow-add, shl-shr, shr_mono}
+use Rattle.std.proofs.Math.Nat.{pow-suc}
+use Rattle.std.specs.Int.{byte_at, bytes_high_first}
+use Rattle.lists.proofs.Laws.{append_nil}
 use Rattle.syntax.specs.Grammar.{Bytes, put_name}
 use Rattle.text.specs.Words.{bytes_from, name_of}
 use Rattle.schema.specs.Schemas.{code_end}
 use Rattle.schema.proofs.FreeNames.{name_snoc}
-use Rattle.print.specs.Writing.{furthest, Put, byte_text, Long}
-use Rattle.print.proofs.Putting.{put_none, put_as, put_then, put_past, byte_in}
+use Rattle.print.specs.Writing.{furthest, Put, Long}
+use Rattle.print.proofs.Putting.{put_as, put_past}
 
 -- ---- how long a word is
 
@@ -67,6 +72,14 @@ pub ruleset long_ends = (long_0, long_1, long_2, long_3, long_4, long_5, long_6,
 
 -- ---- the bytes of a word from the first on
 
+pow_bytes : (k : ℕ) → 256 ^ k ≡ 2 ^ (8 * k)
+pow_bytes zero = refl
+pow_bytes (suc k) = let e : 8 * suc k ≡ 8 * k + 8 = omega arith in pow-suc 256 k ∙ ap (λ (x : ℕ). x * 256) (pow_bytes k) ∙ sym (ap (λ (j : ℕ). 2 ^ j) e ∙ pow-add 2 (8 * k) 8)
+
+byte_is : (code i : ℕ) → byte_at i code ≡ code / 2 ^ (8 * i) % 256
+byte_is code zero = sym (ap (λ (x : ℕ). x % 256) (div-one code))
+byte_is code (suc i) = ap (λ (d : ℕ). code / d % 256) (pow_bytes (suc i))
+
 module _ (code i : ℕ) where
   shifted : code / 2 ^ (8 * (i + 1)) ≡ code / 2 ^ (8 * i) / 256
   shifted =
@@ -87,108 +100,43 @@ module _ (code i : ℕ) where
       ∙ append_assoc (name_of (x / 256)) (x % 256 ∷ []) r
       ∙ ap (λ w. name_of w ++ (x % 256 ∷ r)) (sym shifted)
 
--- ---- the last i bytes of a word as the highest of 64 bits
+  next_part : code < code_end → 2 ^ (8 * i) ≤ code → name_of (code / 2 ^ (8 * suc i)) ++ bytes_high_first (suc i) code ≡ name_of (code / 2 ^ (8 * i)) ++ bytes_high_first i code
+  next_part l h =
+      ap₂ (λ (k b : ℕ). name_of (code / 2 ^ (8 * k)) ++ (b ∷ bytes_high_first i code)) (sym (add-one i)) (byte_is code i) ∙ sym (part_is (bytes_high_first i code) l h)
 
-abbrev pub shifted_up : ℕ → ℕ → ℕ
-shifted_up code i = code % 2 ^ (8 * i) * 2 ^ (64 - 8 * i)
+-- the last bytes of a word behind those before them are the word
+last_bytes : (code i : ℕ) → code < code_end → (0 < i → 2 ^ (8 * (i - 1)) ≤ code) → name_of (code / 2 ^ (8 * i)) ++ bytes_high_first i code ≡ name_of code
+last_bytes code zero l h = ap (λ w. w ++ []) (ap name_of (div-one code)) ∙ append_nil (name_of code)
+last_bytes code (suc i) l h =
+    let e : suc i - 1 ≡ i = omega arith in
+    let k : 2 ^ (8 * i) ≤ code = rw e at (h (omega arith)) in
+    next_part code i l k ∙ last_bytes code i l (λ p. let j : 8 * (i - 1) < 8 * i = omega arith in omega (arith, pow-lt j))
 
-pub up_start : (code n : ℕ) → Long code n → (n ≡ 0 → ⊥) → code * 2 ^ (64 - 8 * n) % 18446744073709551616 ≡ shifted_up code n
-up_start code n h k =
-    let f = h.few in
-    shl_exact (8 * n) (64 - 8 * n) 64 h.under (omega arith) ∙ ap (λ (x : ℕ). x * 2 ^ (64 - 8 * n)) (sym (mod-eq_of_lt h.under))
+drop_high : (k n m code : ℕ) → m ≡ k + n → drop k (bytes_high_first m code) ≡ bytes_high_first n code
+drop_high zero n m code e = let f : m ≡ n = omega arith in ap (λ (j : ℕ). bytes_high_first j code) f
+drop_high (suc k) n zero code e = absurd (omega arith)
+drop_high (suc k) n (suc m) code e = drop_high k n m code (omega arith)
 
-module _ (code j : ℕ) (few : j < 8) where
-  abbrev last : ℕ
-  last = code % 2 ^ (8 + 8 * j)
+high_length : (k code : ℕ) → length (bytes_high_first k code) ≡ k
+high_length zero code = refl
+high_length (suc k) code = ap suc (high_length k code)
 
-  abbrev room : ℕ
-  room = 2 ^ (56 - 8 * j)
+module _ (code : ℕ) {n : ℕ} (x : Long code n) where
+  word_bytes : code < code_end → bytes_high_first n code ≡ name_of code
+  unfolding name_of bytes_from
+  word_bytes l = let e : code / 2 ^ (8 * n) ≡ 0 = div-eq_of_lt x.under in sym (ap (λ (c : ℕ). name_of c ++ bytes_high_first n code) e) ∙ last_bytes code n l x.above
 
-  room_is : 2 ^ (8 * j) * room ≡ 72057594037927936
-  room_is = let e : 8 * j + (56 - 8 * j) ≡ 56 = omega arith in sym (pow-add 2 (8 * j) (56 - 8 * j)) ∙ ap (λ (k : ℕ). 2 ^ k) e
+  part_bytes : take (8 - (8 - n)) (drop (8 - n) (bytes_high_first 8 code)) ≡ bytes_high_first n code
+  part_bytes =
+      let f = x.few in
+      let e : 8 - (8 - n) ≡ length (bytes_high_first n code) = omega (arith, high_length n code) in
+      ap₂ (λ (k : ℕ) bs. take k bs) e (drop_high (8 - n) n 8 code (omega arith)) ∙ take-length (bytes_high_first n code)
 
-  up_is : shifted_up code (j + 1) ≡ last / 2 ^ (8 * j) * 72057594037927936 + last % 2 ^ (8 * j) * room
-  up_is =
-      let e : 8 * (j + 1) ≡ 8 + 8 * j = omega arith in
-      let f : 64 - 8 * (j + 1) ≡ 56 - 8 * j = omega arith in
-      ap₂ (λ (a b : ℕ). code % 2 ^ a * 2 ^ b) e f
-      ∙ ap (λ (a : ℕ). a * room) (sym (split last (8 * j)))
-      ∙ add-mul (last / 2 ^ (8 * j) * 2 ^ (8 * j)) (last % 2 ^ (8 * j)) room
-      ∙ ap (λ (a : ℕ). a + last % 2 ^ (8 * j) * room) (mul_assoc (last / 2 ^ (8 * j)) (2 ^ (8 * j)) room ∙ ap (λ (b : ℕ). last / 2 ^ (8 * j) * b) room_is)
-
-  rest_low : last % 2 ^ (8 * j) * room < 2 ^ 56
-  rest_low =
-      let e : 8 * j + (56 - 8 * j) ≡ 56 = omega arith in
-      let f : 2 ^ (8 * j + (56 - 8 * j)) ≡ 2 ^ 56 = ap (λ (k : ℕ). 2 ^ k) e in
-      omega (arith, f, shl_lt (8 * j) (56 - 8 * j) (mod-lt last (pow_pos (8 * j))))
-
-  top_byte : {w : ℕ} → w ≡ shifted_up code (j + 1) → w / 72057594037927936 ≡ code / 2 ^ (8 * j) % 256
-  top_byte g = ap (λ (x : ℕ). x / 72057594037927936) (g ∙ up_is) ∙ high (last / 2 ^ (8 * j)) 56 rest_low ∙ field code 8 (8 * j)
-
-  up_on : {w : ℕ} → w ≡ shifted_up code (j + 1) → w % 72057594037927936 * 256 ≡ shifted_up code j
-  up_on g =
-      let e : 56 - 8 * j + 8 ≡ 64 - 8 * j = omega arith in
-      ap (λ (x : ℕ). x % 72057594037927936 * 256) (g ∙ up_is) ∙ ap (λ (x : ℕ). x * 256) (low (last / 2 ^ (8 * j)) 56 rest_low)
-      ∙ mul_assoc (last % 2 ^ (8 * j)) room 256 ∙ ap₂ (λ (a b : ℕ). a * b) (mod-mod-pow code 8 (8 * j)) (sym (pow-add 2 (56 - 8 * j) 8) ∙ ap (λ (k : ℕ). 2 ^ k) e)
-
--- what is written before the last i bytes of a word
-pub record Before (code i : ℕ) (m : Bytes) (p : ℕ) (m' : Bytes) (p' : ℕ) : Type 0 where
-  pub few : i ≤ 8
-  pub above : 0 < i → 2 ^ (8 * (i - 1)) ≤ code
-  pub put : Put (put_name (name_of (code / 2 ^ (8 * i)))) m p m' p'
+  pub word_put : {bs m m' : Bytes} {p q : ℕ} → code < code_end → bs ≡ bytes_high_first 8 code → Put (put_name (take (8 - (8 - n)) (drop (8 - n) bs))) m p m' q → Put (put_name (name_of code)) m p m' q
+  unfolding put_name
+  word_put l e y = put_as (λ r. ap (λ w. w ++ r) (sym (ap (λ bs. take (8 - (8 - n)) (drop (8 - n) bs)) e ∙ part_bytes ∙ word_bytes l))) y
 
 module _ (code : ℕ) {m : Bytes} {p : ℕ} where
   pub word_past : {n q : ℕ} → length m ≤ p → p < 4294967296 → Long code n → q ≡ min (p + n) furthest → Put (put_name (name_of code)) m p m q
   unfolding put_name
   word_past {n} {q} h k e f = put_past (name_of code) (λ r. refl) h (omega arith) (f ∙ ap (λ (x : ℕ). min (p + x) furthest) e.bytes)
-
-  pub before_start : {i : ℕ} → Long code i → Before code i m p m p
-  unfolding put_name name_of bytes_from
-  before_start {i} h = let e : code / 2 ^ (8 * i) ≡ 0 = div-eq_of_lt h.under in record { few = h.few; above = h.above; put = put_none (λ r. ap (λ x. name_of x ++ r) e) }
-
-  module _ {i : ℕ} {m₁ : Bytes} {p₁ : ℕ} (x : Before code i m p m₁ p₁) where
-    pub before_few : i ≤ 8
-    before_few = x.few
-
-    higher : 0 < i → 0 < i - 1 → 2 ^ (8 * (i - 1 - 1)) ≤ code
-    higher h k =
-        let j : 8 * (i - 1 - 1) < 8 * (i - 1) = omega arith in
-        omega (arith, pow-lt j, x.above h)
-
-    pub before_more : {b : ℕ} {m₂ : Bytes} {p₂ : ℕ} → 0 < i → code < code_end → b ≡ code / 2 ^ (8 * (i - 1)) % 256 → Put (byte_text b) m₁ p₁ m₂ p₂ → Before code (i - 1) m p m₂ p₂
-    unfolding put_name byte_text
-    before_more {b} h k g y =
-        let f = x.few in
-        let e : i ≡ i - 1 + 1 = omega arith in
-        record {
-          few = omega arith;
-          above = higher h;
-          put = put_as (λ r. part_is code (i - 1) r k (x.above h) ∙ ap (λ (c : ℕ). name_of (code / 2 ^ (8 * (i - 1 + 1))) ++ (c ∷ r)) (sym g) ∙ ap (λ (j : ℕ). name_of (code / 2 ^ (8 * j)) ++ (b ∷ r)) (sym e)) (put_then x.put y);
-        }
-
-    pub before_in : {w : ℕ} → 0 < i → code < code_end → w ≡ shifted_up code i → p₁ + i ≤ furthest → Before code (i - 1) m p (set m₁ p₁ (w / 72057594037927936 % 256)) (p₁ + 1)
-    before_in {w} h k g l =
-        let f = x.few in
-        let e : i ≡ i - 1 + 1 = omega arith in
-        let t : w / 72057594037927936 ≡ code / 2 ^ (8 * (i - 1)) % 256 = top_byte code (i - 1) (omega arith) (g ∙ ap (shifted_up code) e) in
-        before_more h k (omega arith) (byte_in m₁ p₁ (w / 72057594037927936 % 256) (omega arith))
-
-    pub up_next : {w : ℕ} → 0 < i → w ≡ shifted_up code i → w % 72057594037927936 * 256 ≡ shifted_up code (i - 1)
-    up_next {w} h g =
-        let f = x.few in
-        let e : i ≡ i - 1 + 1 = omega arith in
-        up_on code (i - 1) (omega arith) (g ∙ ap (shifted_up code) e)
-
-    pub before_end : i ≤ 0 → Put (put_name (name_of code)) m p m₁ p₁
-    before_end h = let e : i ≡ 0 = omega arith in put_as (λ r. ap (λ w. put_name (name_of w) r) (whole e)) x.put
-      where
-        whole : i ≡ 0 → code ≡ code / 2 ^ (8 * i)
-        whole e = sym (ap (λ (j : ℕ). code / 2 ^ (8 * j)) e ∙ div-one code)
-
-pub word_none : (code : ℕ) {n : ℕ} {m : Bytes} {p : ℕ} → Long code n → n ≡ 0 → Put (put_name (name_of code)) m p m p
-word_none code h e = before_end code (before_start code h) (omega arith)
-
-pub room_more : (m : Bytes) (p i b : ℕ) → 0 < i → p + i ≤ length m → p + 1 + (i - 1) ≤ length (set m p b)
-room_more m p i b h k = omega (arith, length-set m p b)
-
-pub ruleset word_ends = (word_past, word_none, before_start, before_few, before_more, before_in, before_end, up_start, up_next, room_more)

@@ -27,7 +27,7 @@ pub struct Bounds {
 }
 
 // The furthest place.
-pub const FURTHEST: u32 = 4294967295;
+pub const FURTHEST: u32 = u32::MAX;
 
 // The code of a number that is 0: the lowest of 32 bits has code 0. How many codes there are.
 const ZERO: u64 = 2147483648;
@@ -70,16 +70,6 @@ const GE: u32 = 6;
 
 // ---- bytes, words and numbers
 
-// The place some bytes on, up to the furthest.
-fn place_on(p: u32, n: u32) -> u32
-    ensures { result ≡ min (p + n) furthest }
-{
-    if FURTHEST - p < n {
-        return FURTHEST;
-    }
-    p + n
-}
-
 // Returns the place after one byte.
 // Leaves the byte at its place where there is one, and all else as it was.
 pub fn put(out: &mut [u8], p: u32, b: u8) -> u32
@@ -87,13 +77,34 @@ pub fn put(out: &mut [u8], p: u32, b: u8) -> u32
 {
     let i = p as usize;
     if out.len() <= i {
-        return place_on(p, 1);
+        return p.saturating_add(1);
     }
     out[i] = b;
-    place_on(p, 1)
+    p.saturating_add(1)
 }
 
-// How many bytes the word of a number has.
+// Returns the place after some bytes.
+// Leaves them at their places where there are such, and all else as it was.
+pub fn put_bytes(out: &mut [u8], p: u32, bytes: &[u8]) -> u32
+    ensures { Put (put_name bytes.now) out.old p out.new result }
+{
+    let i = p as usize;
+    let n = bytes.len();
+    if out.len() <= i {
+        return p.saturating_add(u32::try_from(n).unwrap_or(FURTHEST));
+    }
+    if n <= out.len() - i && n <= (FURTHEST - p) as usize {
+        out[i..i + n].copy_from_slice(bytes);
+        return p + n as u32;
+    }
+    let mut q = p;
+    for b in bytes {
+        q = put(out, q, *b);
+    }
+    q
+}
+
+// How many bytes the word of a number has; by halves, since the chip counts no leading zeros.
 fn word_length(code: u64) -> u32
     ensures { Long code result }
 {
@@ -131,65 +142,13 @@ fn short_length(code: u32) -> u32
     4
 }
 
-// The byte of a word that has i bytes after it.
-fn part(code: u64, i: u32) -> u8
-    requires { i < 8 }
-    ensures { result ≡ code / 2 ^ (8 * i) % 256 }
-{
-    ((code >> (8 * i)) % 256) as u8
-}
-
-// A word of n bytes, all of which have places: the next byte is the highest of what is left.
-fn put_whole(out: &mut [u8], p: u32, code: u64, n: u32) -> u32
-    requires { Long code n × (p + n ≤ length out.old) × (p + n ≤ furthest) }
-    ensures { Put (put_name (name_of code)) out.old p out.new result }
-{
-    if n == 0 {
-        return p;
-    }
-    let mut left = code << (64 - 8 * n);
-    let mut q = p;
-    let mut i = n;
-    while 0 < i {
-        out[q as usize] = (left / 0x100000000000000 % 256) as u8;
-        left = (left % 0x100000000000000) * 256;
-        q += 1;
-        i -= 1;
-    }
-    q
-}
-
-// A word of n bytes, not all of which have places.
-fn put_cut(out: &mut [u8], p: u32, code: u64, n: u32) -> u32
-    requires { Long code n }
-    ensures { Put (put_name (name_of code)) out.old p out.new result }
-{
-    let mut q = p;
-    let mut i = n;
-    while 0 < i {
-        i -= 1;
-        q = put(out, q, part(code, i));
-    }
-    q
-}
-
 // Returns the place after a name, or after any word of at most eight bytes, by its number.
 // Leaves its bytes at their places where there are such, and all else as it was.
 pub fn put_word(out: &mut [u8], p: u32, code: u64) -> u32
     ensures { Put (put_name (name_of code)) out.old p out.new result }
 {
     let n = word_length(code);
-    let e = place_on(p, n);
-    if out.len() <= p as usize {
-        return e;
-    }
-    if out.len() < e as usize {
-        return put_cut(out, p, code, n);
-    }
-    if e - p < n {
-        return put_cut(out, p, code, n);
-    }
-    put_whole(out, p, code, n)
+    put_bytes(out, p, &code.to_be_bytes()[8 - n as usize..])
 }
 
 // How many digits a number has.
@@ -251,13 +210,15 @@ pub fn put_nat(out: &mut [u8], p: u32, n: u32) -> u32
     ensures { Put (put_nat n) out.old p out.new result }
 {
     if out.len() <= p as usize {
-        return place_on(p, digits(n));
+        return p.saturating_add(digits(n));
     }
     put_digits(out, p, n)
 }
 
-// A natural number of any size.
-fn put_wide(out: &mut [u8], p: u32, n: u64) -> u32
+// Returns the place after a natural number of 64 bits.
+// Leaves its digits at their places where there are such, and all else as it was.
+// Beside `put_digits`, since one function of 64 bits would divide those for each digit, a routine's call on the chip, and one of both types needs a trait.
+pub fn put_wide(out: &mut [u8], p: u32, n: u64) -> u32
     ensures { Put (put_nat n) out.old p out.new result }
 {
     if n < 4294967296 {
@@ -276,11 +237,7 @@ pub fn put_number(out: &mut [u8], p: u32, v: u64) -> u32
         let q = put(out, p, b'-');
         return put_nat(out, q, (ZERO - v) as u32);
     }
-    let n = v - ZERO;
-    if n < 4294967296 {
-        return put_nat(out, p, n as u32);
-    }
-    put_wide(out, p, n)
+    put_wide(out, p, v - ZERO)
 }
 
 // ---- names
@@ -290,12 +247,10 @@ fn group_name(names: &[u64], at: usize, i: usize) -> u64
     requires { at + i < schema_size }
     ensures { result ≡ group_name names.now at i }
 {
-    let mut k: usize = 0;
-    while k < i {
+    for k in 0..i {
         if places::number_at(names, at + k) == 0 {
             return 0;
         }
-        k += 1;
     }
     places::number_at(names, at + i)
 }
@@ -334,7 +289,7 @@ fn put_column(out: &mut [u8], p: u32, code: u32, names: &[u64]) -> u32
     let at = s * Stream::COLUMNS;
     let column = group_name(names, Stream::MOST + at, code as usize - at);
     if out.len() <= p as usize {
-        return place_on(p, word_length(stream) + 1 + word_length(column));
+        return p.saturating_add(word_length(stream) + 1 + word_length(column));
     }
     let a = put_word(out, p, stream);
     let b = put(out, a, b'.');
@@ -381,10 +336,8 @@ pub fn put_columns(out: &mut [u8], p: u32, order: u64, names: &[u64]) -> u32
 {
     let n = orders::count(order);
     let mut q = p;
-    let mut i: u32 = 0;
-    while i < n {
+    for i in 0..n {
         q = put_item(out, q, orders::code_at(order, i), names);
-        i += 1;
     }
     q
 }
@@ -396,12 +349,10 @@ fn entry_value(v: u64, profile: &[u64]) -> u64
     ensures { unbiased result ≡ entry_value (profile_in profile.now) (name_of v) }
 {
     let n = profile.len() / 2;
-    let mut i: usize = 0;
-    while i < n {
+    for i in 0..n {
         if places::number_at(profile, i * 2) == v {
             return profile[i * 2 + 1] % CODES;
         }
-        i += 1;
     }
     ZERO
 }
@@ -463,22 +414,14 @@ fn put_right(
 fn opened(head: u32) -> u64
     ensures { name_of result ≡ opening head }
 {
-    if head == 1 {
-        return OPEN_EQ;
+    match head {
+        1 => OPEN_EQ,
+        2 => OPEN_NE,
+        3 => OPEN_LT,
+        LE => OPEN_LE,
+        5 => OPEN_GT,
+        _ => OPEN_GE,
     }
-    if head == 2 {
-        return OPEN_NE;
-    }
-    if head == 3 {
-        return OPEN_LT;
-    }
-    if head == LE {
-        return OPEN_LE;
-    }
-    if head == 5 {
-        return OPEN_GT;
-    }
-    OPEN_GE
 }
 
 // A comparison.
@@ -505,24 +448,14 @@ pub struct Range {
 fn compares(head: u32) -> bool
     ensures { result ≡ compares head }
 {
-    if head < Node::AND {
-        return true;
-    }
-    Node::NOT < head
+    head < Node::AND || Node::NOT < head
 }
 
 // How many words stand before those of the condition whose node ends at a place: fewer than the place.
 fn before(n: Node, k: usize) -> usize
     ensures { result ≡ min n.before (k - 1) }
 {
-    let b = n.before as usize;
-    if b < k {
-        return b;
-    }
-    if k == 0 {
-        return 0;
-    }
-    k - 1
+    k.saturating_sub(1).min(n.before as usize)
 }
 
 // Where the first condition ends of those that end at place j and before it, down to a stop.
@@ -552,13 +485,11 @@ fn last_of(words: &[u32], head: u32, stop: usize, j: usize) -> usize
 fn list_opened(head: u32) -> u64
     ensures { name_of result ≡ list_opening head }
 {
-    if head == Node::AND {
-        return OPEN_AND;
+    match head {
+        Node::AND => OPEN_AND,
+        Node::OR => OPEN_OR,
+        _ => OPEN_NOT,
     }
-    if head == Node::OR {
-        return OPEN_OR;
-    }
-    OPEN_NOT
 }
 
 // Returns the place after the condition whose words end at a place, as it stands (own) or with the values of a profile.
@@ -667,13 +598,7 @@ impl Bounds {
     pub fn any(self) -> bool
         ensures { result ≡ bounded self }
     {
-        if 0 < self.words {
-            return true;
-        }
-        if self.from <= Time::TOP {
-            return true;
-        }
-        self.to <= Time::TOP
+        0 < self.words || self.from <= Time::TOP || self.to <= Time::TOP
     }
 }
 

@@ -2,7 +2,8 @@
 use mathlib.Core.Path.{◌≡◌, refl, sym, ap, ap₂, ◌∙◌}
 use mathlib.Core.List.{List, [], ◌∷◌, ◌++◌, append_assoc, map}
 use mathlib.Core.Bool.{Bool, true}
-use Prim.Native.Nat.{ℕ, ◌+◌, ◌*◌, ◌-◌, ◌<◌, ◌≤◌}
+use Prim.Native.Nat.{ℕ, ◌+◌, ◌*◌, ◌-◌, ◌<◌, ◌≤◌, min}
+use native.Mathlib.Decide.{dec_lt}
 use native.Mathlib.Omega.{arith}
 use lib.ListN.{length, take, drop, length-drop, drop_of_length-le}
 use lib.Seq.{take_all}
@@ -23,6 +24,22 @@ use Rattle.print.proofs.Putting.{put_as, put_then}
 use Rattle.print.proofs.Names.{columns_listed}
 use Rattle.print.proofs.Conditions.{own_is}
 use Rattle.print_query.specs.Texts.{words_lent, pick_opening, keep_opening, join_opening, fn_opening, span_text, aggregate_opening, form_bounds, under_opening, opening_text, bracketed}
+
+-- the part of a list from one place to another, each at most its end
+part_is : (xs : List ℕ) (at n : ℕ) {i k : ℕ} → i ≡ min at (length xs) → k ≡ min (at + n) (length xs) → take (k - i) (drop i xs) ≡ take n (drop at xs)
+part_is xs at n {i} {k} e g = go (dec_lt at (length xs))
+  where
+    go : Dec (at < length xs) → take (k - i) (drop i xs) ≡ take n (drop at xs)
+    go (no h) =
+        let z : drop i xs ≡ [] = drop_of_length-le xs {i = i} (omega arith) in
+        rw (z, drop_of_length-le xs {i = at} (omega arith)) (take_all (k - i) [] (omega arith) ∙ sym (take_all n [] (omega arith)))
+    go (yes h) =
+        let z : i ≡ at = omega arith in
+        ap (λ (j : ℕ). take (k - i) (drop j xs)) z ∙ fits (dec_lt n (length xs - at))
+      where
+        fits : Dec (n < length xs - at) → take (k - i) (drop at xs) ≡ take n (drop at xs)
+        fits (yes l) = let w : k - i ≡ n = omega arith in ap (λ (j : ℕ). take j (drop at xs)) w
+        fits (no l) = take_all (k - i) (drop at xs) (omega (arith, length-drop at xs)) ∙ sym (take_all n (drop at xs) (omega (arith, length-drop at xs)))
 
 -- ---- columns
 
@@ -77,26 +94,10 @@ module _ (d : Schema) (f : Form) where
   -- ---- the words of a grant
 
   module _ (own granted profile : List ℕ) {b : Bounds} {m₀ m₁ : Bytes} {p₀ p₁ : ℕ} (is : b ≡ form_bounds f) where
-    under_as : {ws : List ℕ} → ws ≡ words_in granted f.first → Put (bounds_text d (profile_in profile) ws b) m₀ p₀ m₁ p₁ → Put (under_opening d (words_lent own granted profile) f) m₀ p₀ m₁ p₁
-    unfolding under_opening
-    under_as {ws} g x = put_as (λ r. ap₂ (λ vs c. bounds_text d (profile_in profile) vs c r) (sym g) (sym is)) x
-
-    pub under_past : length granted ≤ f.first * 95 → Put (bounds_text d (profile_in profile) [] b) m₀ p₀ m₁ p₁ → Put (under_opening d (words_lent own granted profile) f) m₀ p₀ m₁ p₁
-    unfolding words_in
-    under_past h x = under_as (sym (ap (take 95) (drop_of_length-le granted {i = f.first * 95} h))) x
-
-    pub under_cut : f.first * 95 < length granted → length granted - f.first * 95 ≤ 95 → Put (bounds_text d (profile_in profile) (take (length granted - f.first * 95) (drop (f.first * 95) granted)) b) m₀ p₀ m₁ p₁
+    pub under_end : {i k : ℕ} → i ≡ min (f.first * 95) (length granted) → k ≡ min (f.first * 95 + 95) (length granted) → Put (bounds_text d (profile_in profile) (take (k - i) (drop i granted)) b) m₀ p₀ m₁ p₁
         → Put (under_opening d (words_lent own granted profile) f) m₀ p₀ m₁ p₁
-    unfolding words_in
-    under_cut h k x =
-        let n : length (drop (f.first * 95) granted) ≡ length granted - f.first * 95 = length-drop (f.first * 95) granted in
-        under_as (take_all (length granted - f.first * 95) (drop (f.first * 95) granted) (omega arith) ∙ sym (take_all 95 (drop (f.first * 95) granted) (omega arith))) x
-
-    pub under_whole : Put (bounds_text d (profile_in profile) (take (f.first * 95 + 95 - f.first * 95) (drop (f.first * 95) granted)) b) m₀ p₀ m₁ p₁ → Put (under_opening d (words_lent own granted profile) f) m₀ p₀ m₁ p₁
-    unfolding words_in
-    under_whole x = let e : f.first * 95 + 95 - f.first * 95 ≡ 95 = omega arith in under_as (ap (λ (n : ℕ). take n (drop (f.first * 95) granted)) e) x
-
-pub ruleset under_ends = (under_past, under_cut, under_whole)
+    unfolding under_opening words_in
+    under_end {i} {k} e g x = put_as (λ r. ap₂ (λ vs c. bounds_text d (profile_in profile) vs c r) (sym (part_is granted (f.first * 95) 95 e g)) (sym is)) x
 
 -- ---- any form
 

@@ -91,19 +91,13 @@ fn put_join(out: &mut [u8], p: u32, f: Form, names: &[u64]) -> u32
 fn fn_opened(n: u32) -> u64
     ensures { name_of result ≡ fn_opening n }
 {
-    if n == 1 {
-        return OPEN_MIN;
+    match n {
+        1 => OPEN_MIN,
+        2 => OPEN_MAX,
+        3 => OPEN_COUNT,
+        4 => OPEN_AVG,
+        _ => OPEN_SUM,
     }
-    if n == 2 {
-        return OPEN_MAX;
-    }
-    if n == 3 {
-        return OPEN_COUNT;
-    }
-    if n == 4 {
-        return OPEN_AVG;
-    }
-    OPEN_SUM
 }
 
 // SIZE and OFFSET, each before a space.
@@ -151,14 +145,9 @@ fn put_under(
 {
     let b = bounds(f);
     let at = f.first as usize * Grant::PLACE;
-    if granted.len() <= at {
-        return print::put_pick(out, p, &granted[0..0], b, names, profile);
-    }
-    if granted.len() - at <= Grant::PLACE {
-        return print::put_pick(out, p, &granted[at..], b, names, profile);
-    }
-    let end = at + Grant::PLACE;
-    print::put_pick(out, p, &granted[at..end], b, names, profile)
+    let from = at.min(granted.len());
+    let end = (at + Grant::PLACE).min(granted.len());
+    print::put_pick(out, p, &granted[from..end], b, names, profile)
 }
 
 // Any form; a stream's whole text.
@@ -173,22 +162,14 @@ fn put_opening(
 ) -> u32
     ensures { Put (opening_text (schema_of names.now) (words_lent words.now granted.now profile.now) f) out.old p out.new result }
 {
-    if f.kind == Form::ROWS {
-        return print::put_source(out, p, f.first, names);
+    match f.kind {
+        Form::ROWS => print::put_source(out, p, f.first, names),
+        Form::PICK => put_pick(out, p, f, words, granted, names, profile),
+        Form::KEEP => put_keep(out, p, f, names),
+        Form::JOIN => put_join(out, p, f, names),
+        Form::AGGREGATE => put_aggregate(out, p, f, names),
+        _ => put_under(out, p, f, words, granted, names, profile),
     }
-    if f.kind == Form::PICK {
-        return put_pick(out, p, f, words, granted, names, profile);
-    }
-    if f.kind == Form::KEEP {
-        return put_keep(out, p, f, names);
-    }
-    if f.kind == Form::JOIN {
-        return put_join(out, p, f, names);
-    }
-    if f.kind == Form::AGGREGATE {
-        return put_aggregate(out, p, f, names);
-    }
-    put_under(out, p, f, words, granted, names, profile)
 }
 
 // ---- what stands open
@@ -197,10 +178,7 @@ fn put_opening(
 fn bracketed(f: Form) -> bool
     ensures { result ≡ bracketed f }
 {
-    if f.kind <= Form::AGGREGATE {
-        return true;
-    }
-    bounds(f).any()
+    f.kind <= Form::AGGREGATE || bounds(f).any()
 }
 
 // The brackets that close after a query, up to a join's left side, and the space after that; what stands open then.
@@ -267,6 +245,7 @@ pub fn put_table(
     let mut q: u32 = 0;
     let mut marks = NONE_OPEN;
     let mut i: u32 = 0;
+    // The forms end where nothing stands open: how many there are is not counted before.
     while 0 < marks {
         let f = query::form_in(table, n, i);
         let a = put_opening(out, q, f, words, granted, names, profile);
@@ -292,13 +271,7 @@ pub fn line(
     ensures { Lined (table_text (schema_of names.now) (words_lent words.now granted.now profile.now) (forms_in table.now n) []) out.old out.new result }
 {
     let k = put_table(&mut out[0..0], table, n, words, granted, names, profile);
-    if print::FURTHEST <= k {
-        return Printed {
-            ok: false,
-            length: k,
-        };
-    }
-    if out.len() < k as usize {
+    if print::FURTHEST <= k || out.len() < k as usize {
         return Printed {
             ok: false,
             length: k,

@@ -82,16 +82,6 @@ module _ {t : Bytes → Bytes} {m₀ m : Bytes} {p i : ℕ} (zs : List ℤ) (d :
   unfolding put_cells
   cells_none h = left_none (λ r. rw (drop_of_length-le zs {i = i} h)) x
 
--- bytes
-module _ {t : Bytes → Bytes} {m₀ m : Bytes} {p i : ℕ} (bs : Bytes) (x : Left t (put_text (drop i bs)) m₀ m p) where
-  pub bytes_more : {m₁ : Bytes} {p₁ : ℕ} → i < length bs → Put (byte_text (get_or bs i 0)) m p m₁ p₁ → Left t (put_text (drop (i + 1) bs)) m₀ m₁ p₁
-  unfolding put_text byte_text
-  bytes_more h y = let f : i + 1 ≡ suc i = omega arith in left_less (λ r. rw (f, drop-cons bs i 0 h)) x y
-
-  pub bytes_none : {m₁ : Bytes} {p₁ : ℕ} → length bs ≤ i → Put (byte_text 10) m p m₁ p₁ → Put t m₀ 0 m₁ p₁
-  unfolding put_text byte_text
-  bytes_none h y = left_none {s = λ r. r} (λ r. refl) (left_less {u = λ r. r} (λ r. rw (drop_of_length-le bs {i = i} h)) x y)
-
 -- ---- the outcomes
 
 pub put_cell_end : (d : Due) (z : ℤ) (w : ℕ) {e : ℕ} {m m₁ m₂ m₃ : Bytes} {p p₁ p₂ p₃ : ℕ} → SFits w64 z → name_of w ≡ front_of d → e ≡ end_of d
@@ -116,6 +106,9 @@ pub cells_written : (zs : List ℤ) {m m' : Bytes} {n : ℕ} → Put (put_cells 
 unfolding outcome_text put_outcome
 cells_written zs x h = written_of (28 * length zs) x h
 
-pub text_written : (bs : Bytes) {m m' : Bytes} {n : ℕ} → Put (put_text bs) m 0 m' n → Written (outcome_text (text bs)) (length bs + 1) m m' n
-unfolding outcome_text put_outcome
-text_written bs x = written_of (length bs + 1) x (omega (arith, counted x, text_short bs))
+pub text_written : (bs : Bytes) {m m₁ m₂ : Bytes} {p₁ p₂ : ℕ} → Put (put_name bs) m 0 m₁ p₁ → Put (byte_text 10) m₁ p₁ m₂ p₂ → Written (outcome_text (text bs)) (length bs + 1) m m₂ p₂
+unfolding outcome_text put_outcome put_text put_name byte_text
+text_written bs {m} {m₁} {m₂} {p₁} {p₂} x y = written_of (length bs + 1) all (omega (arith, counted all, text_short bs))
+  where
+    all : Put (put_text bs) m 0 m₂ p₂
+    all = put_as (λ r. refl) (put_then x y)

@@ -6,6 +6,8 @@ use Rattle.model.specs.Queries.{Row, Table, Record, Caller}
 use Rattle.model.specs.Routes.{Route}
 use Rattle.model.specs.Answers.{route_table}
 use Rattle.calls.specs.Scripts.{Outcome, quiet, refusal, cells, text}
+use Rattle.report.specs.declared.Message.{Message}
+use Rattle.report.specs.declared.Message.TheVariants.{Quiet, Refusal, Cells, Text}
 use Rattle.report.specs.declared.Due.{Due}
 use Rattle.report.specs.declared.Due.TheVariants.{Routes, Grant, Partner, Width, Rows, Cell}
 
@@ -63,12 +65,12 @@ put_cells d (z ∷ zs) rest = put_cell d z (put_cells (due_after d z) zs rest)
 
 -- ---- outcomes
 
--- what a line prints, by the kind and the number that it says, of the cells and bytes that it leaves
-unfoldable pub outcome_of : ℕ → ℕ → List ℤ → Bytes → Outcome
-outcome_of zero n zs ys = quiet
-outcome_of (suc zero) n zs ys = refusal n
-outcome_of (suc (suc zero)) n zs ys = cells (take n zs)
-outcome_of (suc (suc (suc k))) n zs ys = text (take n ys)
+-- what a line prints, by what it says, of the cells and bytes that it leaves
+unfoldable pub outcome_of : Message → List ℤ → Bytes → Outcome
+outcome_of Quiet zs ys = quiet
+outcome_of (Refusal n) zs ys = refusal n
+outcome_of (Cells n) zs ys = cells (take n zs)
+outcome_of (Text n) zs ys = text (take n ys)
 
 unfoldable pub put_refusal : ℕ → Bytes → Bytes
 put_refusal n rest = bytes "refused " ++ put_nat n (10 ∷ rest)

@@ -1,7 +1,7 @@
 // The text that an outcome of a script's line prints, written into lent bytes from the first on.
 #![tactic(auto)]
 
-ghost use Rattle.std.specs.Prelude.{◌≡◌, ◌+◌, ◌*◌, ◌≤◌, min, nat_abs, length};
+ghost use Rattle.std.specs.Prelude.{◌≡◌, ◌+◌, ◌*◌, length};
 ghost use Rattle.syntax.specs.Grammar.{put_int};
 ghost use Rattle.text.specs.Words.{name_of};
 ghost use Rattle.calls.specs.Scripts.{refusal, cells, text};
@@ -21,14 +21,14 @@ pub enum Due {
     Cell(u64, u64, u64),
 }
 
-// What a line says, by kind: nothing, a refusal, that cells were written, or bytes of a line.
-pub const QUIET: u32 = 0;
-
-pub const REFUSAL: u32 = 1;
-
-pub const CELLS: u32 = 2;
-
-pub const TEXT: u32 = 3;
+// What a line says: nothing, a refusal by its number, or how many cells or bytes it wrote.
+#[derive(Clone, Copy)]
+pub enum Message {
+    Quiet,
+    Refusal(u32),
+    Cells(u32),
+    Text(u32),
+}
 
 // Words with the space after them.
 const ROUTES: u64 = 0x726f7574657320;
@@ -37,29 +37,13 @@ const ROUTE: u64 = 0x726f75746520;
 
 const REFUSED: u64 = 0x7265667573656420;
 
-// The code of the number 0.
-const ZERO: u64 = 2147483648;
-
 // ---- a cell
-
-// A number without its sign.
-fn magnitude(z: i64) -> u64
-    ensures { (result ≡ nat_abs z) × (result ≤ 9223372036854775808) }
-{
-    if z < 0 {
-        return (-1 - z) as u64 + 1;
-    }
-    z as u64
-}
 
 // What comes next where n rows of a width are still to come.
 fn rows_due(width: u64, n: u64) -> Due
     ensures { result ≡ rows_due width n }
 {
-    if width == 0 {
-        return Due::Grant;
-    }
-    if n == 0 {
+    if width == 0 || n == 0 {
         return Due::Grant;
     }
     Due::Cell(width - 1, width, n - 1)
@@ -83,8 +67,8 @@ fn due_after(d: Due, z: i64) -> Due
         Due::Routes => Due::Grant,
         Due::Grant => Due::Partner,
         Due::Partner => Due::Width,
-        Due::Width => Due::Rows(magnitude(z)),
-        Due::Rows(w) => rows_due(w, magnitude(z)),
+        Due::Width => Due::Rows(z.unsigned_abs()),
+        Due::Rows(w) => rows_due(w, z.unsigned_abs()),
         Due::Cell(k, w, n) => in_row(k, w, n),
     }
 }
@@ -133,9 +117,9 @@ fn put_int(out: &mut [u8], p: u32, z: i64) -> u32
 {
     if z < 0 {
         let q = print::put(out, p, b'-');
-        return print::put_number(out, q, magnitude(z) + ZERO);
+        return print::put_wide(out, q, z.unsigned_abs());
     }
-    print::put_number(out, p, magnitude(z) + ZERO)
+    print::put_wide(out, p, z.unsigned_abs())
 }
 
 // The place after a cell, which is written with the word before it and the byte after it.
@@ -166,12 +150,9 @@ pub fn write_cells(out: &mut [u8], zs: &[i64]) -> u32
 {
     let mut d = Due::Routes;
     let mut p: u32 = 0;
-    let mut i: usize = 0;
-    while i < zs.len() {
-        let z = zs[i];
-        p = put_cell(out, p, d, z);
-        d = due_after(d, z);
-        i += 1;
+    for z in zs {
+        p = put_cell(out, p, d, *z);
+        d = due_after(d, *z);
     }
     p
 }
@@ -181,39 +162,25 @@ pub fn write_cells(out: &mut [u8], zs: &[i64]) -> u32
 pub fn write_text(out: &mut [u8], bs: &[u8]) -> u32
     ensures { Written (outcome_text (text bs.now)) (length bs.now + 1) out.old out.new result }
 {
-    let mut p: u32 = 0;
-    let mut i: usize = 0;
-    while i < bs.len() {
-        p = print::put(out, p, bs[i]);
-        i += 1;
-    }
+    let p = print::put_bytes(out, 0, bs);
     print::put(out, p, b'\n')
 }
 
-pub fn least(a: usize, b: usize) -> usize
-    ensures { result ≡ min a b }
-{
-    if a < b {
-        return a;
-    }
-    b
-}
-
-// Returns how many bytes the text of an outcome takes, by its kind and number and the cells and bytes that it left.
+// Returns how many bytes the text of an outcome takes, by what the line says and the cells and bytes that it left.
 // Leaves the text in front and all else as it was; the text's start where there is no room.
-pub fn write_outcome(out: &mut [u8], kind: u32, number: u32, cells: &[i64], bytes: &[u8]) -> usize
-    ensures { Written (outcome_text (outcome_of kind number cells.now bytes.now)) (28 * length cells.now + length bytes.now + 20) out.old out.new result }
+pub fn write_outcome(out: &mut [u8], says: Message, cells: &[i64], bytes: &[u8]) -> usize
+    ensures { Written (outcome_text (outcome_of says cells.now bytes.now)) (28 * length cells.now + length bytes.now + 20) out.old out.new result }
 {
-    if kind == QUIET {
-        return 0;
+    match says {
+        Message::Quiet => 0,
+        Message::Refusal(number) => write_refusal(out, number) as usize,
+        Message::Cells(count) => {
+            let n = (count as usize).min(cells.len());
+            write_cells(out, &cells[0..n]) as usize
+        }
+        Message::Text(count) => {
+            let n = (count as usize).min(bytes.len());
+            write_text(out, &bytes[0..n]) as usize
+        }
     }
-    if kind == REFUSAL {
-        return write_refusal(out, number) as usize;
-    }
-    if kind == CELLS {
-        let n = least(number as usize, cells.len());
-        return write_cells(out, &cells[0..n]) as usize;
-    }
-    let n = least(number as usize, bytes.len());
-    write_text(out, &bytes[0..n]) as usize
 }

@@ -42,99 +42,101 @@ use Rattle.demands.proofs.Refused as R
 use Rattle.demands.proofs.Defined.{valid_kept}
 use Rattle.demands.proofs.Answered as A
 use Rattle.demands.proofs.Interference as I
-use Rattle.script.specs.States.{Saying}
+use Rattle.report.specs.declared.Message.{Message}
+use Rattle.report.specs.declared.Message.TheVariants as Say
 use Rattle.script.specs.Steps.{verdict_said, reply_said, lending, Does, unread_does, stream_does, grant_does, clock_does, row_does, clear_does, caller_does, ask_does, line_does}
 use Rattle.script.specs.Runs.{call_of, calls_of, Done, none_left, line_done}
 
 -- ---- what a reply says
 
 -- a reply that is said as a refusal is one, with its number; said as an answer, it is none, and its count is said
-module _ (k : ℕ) (r : Reply) (n : k ≡ 1 → ⊥) where
-  abbrev as_told : Bool → Saying
-  as_told b = cond b (record { kind = k; number = r.count }) (record { kind = 1; number = r.refusal })
+module _ (r : Reply) where
+  abbrev as_told : Message → Bool → Message
+  as_told y b = cond b y (Say.Refusal r.refusal)
 
-  said_refused : (reply_said k r).kind ≡ 1 → (r.refusal ≡ 0 → ⊥) × ((reply_said k r).number ≡ r.refusal)
-  unfolding reply_said
-  said_refused = go (eqb r.refusal 0) refl
-    where
-      go : (b : Bool) → eqb r.refusal 0 ≡ b → (as_told b).kind ≡ 1 → (r.refusal ≡ 0 → ⊥) × ((as_told b).number ≡ r.refusal)
-      go true e h = absurd (n h)
-      go false e h = (eqb-false r.refusal 0 e, refl)
+  module _ {y : Message} {n : ℕ} (other : y ≡ Say.Refusal n → ⊥) where
+    said_refused : reply_said r y ≡ Say.Refusal n → (r.refusal ≡ 0 → ⊥) × (n ≡ r.refusal)
+    unfolding reply_said
+    said_refused = go (eqb r.refusal 0) refl
+      where
+        go : (b : Bool) → eqb r.refusal 0 ≡ b → as_told y b ≡ Say.Refusal n → (r.refusal ≡ 0 → ⊥) × (n ≡ r.refusal)
+        go true e h = absurd (other h)
+        go false e h = (eqb-false r.refusal 0 e, cc)
 
-  said_told : (reply_said k r).kind ≡ k → (r.refusal ≡ 0) × ((reply_said k r).number ≡ r.count)
+  said_told : {y : Message} → (Say.Refusal r.refusal ≡ y → ⊥) → {z : Message} → reply_said r z ≡ y → (r.refusal ≡ 0) × (z ≡ y)
   unfolding reply_said
-  said_told = go (eqb r.refusal 0) refl
+  said_told {y} other {z} = go (eqb r.refusal 0) refl
     where
-      go : (b : Bool) → eqb r.refusal 0 ≡ b → (as_told b).kind ≡ k → (r.refusal ≡ 0) × ((as_told b).number ≡ r.count)
-      go true e h = (eqb-true r.refusal 0 e, refl)
-      go false e h = absurd (n (sym h))
+      go : (b : Bool) → eqb r.refusal 0 ≡ b → as_told z b ≡ y → (r.refusal ≡ 0) × (z ≡ y)
+      go true e h = (eqb-true r.refusal 0 e, h)
+      go false e h = absurd (other h)
 
 -- ---- demand 1: a refusal changes nothing; the number that an `ask` or a `line` line says is that of the first check that fails
 
-refused_verdict : (v : Verdict) → (verdict_said v).kind ≡ 1 → (f : Refusal) × (v ≡ Refused f)
-refused_verdict Accepted e = absurd (omega arith)
+refused_verdict : (v : Verdict) {n : ℕ} → verdict_said v ≡ Say.Refusal n → (f : Refusal) × (v ≡ Refused f)
+refused_verdict Accepted e = absurd (cc)
 refused_verdict (Refused f) e = (f, refl)
 
-entered_stays : (v : Verdict) (new old : Ledger) → (verdict_said (entered v new old).verdict).kind ≡ 1 → (entered v new old).ledger ≡ old
+entered_stays : (v : Verdict) (new old : Ledger) → {n : ℕ} → verdict_said (entered v new old).verdict ≡ Say.Refusal n → (entered v new old).ledger ≡ old
 unfolding entered
-entered_stays Accepted new old e = absurd (omega arith)
+entered_stays Accepted new old e = absurd (cc)
 entered_stays (Refused f) new old e = refl
 
-outcome_stays : (v : Verdict) (new old : Caller) → (verdict_said (outcome v new old).verdict).kind ≡ 1 → (outcome v new old).caller ≡ old
+outcome_stays : (v : Verdict) (new old : Caller) → {n : ℕ} → verdict_said (outcome v new old).verdict ≡ Say.Refusal n → (outcome v new old).caller ≡ old
 unfolding outcome
-outcome_stays Accepted new old e = absurd (omega arith)
+outcome_stays Accepted new old e = absurd (cc)
 outcome_stays (Refused f) new old e = refl
 
-memory_stays : (v : Verdict) (old new : Memory) → (verdict_said v).kind ≡ 1 → memory_after v old new ≡ old
+memory_stays : (v : Verdict) (old new : Memory) → {n : ℕ} → verdict_said v ≡ Say.Refusal n → memory_after v old new ≡ old
 unfolding memory_after
-memory_stays Accepted old new e = absurd (omega arith)
+memory_stays Accepted old new e = absurd (cc)
 memory_stays (Refused f) old new e = refl
 
-names_stay : (v : Verdict) (ns : List ℕ) (o : _) → (verdict_said v).kind ≡ 1 → names_after v ns o ≡ ns
+names_stay : (v : Verdict) (ns : List ℕ) (o : _) → {n : ℕ} → verdict_said v ≡ Say.Refusal n → names_after v ns o ≡ ns
 unfolding names_after
-names_stay Accepted ns o e = absurd (omega arith)
+names_stay Accepted ns o e = absurd (cc)
 names_stay (Refused f) ns o e = refl
 
-words_stay : (v : Verdict) (old new : List ℕ) → (verdict_said v).kind ≡ 1 → words_after v old new ≡ old
+words_stay : (v : Verdict) (old new : List ℕ) → {n : ℕ} → verdict_said v ≡ Say.Refusal n → words_after v old new ≡ old
 unfolding words_after
-words_stay Accepted old new e = absurd (omega arith)
+words_stay Accepted old new e = absurd (cc)
 words_stay (Refused f) old new e = refl
 
-grants_stay : (v : Verdict) (gs : List Grant) (g : Grant) → (verdict_said v).kind ≡ 1 → grants_after v gs g ≡ gs
+grants_stay : (v : Verdict) (gs : List Grant) (g : Grant) → {n : ℕ} → verdict_said v ≡ Say.Refusal n → grants_after v gs g ≡ gs
 unfolding grants_after
-grants_stay Accepted gs g e = absurd (omega arith)
+grants_stay Accepted gs g e = absurd (cc)
 grants_stay (Refused f) gs g e = refl
 
 -- over any memory, a line that is refused leaves the store, the cells and the bytes
-pub refused_stays : {bs : Bytes} {zs zs' : List ℤ} {ys ys' : Bytes} {v : Option Verb} {s t : Store} {y : Saying} → Does bs zs ys v s t zs' ys' y → y.kind ≡ 1 → (t ≡ s) × (zs' ≡ zs) × (ys' ≡ ys)
+pub refused_stays : {bs : Bytes} {zs zs' : List ℤ} {ys ys' : Bytes} {v : Option Verb} {s t : Store} {y : Message} → Does bs zs ys v s t zs' ys' y → {n : ℕ} → y ≡ Say.Refusal n → (t ≡ s) × (zs' ≡ zs) × (ys' ≡ ys)
 unfolding with_memory with_grants with_caller clock_line_call clear_line_call identified
 refused_stays unread_does k = (refl, refl, refl)
 refused_stays (stream_does {s = s} {v = v} d) k = (ap (λ ns. with_memory s (with_names s.memory ns)) (d.left ∙ names_stay v _ _ k), refl, refl)
 refused_stays (grant_does {s = s} {ws} {r} g) k =
     (ap (λ gs. with_grants s gs ws) (grants_stay r.verdict _ _ k) ∙ ap (λ l. with_grants s s.grants l) (g.left ∙ words_stay r.verdict _ _ k), refl, refl)
 refused_stays (clock_does {s = s} {r} e) k =
-    (ap (λ l. with_memory s (with_ledger s.memory l)) (ap (λ x. x.ledger) e ∙ entered_stays _ _ _ (sym (ap (λ x. (verdict_said x.verdict).kind) e) ∙ k)), refl, refl)
+    (ap (λ l. with_memory s (with_ledger s.memory l)) (ap (λ x. x.ledger) e ∙ entered_stays _ _ _ (sym (ap (λ x. verdict_said x.verdict) e) ∙ k)), refl, refl)
 refused_stays (row_does {s = s} {v = v} d) k = (ap (with_memory s) (d.left ∙ memory_stays v _ _ k), refl, refl)
 refused_stays (clear_does {s = s} {r} e) k =
-    (ap (λ l. with_memory s (with_ledger s.memory l)) (ap (λ x. x.ledger) e ∙ entered_stays _ _ _ (sym (ap (λ x. (verdict_said x.verdict).kind) e) ∙ k)), refl, refl)
+    (ap (λ l. with_memory s (with_ledger s.memory l)) (ap (λ x. x.ledger) e ∙ entered_stays _ _ _ (sym (ap (λ x. verdict_said x.verdict) e) ∙ k)), refl, refl)
 refused_stays (caller_does {s = s} {r} e) k =
-    (ap (λ w. with_caller s w) (ap (λ x. x.caller) e ∙ outcome_stays _ _ _ (sym (ap (λ x. (verdict_said x.verdict).kind) e) ∙ k)), refl, refl)
+    (ap (λ w. with_caller s w) (ap (λ x. x.caller) e ∙ outcome_stays _ _ _ (sym (ap (λ x. verdict_said x.verdict) e) ∙ k)), refl, refl)
 refused_stays {bs} {zs} (ask_does {s = s} {r = r} h l) k =
-    (refl, (R.asked_refusal (lending s) 1 (parse_as G.ask bs) bs zs h).1 (said_refused 2 r (λ e. omega arith) k).0, refl)
+    (refl, (R.asked_refusal (lending s) 1 (parse_as G.ask bs) bs zs h).1 (said_refused r (λ e. cc) k).0, refl)
 refused_stays {bs} {ys = ys} (line_does {s = s} {r = r} h l) k =
-    (refl, refl, (R.lined_refusal (lending s) 1 (parse_as G.line bs) bs ys h.said).1 (said_refused 3 r (λ e. omega arith) k).0)
+    (refl, refl, (R.lined_refusal (lending s) 1 (parse_as G.line bs) bs ys h.said).1 (said_refused r (λ e. cc) k).0)
 
 -- over any memory, an `ask` line says the refusal of the first check that fails, in the paper's order
-pub ask_refusal : {bs : Bytes} {zs zs' : List ℤ} {ys ys' : Bytes} {s t : Store} {y : Saying} → Does bs zs ys (some G.ask) s t zs' ys' y → y.kind ≡ 1
-    → (y.number ≡ first_number (asked_table 1 (parse_as G.ask bs) (lending s) bs zs)) × Ordered (asked_table 1 (parse_as G.ask bs) (lending s) bs zs)
+pub ask_refusal : {bs : Bytes} {zs zs' : List ℤ} {ys ys' : Bytes} {s t : Store} {y : Message} → Does bs zs ys (some G.ask) s t zs' ys' y → {n : ℕ} → y ≡ Say.Refusal n
+    → (n ≡ first_number (asked_table 1 (parse_as G.ask bs) (lending s) bs zs)) × Ordered (asked_table 1 (parse_as G.ask bs) (lending s) bs zs)
 ask_refusal {bs} {zs} (ask_does {s = s} {r = r} h l) k =
-    ((said_refused 2 r (λ e. omega arith) k).1 ∙ (R.asked_refusal (lending s) 1 (parse_as G.ask bs) bs zs h).0, R.asked_ordered (lending s) 1 (parse_as G.ask bs) bs zs)
+    ((said_refused r (λ e. cc) k).1 ∙ (R.asked_refusal (lending s) 1 (parse_as G.ask bs) bs zs h).0, R.asked_ordered (lending s) 1 (parse_as G.ask bs) bs zs)
 
 -- and so does a `line` line
-pub line_refusal : {bs : Bytes} {zs zs' : List ℤ} {ys ys' : Bytes} {s t : Store} {y : Saying} → Does bs zs ys (some G.line) s t zs' ys' y → y.kind ≡ 1
-    → (y.number ≡ first_number (lined_table 1 (parse_as G.line bs) (lending s) bs ys)) × Ordered (lined_table 1 (parse_as G.line bs) (lending s) bs ys)
+pub line_refusal : {bs : Bytes} {zs zs' : List ℤ} {ys ys' : Bytes} {s t : Store} {y : Message} → Does bs zs ys (some G.line) s t zs' ys' y → {n : ℕ} → y ≡ Say.Refusal n
+    → (n ≡ first_number (lined_table 1 (parse_as G.line bs) (lending s) bs ys)) × Ordered (lined_table 1 (parse_as G.line bs) (lending s) bs ys)
 line_refusal {bs} {ys = ys} (line_does {s = s} {r = r} h l) k =
-    ((said_refused 3 r (λ e. omega arith) k).1 ∙ (R.lined_refusal (lending s) 1 (parse_as G.line bs) bs ys h.said).0, R.lined_ordered (lending s) 1 (parse_as G.line bs) bs ys)
+    ((said_refused r (λ e. cc) k).1 ∙ (R.lined_refusal (lending s) 1 (parse_as G.line bs) bs ys h.said).0, R.lined_ordered (lending s) 1 (parse_as G.line bs) bs ys)
 
 -- ---- demand 2: an answer holds exactly the rows of the granted views, and a line gives them again
 
@@ -145,22 +147,22 @@ counted n = record { refusal = 0; count = n }
 told_reply : (r : Reply) {n : ℕ} → r.refusal ≡ 0 → n ≡ r.count → r ≡ counted n
 told_reply r e h = λ i. record { refusal = e i; count = sym h i }
 
-pub answered : {bs : Bytes} {zs zs' : List ℤ} {ys ys' : Bytes} {s t : Store} {y : Saying} → Does bs zs ys (some G.ask) s t zs' ys' y → y.kind ≡ 2
-    → Answered (lending s) (parse_as G.ask bs) zs zs' (counted y.number)
+pub answered : {bs : Bytes} {zs zs' : List ℤ} {ys ys' : Bytes} {s t : Store} {y : Message} → Does bs zs ys (some G.ask) s t zs' ys' y → {n : ℕ} → y ≡ Say.Cells n
+    → Answered (lending s) (parse_as G.ask bs) zs zs' (counted n)
 answered {bs} {zs} {zs'} (ask_does {s = s} {r = r} h l) k =
-    let (e, n) = said_told 2 r (λ e. omega arith) k in
-    subst (Answered (lending s) (parse_as G.ask bs) zs zs') (told_reply r e n) (A.answered (lending s) 1 (parse_as G.ask bs) bs zs h e)
+    let (e, h') = said_told r (λ e. cc) k in
+    subst (Answered (lending s) (parse_as G.ask bs) zs zs') (told_reply r e (cc)) (A.answered (lending s) 1 (parse_as G.ask bs) bs zs h e)
 
-pub printed : {bs : Bytes} {zs zs' : List ℤ} {ys ys' : Bytes} {s t : Store} {y : Saying} → Does bs zs ys (some G.line) s t zs' ys' y → y.kind ≡ 3
-    → Lined (lending s) (parse_as G.line bs) ys ys' (counted y.number)
+pub printed : {bs : Bytes} {zs zs' : List ℤ} {ys ys' : Bytes} {s t : Store} {y : Message} → Does bs zs ys (some G.line) s t zs' ys' y → {n : ℕ} → y ≡ Say.Text n
+    → Lined (lending s) (parse_as G.line bs) ys ys' (counted n)
 printed {bs} {ys = ys} {ys'} (line_does {s = s} {r = r} h l) k =
-    let (e, n) = said_told 3 r (λ e. omega arith) k in
-    subst (Lined (lending s) (parse_as G.line bs) ys ys') (told_reply r e n) (A.lined_holds (lending s) (valid_kept (lending s) h.ranges) 1 (parse_as G.line bs) bs ys h.said e)
+    let (e, h') = said_told r (λ e. cc) k in
+    subst (Lined (lending s) (parse_as G.line bs) ys ys') (told_reply r e (cc)) (A.lined_holds (lending s) (valid_kept (lending s) h.ranges) 1 (parse_as G.line bs) bs ys h.said e)
 
 -- ---- demand 3: an answer hangs on nothing but what is shown
 
 -- what a line leaves of the record's memory
-line_recorded : {bs : Bytes} {zs zs' : List ℤ} {ys ys' : Bytes} {v : Option Verb} {s t : Store} {y : Saying} {cs : List Call} {u : Memory} → Does bs zs ys v s t zs' ys' y
+line_recorded : {bs : Bytes} {zs zs' : List ℤ} {ys ys' : Bytes} {v : Option Verb} {s t : Store} {y : Message} {cs : List Call} {u : Memory} → Does bs zs ys v s t zs' ys' y
     → D.Recorded t.memory cs u → D.Recorded s.memory (call_of bs v ++ cs) u
 unfolding call_of with_memory with_grants with_caller
 line_recorded unread_does r = r
@@ -182,12 +184,12 @@ recorded (line_done d r) = line_recorded d (recorded r)
 -- the caller's views and admitted figures (`Alike`), then an `ask` line with the same cells lent says the same and leaves the same cells; and so does a `line` line.
 module _ {s t u v : Store} {ls ms : List Bytes} (f : M.Fresh s.memory) (r : Done s ls u) (g : M.Fresh t.memory) (k : Done t ms v) (same : SameLent (lending u) (lending v))
     (a : Alike (after (calls_of ls)) (after (calls_of ms)) (caller_of u.caller) (catalogue_of u.memory.names u.grants u.words)) where
-  pub same_answers : {bs : Bytes} {zs p q : List ℤ} {ys ys' ys'' : Bytes} {u' v' : Store} {y z : Saying} → Does bs zs ys (some G.ask) u u' p ys' y → Does bs zs ys (some G.ask) v v' q ys'' z → (y ≡ z) × (p ≡ q)
+  pub same_answers : {bs : Bytes} {zs p q : List ℤ} {ys ys' ys'' : Bytes} {u' v' : Store} {y z : Message} → Does bs zs ys (some G.ask) u u' p ys' y → Does bs zs ys (some G.ask) v v' q ys'' z → (y ≡ z) × (p ≡ q)
   same_answers {bs} {zs} (ask_does h l) (ask_does h' l') =
       let (e, d) = I.same_answers f (recorded r) g (recorded k) u.grants v.grants u.words v.words u.caller v.caller same a 1 (parse_as G.ask bs) bs zs h h' in
-      (ap (reply_said 2) e, d)
+      (ap (λ (r : Reply). reply_said r (Say.Cells r.count)) e, d)
 
-  pub same_lines : {bs : Bytes} {zs zs' zs'' : List ℤ} {ys p q : Bytes} {u' v' : Store} {y z : Saying} → Does bs zs ys (some G.line) u u' zs' p y → Does bs zs ys (some G.line) v v' zs'' q z → (y ≡ z) × (p ≡ q)
+  pub same_lines : {bs : Bytes} {zs zs' zs'' : List ℤ} {ys p q : Bytes} {u' v' : Store} {y z : Message} → Does bs zs ys (some G.line) u u' zs' p y → Does bs zs ys (some G.line) v v' zs'' q z → (y ≡ z) × (p ≡ q)
   same_lines {bs} {ys = ys} (line_does h l) (line_does h' l') =
       let (e, d) = I.same_lines f (recorded r) g (recorded k) u.grants v.grants u.words v.words u.caller v.caller same a 1 (parse_as G.line bs) bs ys h.said h'.said in
-      (ap (reply_said 3) e, d)
+      (ap (λ (r : Reply). reply_said r (Say.Text r.count)) e, d)

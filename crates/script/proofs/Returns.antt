@@ -32,9 +32,11 @@ use Rattle.ledger.specs.Calls.{begun}
 use Rattle.caller.specs.declared.Caller.{Caller}
 use Rattle.caller.specs.Callers.{no_caller}
 use Rattle.ask.specs.declared.Reply.{Reply}
+use Rattle.report.specs.declared.Message.{Message}
+use Rattle.report.specs.declared.Message.TheVariants as Say
 use Rattle.script.specs.declared.State.{State}
 use Rattle.script.specs.declared.Stepped.{Stepped}
-use Rattle.script.specs.States.{Saying, new_state, with_grant_in, stepped_with}
+use Rattle.script.specs.States.{new_state, with_grant_in, stepped_with}
 use Rattle.script.specs.Steps.{verdict_said, reply_said, unread_said, Granting}
 use Rattle.script.proofs.Taken.{take_set}
 
@@ -45,24 +47,24 @@ unfolding new_state
 new_made e f h = rw (e, f, h)
 
 -- another name of the state
-pub said_of : {x y : State} → x ≡ y → {v w : Saying} → v ≡ w → {r : Stepped} → r ≡ stepped_with x v → r ≡ stepped_with y w
+pub said_of : {x y : State} → x ≡ y → {v w : Message} → v ≡ w → {r : Stepped} → r ≡ stepped_with x v → r ≡ stepped_with y w
 said_of e f {r} h = rw (← e, ← f) h
 
 -- ---- what is said
 
-pub said_accepted : (s : State) {v : Verdict} → v ≡ Accepted → ◌≡◌ {A = Stepped} (record { state = s; kind = 0; number = 0 }) (stepped_with s (verdict_said v))
+pub said_accepted : (s : State) {v : Verdict} → v ≡ Accepted → ◌≡◌ {A = Stepped} (record { state = s; says = Say.Quiet }) (stepped_with s (verdict_said v))
 said_accepted s e = rw e
 
-pub said_refused : (s : State) {v : Verdict} {f : Refusal} → v ≡ Refused f → {n : ℕ} → n ≡ number_of f → ◌≡◌ {A = Stepped} (record { state = s; kind = 1; number = n }) (stepped_with s (verdict_said v))
+pub said_refused : (s : State) {v : Verdict} {f : Refusal} → v ≡ Refused f → {n : ℕ} → n ≡ number_of f → ◌≡◌ {A = Stepped} (record { state = s; says = Say.Refusal n }) (stepped_with s (verdict_said v))
 said_refused s e h = rw (e, h)
 
-pub replied_refused : (s : State) (kind : ℕ) (r : Reply) → (r.refusal ≡ 0 → ⊥) → ◌≡◌ {A = Stepped} (record { state = s; kind = 1; number = r.refusal }) (stepped_with s (reply_said kind r))
+pub replied_refused : (s : State) (r : Reply) (y : Message) → (r.refusal ≡ 0 → ⊥) → ◌≡◌ {A = Stepped} (record { state = s; says = Say.Refusal r.refusal }) (stepped_with s (reply_said r y))
 unfolding reply_said
-replied_refused s kind r h = rw (ne_eqb r.refusal 0 h)
+replied_refused s r y h = rw (ne_eqb r.refusal 0 h)
 
-pub replied_given : (s : State) (kind : ℕ) (r : Reply) → r.refusal ≡ 0 → ◌≡◌ {A = Stepped} (record { state = s; kind = kind; number = r.count }) (stepped_with s (reply_said kind r))
+pub replied_given : (s : State) (r : Reply) (y : Message) → r.refusal ≡ 0 → ◌≡◌ {A = Stepped} (record { state = s; says = y }) (stepped_with s (reply_said r y))
 unfolding reply_said
-replied_given s kind r h = rw (eq-eqb r.refusal 0 h)
+replied_given s r y h = rw (eq-eqb r.refusal 0 h)
 
 pub unread_long : (s : State) (n : ℕ) → max_line < n → {r : Stepped} → r ≡ stepped_with s (verdict_said (Refused Bound)) → r ≡ stepped_with s (unread_said n)
 unfolding unread_said

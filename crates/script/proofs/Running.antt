@@ -57,15 +57,17 @@ use Rattle.ask.specs.declared.Reply.{Reply}
 use Rattle.ask.specs.Replies.{reply_of, Replies}
 use Rattle.ask.specs.Asking.{lent_sound}
 use Rattle.demands.proofs.Defined.{asked_is, lined_is}
+use Rattle.report.specs.declared.Message.{Message}
+use Rattle.report.specs.declared.Message.TheVariants.{Cells, Text}
 use Rattle.script.specs.declared.State as S
-use Rattle.script.specs.States.{Saying, new_state}
+use Rattle.script.specs.States.{new_state}
 use Rattle.script.specs.Steps.{verdict_said, reply_said, unread_said, lending, Does, unread_does, stream_does, grant_does, clock_does, row_does, clear_does, caller_does, ask_does, line_does}
 use Rattle.script.specs.Runs.{Held, store, Runs, stop, then}
 
 -- ---- what it leaves
 
 -- a line leaves what its call leaves, and what may be lent
-does_left : {bs : Bytes} {zs zs' : List ℤ} {ys ys' : Bytes} {v : Option G.Verb} {s t : Store} {y : Saying} → Does bs zs ys v s t zs' ys' y → Sound s → (fixture_of t ≡ happened_from (fixture_of s) (events_of bs v)) × Sound t
+does_left : {bs : Bytes} {zs zs' : List ℤ} {ys ys' : Bytes} {v : Option G.Verb} {s t : Store} {y : Message} → Does bs zs ys v s t zs' ys' y → Sound s → (fixture_of t ≡ happened_from (fixture_of s) (events_of bs v)) × Sound t
 unfolding events_of happened_from happen
 does_left unread_does ok = (refl, ok)
 does_left (stream_does d) ok = E.step (called (declared d)) ok
@@ -78,7 +80,7 @@ does_left (ask_does r l) ok = (refl, ok)
 does_left (line_does r l) ok = (refl, ok)
 
 -- as many cells and bytes as were lent
-does_kept : {bs : Bytes} {zs zs' : List ℤ} {ys ys' : Bytes} {v : Option G.Verb} {s t : Store} {y : Saying} → Does bs zs ys v s t zs' ys' y → (length zs' ≡ length zs) × (length ys' ≡ length ys)
+does_kept : {bs : Bytes} {zs zs' : List ℤ} {ys ys' : Bytes} {v : Option G.Verb} {s t : Store} {y : Message} → Does bs zs ys v s t zs' ys' y → (length zs' ≡ length zs) × (length ys' ≡ length ys)
 does_kept unread_does = (refl, refl)
 does_kept (stream_does d) = (refl, refl)
 does_kept (grant_does g) = (refl, refl)
@@ -91,8 +93,8 @@ does_kept (line_does r l) = (refl, l)
 
 -- ---- what it says
 
-abbrev prints : Saying → List ℤ → Bytes → Outcome
-prints y zs ys = outcome_of y.kind y.number zs ys
+abbrev prints : Message → List ℤ → Bytes → Outcome
+prints y zs ys = outcome_of y zs ys
 
 -- a change, by the first check of its table
 changed_said : (f g : Fixture) (o : Option Refusal) (zs : List ℤ) (ys : Bytes) → prints (verdict_said (verdict_of o)) zs ys ≡ (changed f o g).outcome
@@ -115,12 +117,12 @@ some_number ManyRoutes = refl
 some_number NoRoom = refl
 
 -- a query and a line, by their replies
-asked_said : (f : Fixture) (y : C.Reply ℤ) (zs zs' : List ℤ) (ys : Bytes) (r : Reply) → Replies y zs zs' r → prints (reply_said 2 r) zs' ys ≡ (told f cells y).outcome
+asked_said : (f : Fixture) (y : C.Reply ℤ) (zs zs' : List ℤ) (ys : Bytes) (r : Reply) → Replies y zs zs' r → prints (reply_said r (Cells r.count)) zs' ys ≡ (told f cells y).outcome
 unfolding told reply_said outcome_of reply_of lent_after
 asked_said f (C.refused g) zs zs' ys r h = rw (h.said, some_number g)
 asked_said f (C.filled n lent) zs zs' ys r h = rw (h.said, h.left)
 
-lined_said : (f : Fixture) (y : C.Reply ℕ) (zs : List ℤ) (ys ys' : Bytes) (r : Reply) → Replies y ys ys' r → prints (reply_said 3 r) zs ys' ≡ (told f text y).outcome
+lined_said : (f : Fixture) (y : C.Reply ℕ) (zs : List ℤ) (ys ys' : Bytes) (r : Reply) → Replies y ys ys' r → prints (reply_said r (Text r.count)) zs ys' ≡ (told f text y).outcome
 unfolding told reply_said outcome_of reply_of lent_after
 lined_said f (C.refused g) zs ys ys' r h = rw (h.said, some_number g)
 lined_said f (C.filled n lent) zs ys ys' r h = rw (h.said, h.left)
@@ -174,7 +176,7 @@ module _ (s : Store) (ok : Sound s) (zs : List ℤ) (ys : Bytes) where
       ∙ changed_said f _ (first (caller_table bs)) zs ys
 
 -- a line prints what the definitions' line prints
-does_said : {bs : Bytes} {zs zs' : List ℤ} {ys ys' : Bytes} {v : Option G.Verb} {s t : Store} {y : Saying} → Does bs zs ys v s t zs' ys' y → Sound s → prints y zs' ys' ≡ (perform (fixture_of s) (act zs ys (fixture_of s) bs v)).outcome
+does_said : {bs : Bytes} {zs zs' : List ℤ} {ys ys' : Bytes} {v : Option G.Verb} {s t : Store} {y : Message} → Does bs zs ys v s t zs' ys' y → Sound s → prints y zs' ys' ≡ (perform (fixture_of s) (act zs ys (fixture_of s) bs v)).outcome
 unfolding act perform written verdict_in Q.asked Q.lined fixture_of
 does_said {bs} {zs} {ys = ys} (unread_does {s = s}) ok = unread_prints (fixture_of s) (length bs) zs ys
 does_said {bs} {zs} {ys = ys} (stream_does {s = s} d) ok = call_said s ok zs ys (stream bs) (declared d)
@@ -235,7 +237,7 @@ outcome_alike f bs zs zs' ys ys' d e = act_alike f bs zs zs' ys ys' d e (verb_of
 -- ---- one line, and a run of them
 
 -- Over sound memory: the store that a line leaves stands for the definitions' fixture, is sound, and the line prints the definitions' outcome.
-pub step_does : {bs : Bytes} {zs zs' : List ℤ} {ys ys' : Bytes} {s t : Store} {y : Saying} → Does bs zs ys (verb_of bs) s t zs' ys' y → Sound s
+pub step_does : {bs : Bytes} {zs zs' : List ℤ} {ys ys' : Bytes} {s t : Store} {y : Message} → Does bs zs ys (verb_of bs) s t zs' ys' y → Sound s
     → (fixture_of t ≡ (step zs ys (fixture_of s) bs).left) × Sound t × (prints y zs' ys' ≡ (step zs ys (fixture_of s) bs).outcome)
 unfolding step
 step_does {bs} {zs} {ys = ys} {s = s} d ok = let (e, k) = does_left d ok in (e ∙ sym (step_runs zs ys (fixture_of s) bs), k, does_said d ok)

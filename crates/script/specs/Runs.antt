@@ -7,10 +7,11 @@ use Rattle.syntax.specs.Grammar.{Bytes, Verb}
 use Rattle.syntax.specs.Readers.{verb_of}
 use Rattle.calls.specs.Calls.{Call, stream, clock_line, row_line, clear_line}
 use Rattle.calls.specs.Scripts.{Outcome}
+use Rattle.report.specs.declared.Message.{Message}
 use Rattle.report.specs.Outcomes.{outcome_of}
 use Rattle.history.specs.Fixtures.{Store}
 use Rattle.script.specs.declared.State.{State}
-use Rattle.script.specs.States.{Saying, store_of}
+use Rattle.script.specs.States.{store_of}
 use Rattle.script.specs.Steps.{Does}
 
 -- a state, and the memory that is lent with it
@@ -27,8 +28,8 @@ store h = store_of h.state h.names h.times h.values h.words
 -- what each line prints, with cells and bytes lent as the line before it left them
 pub data Runs : Held → List ℤ → Bytes → List Bytes → List Outcome → Type 0 where
   stop : {h : Held} {zs : List ℤ} {ys : Bytes} → Runs h zs ys [] []
-  then : {h h' : Held} {zs zs' : List ℤ} {ys ys' l : Bytes} {ls : List Bytes} {os : List Outcome} {y : Saying} → Does l zs ys (verb_of l) (store h) (store h') zs' ys' y → Runs h' zs' ys' ls os
-      → Runs h zs ys (l ∷ ls) (outcome_of y.kind y.number zs' ys' ∷ os)
+  then : {h h' : Held} {zs zs' : List ℤ} {ys ys' l : Bytes} {ls : List Bytes} {os : List Outcome} {y : Message} → Does l zs ys (verb_of l) (store h) (store h') zs' ys' y → Runs h' zs' ys' ls os
+      → Runs h zs ys (l ∷ ls) (outcome_of y zs' ys' ∷ os)
 
 -- ---- lines as the record meets them
 
@@ -50,4 +51,4 @@ calls_of ls = gather (λ l. call_of l (verb_of l)) ls
 -- lines one after the other, with any cells and bytes lent: each gets what the last one left
 pub data Done : Store → List Bytes → Store → Type 0 where
   none_left : {s : Store} → Done s [] s
-  line_done : {s t u : Store} {zs zs' : List ℤ} {ys ys' l : Bytes} {ls : List Bytes} {y : Saying} → Does l zs ys (verb_of l) s t zs' ys' y → Done t ls u → Done s (l ∷ ls) u
+  line_done : {s t u : Store} {zs zs' : List ℤ} {ys ys' l : Bytes} {ls : List Bytes} {y : Message} → Does l zs ys (verb_of l) s t zs' ys' y → Done t ls u → Done s (l ∷ ls) u

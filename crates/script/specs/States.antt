@@ -7,6 +7,7 @@ use Rattle.caller.specs.declared.Caller.{Caller}
 use Rattle.caller.specs.Callers.{no_caller}
 use Rattle.grant.specs.declared.Grant.{Grant}
 use Rattle.grant_line.specs.Lines.{no_grant}
+use Rattle.report.specs.declared.Message.{Message}
 use Rattle.history.specs.Fixtures.{Store}
 use Rattle.script.specs.declared.State.{State}
 use Rattle.script.specs.declared.Stepped.{Stepped}
@@ -29,10 +30,5 @@ with_grant_in s n g = record { ledger = s.ledger; grants = set s.grants n g; cou
 abbrev pub store_of : State → List ℕ → List ℕ → List ℤ → List ℕ → Store
 store_of s ns ts vs ws = record { memory = record { ledger = s.ledger; names = ns; times = ts; values = vs }; grants = take s.count s.grants; words = ws; caller = s.caller }
 
--- what a line says: a kind and a number
-pub record Saying : Type 0 where
-  pub kind : ℕ
-  pub number : ℕ
-
-abbrev pub stepped_with : State → Saying → Stepped
-stepped_with s y = record { state = s; kind = y.kind; number = y.number }
+abbrev pub stepped_with : State → Message → Stepped
+stepped_with s y = record { state = s; says = y }

@@ -9,6 +9,8 @@ use Rattle.syntax.specs.Grammar as G
 use Rattle.syntax.specs.Grammar.{Bytes}
 use Rattle.syntax.specs.Limits.{max_line}
 use Rattle.syntax.specs.Readers.{parse_as}
+use Rattle.report.specs.declared.Message.{Message}
+use Rattle.report.specs.declared.Message.TheVariants.{Quiet, Refusal, Cells, Text}
 use Rattle.stream_line.specs.Declaring.{Declares}
 use Rattle.ledger.specs.declared.Entered.{Entered}
 use Rattle.ledger.specs.Records.{Memory, with_ledger, with_names}
@@ -25,7 +27,7 @@ use Rattle.script.specs.declared.State.{State}
 use Rattle.script.specs.declared.Stepped.{Stepped}
 use Rattle.script.specs.declared.Verb.{Verb}
 use Rattle.script.specs.declared.Verb.TheVariants.{Stream, Grant, Clock, Row, Clear, Caller, Ask, Line, Other}
-use Rattle.script.specs.States.{Saying, stepped_with}
+use Rattle.script.specs.States.{stepped_with}
 
 -- the verb of the grammar
 unfoldable pub verb_in : Verb → Option G.Verb
@@ -41,16 +43,16 @@ verb_in Other = none
 
 -- ---- what a line says
 
-abbrev pub verdict_said : Verdict → Saying
-verdict_said Accepted = record { kind = 0; number = 0 }
-verdict_said (Refused f) = record { kind = 1; number = number_of f }
+abbrev pub verdict_said : Verdict → Message
+verdict_said Accepted = Quiet
+verdict_said (Refused f) = Refusal (number_of f)
 
--- of a query: a kind with how many cells or bytes were written
-unfoldable pub reply_said : ℕ → Reply → Saying
-reply_said kind r = cond (eqb r.refusal 0) (record { kind = kind; number = r.count }) (record { kind = 1; number = r.refusal })
+-- of a query: its refusal, or what is said where there is none
+unfoldable pub reply_said : Reply → Message → Message
+reply_said r y = cond (eqb r.refusal 0) y (Refusal r.refusal)
 
 -- a text of no verb, by its length
-unfoldable pub unread_said : ℕ → Saying
+unfoldable pub unread_said : ℕ → Message
 unread_said n = verdict_said (Refused (cond (ltb max_line n) Bound Malformed))
 
 -- ---- what it leaves
@@ -68,8 +70,8 @@ pub record Granting (s : State) (ns : List ℕ) (bs : Bytes) (ws ws' : List ℕ)
   pub caller : r.state.caller ≡ s.caller
   pub says : r ≡ stepped_with r.state (verdict_said granted.verdict)
 
--- By the text, the cells and bytes that are lent, and the verb: the stores before and after, the cells and bytes after, and the kind and the number that are said.
-pub data Does (bs : Bytes) (zs : List ℤ) (ys : Bytes) : Option G.Verb → Store → Store → List ℤ → Bytes → Saying → Type 0 where
+-- By the text, the cells and bytes that are lent, and the verb: the stores before and after, the cells and bytes after, and what is said.
+pub data Does (bs : Bytes) (zs : List ℤ) (ys : Bytes) : Option G.Verb → Store → Store → List ℤ → Bytes → Message → Type 0 where
   unread_does : {s : Store} → Does bs zs ys none s s zs ys (unread_said (length bs))
   stream_does : {s : Store} {ns : List ℕ} {v : Verdict} → Declares s.memory.names bs ns v → Does bs zs ys (some G.stream) s (with_memory s (with_names s.memory ns)) zs ys (verdict_said v)
   grant_does : {s : Store} {ws : List ℕ} {r : Granted} → Grants s.memory.names (length s.grants) bs s.words ws r
@@ -78,5 +80,5 @@ pub data Does (bs : Bytes) (zs : List ℤ) (ys : Bytes) : Option G.Verb → Stor
   row_does : {s : Store} {m : Memory} {v : Verdict} → RowLineCall s.memory bs m v → Does bs zs ys (some G.row) s (with_memory s m) zs ys (verdict_said v)
   clear_does : {s : Store} {r : Entered} → r ≡ clear_line_call s.memory.ledger bs → Does bs zs ys (some G.clear) s (with_memory s (with_ledger s.memory r.ledger)) zs ys (verdict_said r.verdict)
   caller_does : {s : Store} {r : Identified} → r ≡ identified s.caller bs → Does bs zs ys (some G.caller) s (with_caller s r.caller) zs ys (verdict_said r.verdict)
-  ask_does : {s : Store} {zs' : List ℤ} {r : Reply} → Replies (asked 1 (parse_as G.ask bs) (lending s) bs zs) zs zs' r → length zs' ≡ length zs → Does bs zs ys (some G.ask) s s zs' ys (reply_said 2 r)
-  line_does : {s : Store} {ys' : Bytes} {r : Reply} → LineReplies 1 (parse_as G.line bs) (lending s) bs ys ys' r → length ys' ≡ length ys → Does bs zs ys (some G.line) s s zs ys' (reply_said 3 r)
+  ask_does : {s : Store} {zs' : List ℤ} {r : Reply} → Replies (asked 1 (parse_as G.ask bs) (lending s) bs zs) zs zs' r → length zs' ≡ length zs → Does bs zs ys (some G.ask) s s zs' ys (reply_said r (Cells r.count))
+  line_does : {s : Store} {ys' : Bytes} {r : Reply} → LineReplies 1 (parse_as G.line bs) (lending s) bs ys ys' r → length ys' ≡ length ys → Does bs zs ys (some G.line) s s zs ys' (reply_said r (Text r.count))

@@ -20,6 +20,7 @@ use grant::Grant;
 use ledger::{Entered, Ledger};
 use needs::Needs;
 use refusal::{Refusal, Verdict};
+use report::Message;
 use schema::Stream;
 use text::{Line, Word};
 
@@ -32,12 +33,11 @@ pub struct State {
     pub caller: Caller,
 }
 
-// What a line says, and the state that it leaves: the kind is one of `report`, the number is that of the refusal, or how many cells or bytes were written.
+// What a line says, and the state that it leaves.
 #[derive(Clone, Copy)]
 pub struct Stepped {
     pub state: State,
-    pub kind: u32,
-    pub number: u32,
+    pub says: Message,
 }
 
 // The first word of a line.
@@ -121,11 +121,7 @@ impl State {
     fn held(self) -> usize
         ensures { result ≡ min self.count max_grants }
     {
-        let n = self.count as usize;
-        if Grant::GRANTS < n {
-            return Grant::GRANTS;
-        }
-        n
+        (self.count as usize).min(Grant::GRANTS)
     }
 
     // A grant in a place, and no grant behind it.
@@ -154,31 +150,28 @@ fn said(s: State, v: Verdict) -> Stepped
     match v {
         Verdict::Accepted => Stepped {
             state: s,
-            kind: report::QUIET,
-            number: 0,
+            says: Message::Quiet,
         },
         Verdict::Refused(f) => Stepped {
             state: s,
-            kind: report::REFUSAL,
-            number: f.number(),
+            says: Message::Refusal(f.number()),
         },
     }
 }
 
-fn replied(s: State, kind: u32, r: Reply) -> Stepped
-    ensures { result ≡ stepped_with s (reply_said kind r) }
+// A query's reply: its refusal, or what is said where there is none.
+fn replied(s: State, r: Reply, written: Message) -> Stepped
+    ensures { result ≡ stepped_with s (reply_said r written) }
 {
     if r.refusal != 0 {
         return Stepped {
             state: s,
-            kind: report::REFUSAL,
-            number: r.refusal,
+            says: Message::Refusal(r.refusal),
         };
     }
     Stepped {
         state: s,
-        kind: kind,
-        number: r.count,
+        says: written,
     }
 }
 
@@ -263,11 +256,9 @@ fn opened(
     ensures { result ≡ opened_in n names.now (take count grants) words.now (roles_of who) (profile_of who) }
 {
     let mut o = Opened::none(count, words.len());
-    let mut i: usize = 0;
-    while i < count {
+    for i in 0..count {
         let g = grants[i];
         o = o.with_caller(n, i as u32, g, names, words, who);
-        i += 1;
     }
     o
 }
@@ -326,7 +317,7 @@ pub fn step(
     cells: &mut [i64],
     bytes: &mut [u8],
 ) -> Stepped
-    ensures { Does line.now cells.old bytes.old (verb_of line.now) (store_of state names.old times.old values.old words.old) (store_of result.state names.new times.new values.new words.new) cells.new bytes.new (record { kind = result.kind; number = result.number }) }
+    ensures { Does line.now cells.old bytes.old (verb_of line.now) (store_of state names.old times.old values.old words.old) (store_of result.state names.new times.new values.new words.new) cells.new bytes.new result.says }
 {
     let l = state.ledger;
     let who = state.caller;
@@ -345,13 +336,13 @@ pub fn step(
             let grants = state.grants;
             let n = state.held();
             let r = asked(grants, n, words, l, names, times, values, who, line, cells);
-            replied(state, report::CELLS, r)
+            replied(state, r, Message::Cells(r.count))
         }
         Verb::Line => {
             let grants = state.grants;
             let n = state.held();
             let r = lined(grants, n, words, l, names, times, values, who, line, bytes);
-            replied(state, report::TEXT, r)
+            replied(state, r, Message::Text(r.count))
         }
         Verb::Other => unread(state, line.len()),
     }

@@ -1,6 +1,5 @@
 -- `entry_value`: none of the entries passed has the name.
 use mathlib.Core.Path.{◌≡◌}
-use Prim.Native.Nat.{◌-◌}
 use Rattle.model.specs.Grants.{entry_value}
 use Rattle.text.specs.Words.{name_of}
 use Rattle.nodes.specs.Profiles.{profile_in}
@@ -9,6 +8,3 @@ use Rattle.print.proofs.entry_value.Given as goal
 
 abbrev pub invariant-loop-i : goal.invariant-loop-i
 invariant-loop-i l = entry_value (profile_in l.profile) (name_of l.v) ≡ value_from l.profile l.v l.i
-
-abbrev pub decreases-loop-i : goal.decreases-loop-i
-decreases-loop-i l = l.n - l.i

@@ -5,8 +5,5 @@ use Rattle.print.proofs.put_number.Goals as goal
 pub returns-then-v-lt-ZERO : goal.returns-then-v-lt-ZERO
 returns-then-v-lt-ZERO c = search (number_ends, rules)
 
-pub returns-then-n-lt4294967296 : goal.returns-then-n-lt4294967296
-returns-then-n-lt4294967296 c = search (number_ends, rules)
-
 pub returns : goal.returns
 returns c = search (number_ends, rules)

@@ -2,17 +2,17 @@ use borrow.Author.Rules.{rules}
 use Rattle.print_query.proofs.Openings.{fn_ends}
 use Rattle.print_query.proofs.fn_opened.Goals as goal
 
-pub returns-then-n-eq1 : goal.returns-then-n-eq1
-returns-then-n-eq1 c = search (fn_ends, rules)
+pub returns-in-1 : goal.returns-in-1
+returns-in-1 c = search (fn_ends, rules)
 
-pub returns-then-n-eq2 : goal.returns-then-n-eq2
-returns-then-n-eq2 c = search (fn_ends, rules)
+pub returns-in-2 : goal.returns-in-2
+returns-in-2 c = search (fn_ends, rules)
 
-pub returns-then-n-eq3 : goal.returns-then-n-eq3
-returns-then-n-eq3 c = search (fn_ends, rules)
+pub returns-in-3 : goal.returns-in-3
+returns-in-3 c = search (fn_ends, rules)
 
-pub returns-then-n-eq4 : goal.returns-then-n-eq4
-returns-then-n-eq4 c = search (fn_ends, rules)
+pub returns-in-4 : goal.returns-in-4
+returns-in-4 c = search (fn_ends, rules)
 
-pub returns : goal.returns
-returns c = search (fn_ends, rules)
+pub returns-in_default : goal.returns-in_default
+returns-in_default c = search (fn_ends, rules)

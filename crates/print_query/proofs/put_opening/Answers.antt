@@ -2,20 +2,20 @@ use borrow.Author.Rules.{rules}
 use Rattle.print_query.proofs.Openings.{opening_ends}
 use Rattle.print_query.proofs.put_opening.Goals as goal
 
-pub returns-then-f-eq-ROWS : goal.returns-then-f-eq-ROWS
-returns-then-f-eq-ROWS c = search (opening_ends, rules)
+pub returns-in-0 : goal.returns-in-0
+returns-in-0 c = search (opening_ends, rules)
 
-pub returns-then-f-eq-PICK : goal.returns-then-f-eq-PICK
-returns-then-f-eq-PICK c = search (opening_ends, rules)
+pub returns-in-1 : goal.returns-in-1
+returns-in-1 c = search (opening_ends, rules)
 
-pub returns-then-f-eq-KEEP : goal.returns-then-f-eq-KEEP
-returns-then-f-eq-KEEP c = search (opening_ends, rules)
+pub returns-in-2 : goal.returns-in-2
+returns-in-2 c = search (opening_ends, rules)
 
-pub returns-then-f-eq-JOIN : goal.returns-then-f-eq-JOIN
-returns-then-f-eq-JOIN c = search (opening_ends, rules)
+pub returns-in-3 : goal.returns-in-3
+returns-in-3 c = search (opening_ends, rules)
 
-pub returns-then-f-eq-AGGREGATE : goal.returns-then-f-eq-AGGREGATE
-returns-then-f-eq-AGGREGATE c = search (opening_ends, rules)
+pub returns-in-4 : goal.returns-in-4
+returns-in-4 c = search (opening_ends, rules)
 
-pub returns : goal.returns
-returns c = search (opening_ends, rules)
+pub returns-in_default : goal.returns-in_default
+returns-in_default c = search (opening_ends, rules)

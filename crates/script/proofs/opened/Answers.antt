@@ -8,20 +8,16 @@ use Rattle.script.proofs.opened.Goals as goal
 pub loop-i-init : goal.loop-i-init
 loop-i-init c =
     let l : length c.args.grants ≡ 24 = search rules in
-    (omega arith, opening_none c.args.n c.args.names.now c.args.grants c.args.words.now _ _ c.args.count l c.requires c.none-o.ensures)
-
-pub offset_bounds-grants-i : goal.offset_bounds-grants-i
-offset_bounds-grants-i c = let l = c.loop-i in let h = c.loop-i-test.true in let k = c.requires in record { fits = omega arith }
+    opening_none c.args.n c.args.names.now c.args.grants c.args.words.now _ _ c.args.count l c.requires c.none-o.ensures
 
 pub loop-i-preserved : goal.loop-i-preserved
 loop-i-preserved c =
     let l = c.loop-i in
-    let h = c.loop-i-test.true in
     let f : length c.args.grants ≡ 24 = search rules in
-    (omega arith, opening_more c.args.n c.args.names.now c.args.grants c.args.words.now _ _ c.args.count f c.requires l.i _ (omega arith) l.invariant.1 c.with_caller-o.ensures)
+    opening_more c.args.n c.args.names.now c.args.grants c.args.words.now _ _ c.args.count f c.requires l.i _ (omega arith) l.invariant c.with_caller-o.ensures
 
 pub returns : goal.returns
 returns c =
     let l = c.loop-i in
     let f : length c.args.grants ≡ 24 = search rules in
-    opening_all c.args.n c.args.names.now c.args.grants c.args.words.now _ _ c.args.count f c.requires l.i (omega arith) l.invariant.1
+    opening_all c.args.n c.args.names.now c.args.grants c.args.words.now _ _ c.args.count f c.requires l.i (omega arith) l.invariant
