@@ -9,14 +9,13 @@ use lib.Dec.{T, leb, ltb, leb→le}
 use lib.ListN.{length, replicate}
 use lib.Seq.{paste}
 use borrow.Author.Tests.{leb-false, ltb-false}
-use Rattle.refusal.specs.Numbers.{verdict_of}
+use Rattle.std.specs.Prelude.{Result, Ok, Err}
+use Rattle.refusal.specs.Results.{Said, result_of, giving, said_by, settled}
 use Rattle.refusal.specs.Checks.{first, table, refuse}
 use Rattle.refusal.specs.declared.Checks.{Checks}
-use Rattle.refusal.specs.declared.Verdict.{Verdict}
-use Rattle.refusal.specs.declared.Verdict.TheVariants.{Accepted, Refused}
 use Rattle.refusal.specs.declared.Refusal.{Refusal}
 use Rattle.refusal.specs.declared.Refusal.TheVariants.{Lent, Malformed, Bound}
-use Rattle.refusal.proofs.Verdicts.{verdict_none}
+use Rattle.refusal.proofs.Results.{result_none}
 use Rattle.lists.proofs.Laws.{parts, true_T, or_first, or_last}
 use Rattle.grant_line.proofs.Lines.{unread_not}
 use Rattle.syntax.specs.Grammar as G
@@ -26,9 +25,9 @@ use Rattle.model.specs.Queries as M
 use Rattle.conditions.specs.Seeing.{seen_of}
 use Rattle.conditions.proofs.Capacity.{grant_room}
 use Rattle.grant_line.specs.declared.GrantLine.{GrantLine}
-use Rattle.grant_line.specs.declared.Granted.{Granted}
-use Rattle.grant_line.specs.Lines.{grant_read, line_read, no_grant, unread_line, read_line, line_of, grant_line, LineRead}
-use Rattle.grant_line.specs.Granting.{lent_sound, grant_table, grant_made, words_made, with_words, granted, words_after, Grants}
+use Rattle.grant.specs.declared.Grant.{Grant}
+use Rattle.grant_line.specs.Lines.{grant_read, line_read, unread_line, read_line, line_of, grant_line, LineRead}
+use Rattle.grant_line.specs.Granting.{lent_sound, grant_table, grant_made, words_made, with_words, Grants}
 use Rattle.grant_line.proofs.Bounds.{grant_size, flat_enough, seen_flat, over_is}
 use Rattle.grant_line.proofs.Flags.{flags_of, flags, flags_said}
 
@@ -86,26 +85,21 @@ module _ (ns : List ℕ) (bs : Bytes) {l : GrantLine} (e : l ≡ grant_line ns b
 -- ---- the returns
 
 module _ (ns : List ℕ) (count : ℕ) (bs : Bytes) (ws : List ℕ) {l : GrantLine} {local : List ℕ} (read : LineRead ns bs (replicate 95 0) local l) {x a : Bool} (e : x ≡ lent_sound ns count (length ws)) (i : a ≡ (l.checks.bound || leb 24 count))
-    {v : Verdict} (m : v ≡ verdict_of (first (table (flags_of (not x) a l)))) where
+    {v : Said} (m : v ≡ result_of (first (table (flags_of (not x) a l)))) where
   flags_are : flags_of (not x) a l ≡ flags ns count (length ws) (grant_line ns bs)
   flags_are =
       ap (λ y. flags_of (not y) a l) e ∙ ap (λ y. flags_of (not (lent_sound ns count (length ws))) y l) i ∙ ap (flags ns count (length ws)) read.is
 
-  verdict_is : (gs : List M.Grant) → length gs ≡ count → v ≡ verdict_of (first (grant_table ns gs ws bs))
-  verdict_is gs h = m ∙ ap (λ y. verdict_of (first (table y))) flags_are ∙ ap verdict_of (flags_said ns count ws bs gs h)
+  result_is : (gs : List M.Grant) → length gs ≡ count → v ≡ result_of (first (grant_table ns gs ws bs))
+  result_is gs h = m ∙ ap (λ y. result_of (first (table y))) flags_are ∙ ap result_of (flags_said ns count ws bs gs h)
 
-  pub grant_refused : {f : Refusal} {r : Granted} → v ≡ Refused f → r ≡ record { verdict = Refused f; grant = no_grant } → Grants ns count bs ws ws r
-  unfolding granted words_after
-  grant_refused {f} d k =
-      record {
-        said = λ gs h. ap (λ y. y.verdict) k ∙ sym d ∙ verdict_is gs h;
-        given = k ∙ sym (ap (λ y. granted y.verdict (grant_made ns (parse_as G.grant bs))) k);
-        left = sym (ap (λ y. words_after y.verdict ws (with_words ns count (parse_as G.grant bs) ws)) k);
-      }
+  pub grant_refused : {f : Refusal} {r : Result Grant Refusal} → v ≡ Err f → r ≡ Err f → Grants ns count bs ws ws r
+  unfolding giving said_by settled
+  grant_refused d k = rw k (record { said = λ gs h. sym d ∙ result_is gs h; given = refl; left = refl })
 
-  module _ (d : v ≡ Accepted) where
+  module _ (d : v ≡ Ok tt) where
     clear : (not x ≡ false) × (l.checks.long ≡ false) × (l.checks.malformed ≡ false) × (a ≡ false)
-    clear = early (flags_of (not x) a l) (verdict_none (first (table (flags_of (not x) a l))) (sym m ∙ d))
+    clear = early (flags_of (not x) a l) (result_none (first (table (flags_of (not x) a l))) (sym m ∙ d))
 
     unbound : l.checks.bound ≡ false
     unbound = or_first l.checks.bound (leb 24 count) (sym i ∙ clear.3)
@@ -126,11 +120,11 @@ module _ (ns : List ℕ) (count : ℕ) (bs : Bytes) (ws : List ℕ) {l : GrantLi
     pub copy_room : count * 95 + l.grant.words ≤ length ws
     copy_room = let h = count_below in let k = words_below in let r = room in omega arith
 
-    pub grant_accepted : {ws' : List ℕ} → ws' ≡ paste ws (count * 95) local l.grant.words → Grants ns count bs ws ws' (record { verdict = Accepted; grant = l.grant })
-    unfolding granted words_after with_words
+    pub grant_accepted : {ws' : List ℕ} → ws' ≡ paste ws (count * 95) local l.grant.words → Grants ns count bs ws ws' (Ok l.grant)
+    unfolding giving said_by settled with_words
     grant_accepted k =
         record {
-          said = λ gs h. sym d ∙ verdict_is gs h;
-          given = ap (λ g. record { verdict = Accepted; grant = g }) (made_is ns bs read.is clear.2 unbound);
+          said = λ gs h. sym d ∙ result_is gs h;
+          given = ap (λ g. Ok g) (made_is ns bs read.is clear.2 unbound);
           left = k ∙ ap₂ (λ us n. paste ws (count * 95) us n) (read.stored clear.2 unbound) (made_words ns bs read.is clear.2 unbound);
         }

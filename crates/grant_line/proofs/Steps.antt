@@ -2,19 +2,19 @@
 use mathlib.Core.Path.{◌≡◌, refl, sym, ap, ◌∙◌, subst}
 use mathlib.Core.List.{List, [], ◌∷◌, ◌++◌, map}
 use mathlib.Core.Bool.{true, false, ◌&&◌, not, cond}
-use mathlib.Core.Option.{Option, none, some, some-injective}
+use mathlib.Core.Option.{none, some, some-injective}
 use Prim.Native.Nat.{ℕ, ◌+◌, ◌*◌, ◌≤◌, ◌<◌}
 use native.Mathlib.Omega.{arith}
 use lib.Dec.{T, leb, ltb, leb→le, le→leb, ltb→lt}
 use lib.ListN.{length, get_or, replicate, length-replicate, length-map}
 use lib.Seq.{paste}
-use Rattle.refusal.specs.Numbers.{verdict_of}
+use Rattle.std.specs.Prelude.{Result, Ok, Err}
+use Rattle.refusal.specs.Results.{result_of, giving, said_by, held_after, settled}
 use Rattle.refusal.specs.Checks.{Check, first, passes, Ordered, checks_compute}
-use Rattle.refusal.specs.declared.Verdict.{Verdict}
-use Rattle.refusal.specs.declared.Verdict.TheVariants.{Accepted, Refused}
 use Rattle.refusal.specs.declared.Refusal.{Refusal}
 use Rattle.refusal.specs.declared.Refusal.TheVariants.{Lent}
-use Rattle.refusal.proofs.Verdicts.{not_accepted, verdict_none, stops}
+use Rattle.refusal.proofs.Verdicts.{stops}
+use Rattle.refusal.proofs.Results.{result_none, result_some}
 use Rattle.refusal.proofs.Passing.{pass_rest, pass_test, passes_first, first_skip}
 use Rattle.lists.specs.Lists.{every, empty?, gather}
 use Rattle.lists.proofs.Laws.{and_l, and_r, and_both, parts, true_T, T_true, every_map, every_both}
@@ -66,10 +66,9 @@ use Rattle.grant.proofs.Compared.{cond_fit}
 use Rattle.grant.proofs.Laid.{nodes_are}
 use Rattle.grant.proofs.Valid.{valid_sound}
 use Rattle.grant.proofs.Catalogues.{catalogue_length, catalogue_valid, catalogue_add, catalogue_sound_add}
-use Rattle.grant_line.specs.declared.Granted.{Granted}
 use Rattle.grant_line.specs.Parts.{holder_seen, limit_seen}
 use Rattle.grant_line.specs.Lines.{grant_read, line_read, no_grant, read_line, stored_of}
-use Rattle.grant_line.specs.Granting.{lent_sound, grant_table, grant_made, words_made, with_words, granted, words_after, grants_after, Grants}
+use Rattle.grant_line.specs.Granting.{lent_sound, grant_table, grant_made, words_made, with_words, grants_after, Grants}
 use Rattle.grant_line.proofs.Bounds.{holder, streams, shows, first_time, last_time, span, grant_tests, grant_size, flat_enough, seen_flat}
 use Rattle.grant_line.proofs.Parts.{right_low}
 use Rattle.grant_line.proofs.Known.{good_test, test_declared, role_good, shown_fine, tests_fine}
@@ -101,22 +100,19 @@ module _ (ns : List ℕ) (gs : List M.Grant) (ws : List ℕ) (bs : Bytes) (t : f
 
 -- ---- the call
 
-module _ (ns : List ℕ) (count : ℕ) (bs : Bytes) (ws ws' : List ℕ) (r : Granted) (call : Grants ns count bs ws ws' r) where
-  -- a refusal gives no grant, and leaves the words as they were
-  pub refused_kept : (r.verdict ≡ Accepted → ⊥) → (ws' ≡ ws) × (r.grant ≡ no_grant)
-  unfolding granted words_after
-  refused_kept f = go r.verdict refl f
-    where
-      go : (v : Verdict) → r.verdict ≡ v → (v ≡ Accepted → ⊥) → (ws' ≡ ws) × (r.grant ≡ no_grant)
-      go Accepted e f = absurd (f refl)
-      go (Refused q) e f = (
-        call.left ∙ ap (λ v. words_after v ws (with_words ns count (parse_as G.grant bs) ws)) e,
-        ap (λ x. x.grant) (call.given ∙ ap (λ v. granted v (grant_made ns (parse_as G.grant bs))) e),
-      )
+module _ (ns : List ℕ) (count : ℕ) (bs : Bytes) (ws ws' : List ℕ) (r : Result Grant Refusal) (call : Grants ns count bs ws ws' r) where
+  -- a refusal leaves the words as they were
+  pub refused_kept : {f : Refusal} → r ≡ Err f → ws' ≡ ws
+  unfolding said_by settled
+  refused_kept e = call.left ∙ ap (λ x. settled (said_by x) ws (with_words ns count (parse_as G.grant bs) ws)) e
 
-  module _ (a : r.verdict ≡ Accepted) where
+  module _ {made : Grant} (a : r ≡ Ok made) where
+    said_ok : said_by r ≡ Ok tt
+    unfolding said_by
+    said_ok = ap said_by a
+
     clear : (gs : List M.Grant) → length gs ≡ count → first (grant_table ns gs ws bs) ≡ none
-    clear gs h = verdict_none (first (grant_table ns gs ws bs)) (sym (call.said gs h) ∙ a)
+    clear gs h = result_none (first (grant_table ns gs ws bs)) (sym (call.said gs h) ∙ said_ok)
 
     -- as many grants as were accepted before, whichever they are
     abbrev any : List M.Grant
@@ -166,9 +162,9 @@ module _ (ns : List ℕ) (count : ℕ) (bs : Bytes) (ws ws' : List ℕ) (r : Gra
       flat : flat_enough g ≡ true
       flat = sym (grant_shallow bs g parsed) ∙ T_true (shallow 0 bs) (written_shallow 0 bs (parse_as G.grant bs) (grant_checks (schema_of ns) any) (line_pass ns any ws bs (clear any many)))
 
-      struct_is : r.grant ≡ (read_line ns g).grant
-      unfolding granted grant_made
-      struct_is = ap (λ x. x.grant) (call.given ∙ ap (λ v. granted v (grant_made ns (parse_as G.grant bs))) a) ∙ ap (grant_made ns) parsed
+      struct_is : made ≡ (read_line ns g).grant
+      unfolding giving held_after grant_made
+      struct_is = ap (λ x. held_after x no_grant) (sym a ∙ call.given ∙ ap (λ v. giving v (grant_made ns (parse_as G.grant bs))) said_ok) ∙ ap (grant_made ns) parsed
 
       -- the words of its conditions
       abbrev stored : List ℕ
@@ -181,8 +177,8 @@ module _ (ns : List ℕ) (count : ℕ) (bs : Bytes) (ws ws' : List ℕ) (r : Gra
       roomy = let e = stored_length in let h = fits in omega arith
 
       words_are : ws' ≡ paste ws (count * 95) stored (grant_size ns g)
-      unfolding words_after with_words words_made stored_of
-      words_are = call.left ∙ ap (λ v. words_after v ws (with_words ns count (parse_as G.grant bs) ws)) a ∙ ap (λ o. with_words ns count o ws) parsed
+      unfolding settled with_words words_made stored_of
+      words_are = call.left ∙ ap (λ v. settled v ws (with_words ns count (parse_as G.grant bs) ws)) said_ok ∙ ap (λ o. with_words ns count o ws) parsed
 
       pub accepted_length : length ws' ≡ length ws
       accepted_length = ap length words_are ∙ copied_length ws count stored (grant_size ns g) fits room roomy
@@ -265,7 +261,7 @@ module _ (ns : List ℕ) (count : ℕ) (bs : Bytes) (ws ws' : List ℕ) (r : Gra
       abbrev columns : ℕ
       columns = streams_mask ns (places_of (streams ns g).count (streams ns g).places)
 
-      read_is : r.grant ≡ grant_read columns (holder g) (streams ns g) (shows ns g) (seen_of ns (grant_tests g) 0 (grant_size ns g)) (first_time g) (last_time g) (span g)
+      read_is : made ≡ grant_read columns (holder g) (streams ns g) (shows ns g) (seen_of ns (grant_tests g) 0 (grant_size ns g)) (first_time g) (last_time g) (span g)
       unfolding read_line line_read
       read_is = struct_is ∙ ap (λ c. grant_read columns (holder g) (streams ns g) (shows ns g) c (first_time g) (last_time g) (span g)) (seen_flat ns g flat fits)
 
@@ -293,7 +289,7 @@ module _ (ns : List ℕ) (count : ℕ) (bs : Bytes) (ws ws' : List ℕ) (r : Gra
           )
 
       -- the grant that the line says
-      pub accepted_grant : grant_of ns r.grant (words_in ws' count) ≡ resolve_grant (schema_of ns) g
+      pub accepted_grant : grant_of ns made (words_in ws' count) ≡ resolve_grant (schema_of ns) g
       accepted_grant = ap (λ x. grant_of ns x (words_in ws' count)) read_is ∙ read_means (words_in ws' count) conditions_are_said
 
       -- ---- it may be lent
@@ -346,9 +342,9 @@ module _ (ns : List ℕ) (count : ℕ) (bs : Bytes) (ws ws' : List ℕ) (r : Gra
           let h = laid in
           search wholes depth 9
 
-      pub accepted_sound : T (grant_sound ns r.grant (words_in ws' count))
+      pub accepted_sound : T (grant_sound ns made (words_in ws' count))
       accepted_sound =
-          valid_sound ns r.grant (words_in ws' count) (subst (λ x. T (grant_tidy ns x (words_in ws' count))) (sym read_is) read_tidy)
+          valid_sound ns made (words_in ws' count) (subst (λ x. T (grant_tidy ns x (words_in ws' count))) (sym read_is) read_tidy)
           (subst (λ x. T (valid_grant (schema_of ns) x)) (sym accepted_grant) grant_valid)
 
   -- ---- the catalogue
@@ -360,30 +356,30 @@ module _ (ns : List ℕ) (count : ℕ) (bs : Bytes) (ws ws' : List ℕ) (r : Gra
     catalogue_many : length catalogue ≡ count
     catalogue_many = catalogue_length ns gs ws ∙ many
 
-    module _ (a : r.verdict ≡ Accepted) where
+    module _ {made : Grant} (a : r ≡ Ok made) where
       same_places : (g : G.GrantLine) → parse_as G.grant bs ≡ some g → (j : ℕ) → j < length gs → words_in ws' j ≡ words_in ws j
       same_places g p j h = accepted_others a g p j (λ e. let m = many in omega arith)
 
-      added : (g : G.GrantLine) → parse_as G.grant bs ≡ some g → catalogue_of ns (gs ++ (r.grant ∷ [])) ws' ≡ catalogue ++ (resolve_grant (schema_of ns) g ∷ [])
+      added : (g : G.GrantLine) → parse_as G.grant bs ≡ some g → catalogue_of ns (gs ++ (made ∷ [])) ws' ≡ catalogue ++ (resolve_grant (schema_of ns) g ∷ [])
       added g p =
-          catalogue_add ns gs r.grant ws ws' (same_places g p)
-          ∙ ap (λ x. catalogue ++ (x ∷ [])) (ap (λ n. grant_of ns r.grant (words_in ws' n)) many ∙ accepted_grant a g p)
+          catalogue_add ns gs made ws ws' (same_places g p)
+          ∙ ap (λ x. catalogue ++ (x ∷ [])) (ap (λ n. grant_of ns made (words_in ws' n)) many ∙ accepted_grant a g p)
 
-      added_sound : T (catalogue_sound ns (gs ++ (r.grant ∷ [])) ws')
+      added_sound : T (catalogue_sound ns (gs ++ (made ∷ [])) ws')
       added_sound =
           accepted_read a (λ g p.
           let b = below a g p in
           let m = many in
-          catalogue_sound_add ns gs r.grant ws ws' (same_places g p) (accepted_length a g p) (omega arith) held (subst (λ n. T (grant_sound ns r.grant (words_in ws' n))) (sym many) (accepted_sound a g p)))
+          catalogue_sound_add ns gs made ws ws' (same_places g p) (accepted_length a g p) (omega arith) held (subst (λ n. T (grant_sound ns made (words_in ws' n))) (sym many) (accepted_sound a g p)))
 
     -- it may be lent again
-    pub next_sound : T (catalogue_sound ns (grants_after r.verdict gs r.grant) ws')
+    pub next_sound : T (catalogue_sound ns (grants_after r gs) ws')
     unfolding grants_after
-    next_sound = go r.verdict refl
+    next_sound = go r refl
       where
-        go : (v : Verdict) → r.verdict ≡ v → T (catalogue_sound ns (grants_after v gs r.grant) ws')
-        go Accepted e = added_sound e
-        go (Refused f) e = subst (λ us. T (catalogue_sound ns gs us)) (sym (refused_kept (λ a. not_accepted f (sym e ∙ a))).0) held
+        go : (x : Result Grant Refusal) → r ≡ x → T (catalogue_sound ns (grants_after x gs) ws')
+        go (Ok made) e = added_sound e
+        go (Err f) e = subst (λ us. T (catalogue_sound ns gs us)) (sym (refused_kept e)) held
 
     -- ---- and is the next catalogue of the definitions
 
@@ -398,27 +394,27 @@ module _ (ns : List ℕ) (count : ℕ) (bs : Bytes) (ws ws' : List ℕ) (r : Gra
           (and_both (schema_sound ns && leb (length gs) 24) (leb 2280 (length ws)) (and_both (schema_sound ns) (leb (length gs) 24) sound (search parts)) (search parts))
 
       -- what is said is what the definitions' table says after 12
-      pub here_said : r.verdict ≡ verdict_of (first line_checks)
+      pub here_said : said_by r ≡ result_of (first line_checks)
       unfolding grant_table
-      here_said = call.said catalogue catalogue_many ∙ ap verdict_of (first_skip Lent (lent_sound ns (length catalogue) (length ws)) line_checks lent_now)
+      here_said = call.said catalogue catalogue_many ∙ ap result_of (first_skip Lent (lent_sound ns (length catalogue) (length ws)) line_checks lent_now)
 
       there_said : first (D.grant_table (schema_of ns) catalogue bs) ≡ first line_checks
       unfolding D.grant_table
       there_said =
           first_skip Lent (valid_schema (schema_of ns)) _ (S.sound_valid ns sound) ∙ first_skip Lent (valid_catalogue (schema_of ns) catalogue) line_checks (catalogue_valid ns gs ws held)
 
-      pub next_is : catalogue_of ns (grants_after r.verdict gs r.grant) ws' ≡ next_catalogue (schema_of ns) (catalogue_of ns gs ws) bs
-      unfolding grants_after next_catalogue with_grant
-      next_is = go (first line_checks) refl
+      pub next_is : catalogue_of ns (grants_after r gs) ws' ≡ next_catalogue (schema_of ns) (catalogue_of ns gs ws) bs
+      unfolding grants_after next_catalogue with_grant said_by
+      next_is = go r refl
         where
           taken : T (passes (D.grant_table (schema_of ns) catalogue bs)) → (g : G.GrantLine) → parse_as G.grant bs ≡ some g → next_catalogue (schema_of ns) catalogue bs ≡ catalogue ++ (resolve_grant (schema_of ns) g ∷ [])
           taken t g p = rw (T_true (passes (D.grant_table (schema_of ns) catalogue bs)) t, p)
 
-          go : (o : Option Refusal) → first line_checks ≡ o → catalogue_of ns (grants_after r.verdict gs r.grant) ws' ≡ next_catalogue (schema_of ns) catalogue bs
-          go none e =
-              let v : r.verdict ≡ Accepted = here_said ∙ ap verdict_of e in
-              accepted_read v (λ g p. ap (λ u. catalogue_of ns (grants_after u gs r.grant) ws') v ∙ added v g p ∙ sym (taken (passes_first (D.grant_table (schema_of ns) catalogue bs) (there_said ∙ e)) g p))
-          go (some f) e =
-              let v : r.verdict ≡ Refused f = here_said ∙ ap verdict_of e in
-              let k : passes (D.grant_table (schema_of ns) catalogue bs) ≡ false = stops (D.grant_table (schema_of ns) catalogue bs) f (there_said ∙ e) in
-              ap (λ u. catalogue_of ns (grants_after u gs r.grant) ws') v ∙ ap (catalogue_of ns gs) (refused_kept (λ a. not_accepted f (sym v ∙ a))).0 ∙ sym (rw k)
+          go : (x : Result Grant Refusal) → r ≡ x → catalogue_of ns (grants_after x gs) ws' ≡ next_catalogue (schema_of ns) catalogue bs
+          go (Ok made) e =
+              let v = result_none (first line_checks) (sym here_said ∙ ap said_by e) in
+              accepted_read e (λ g p. added e g p ∙ sym (taken (passes_first (D.grant_table (schema_of ns) catalogue bs) (there_said ∙ v)) g p))
+          go (Err f) e =
+              let v = result_some (first line_checks) f (sym here_said ∙ ap said_by e) in
+              let k : passes (D.grant_table (schema_of ns) catalogue bs) ≡ false = stops (D.grant_table (schema_of ns) catalogue bs) f (there_said ∙ v) in
+              ap (catalogue_of ns gs) (refused_kept e) ∙ sym (rw k)

@@ -1,12 +1,11 @@
 -- The grant call: its table, and what it leaves.
-use Rattle.std.specs.Prelude.{◌≡◌, List, [], ◌∷◌, ◌++◌, map, Bool, ◌&&◌, not, ℕ, ◌*◌, leb, length, replicate}
+use Rattle.std.specs.Prelude.{◌≡◌, List, [], ◌∷◌, ◌++◌, map, Bool, ◌&&◌, not, ℕ, ◌*◌, leb, length, replicate, Result, Ok, Err}
 use Rattle.std.proofs.Math.Option.{Option, none, some}
 use Rattle.std.proofs.Math.Seq.{paste}
-use Rattle.refusal.specs.Numbers.{verdict_of}
+use Rattle.refusal.specs.Results.{result_of, giving, said_by, settled}
 use Rattle.refusal.specs.Checks.{Check, refuse, first}
+use Rattle.refusal.specs.declared.Refusal.{Refusal}
 use Rattle.refusal.specs.declared.Refusal.TheVariants.{Lent}
-use Rattle.refusal.specs.declared.Verdict.{Verdict}
-use Rattle.refusal.specs.declared.Verdict.TheVariants.{Accepted, Refused}
 use Rattle.syntax.specs.Grammar as G
 use Rattle.syntax.specs.Grammar.{Bytes}
 use Rattle.syntax.specs.Limits.{max_grants}
@@ -20,7 +19,6 @@ use Rattle.conditions.specs.Seeing.{nodes_of}
 use Rattle.grant.specs.Grants.{grant_words}
 use Rattle.grant.specs.Catalogues.{catalogue_words}
 use Rattle.grant.specs.declared.Grant.{Grant}
-use Rattle.grant_line.specs.declared.Granted.{Granted}
 use Rattle.grant_line.specs.Lines.{no_grant, read_line, stored_of}
 
 -- refusal 12: the schema, how many grants there are, and memory enough
@@ -45,21 +43,13 @@ words_made ns (some g) = list_size (map (nodes_of ns) g.when)
 unfoldable pub with_words : List ℕ → ℕ → Option G.GrantLine → List ℕ → List ℕ
 with_words ns count o ws = paste ws (count * grant_words) (stored_of ns o (replicate grant_words 0)) (words_made ns o)
 
-unfoldable pub granted : Verdict → Grant → Granted
-granted Accepted g = record { verdict = Accepted; grant = g }
-granted (Refused f) g = record { verdict = Refused f; grant = no_grant }
-
-unfoldable pub words_after : Verdict → List ℕ → List ℕ → List ℕ
-words_after Accepted old new = new
-words_after (Refused f) old new = old
-
 -- the grants that are kept after the call: an accepted one behind the others
-unfoldable pub grants_after : Verdict → List Grant → Grant → List Grant
-grants_after Accepted gs g = gs ++ (g ∷ [])
-grants_after (Refused f) gs g = gs
+unfoldable pub grants_after : Result Grant Refusal → List Grant → List Grant
+grants_after (Ok g) gs = gs ++ (g ∷ [])
+grants_after (Err f) gs = gs
 
--- the first check that fails, no grant, and the words as they were; or the grant of the line, and the words with its conditions in the place of that number
-pub record Grants (ns : List ℕ) (count : ℕ) (bs : Bytes) (ws ws' : List ℕ) (r : Granted) : Type 0 where
-  pub said : (gs : List M.Grant) → length gs ≡ count → r.verdict ≡ verdict_of (first (grant_table ns gs ws bs))
-  pub given : r ≡ granted r.verdict (grant_made ns (parse_as G.grant bs))
-  pub left : ws' ≡ words_after r.verdict ws (with_words ns count (parse_as G.grant bs) ws)
+-- the first check that fails, and the words as they were; or the grant of the line, and the words with its conditions in the place of that number
+pub record Grants (ns : List ℕ) (count : ℕ) (bs : Bytes) (ws ws' : List ℕ) (r : Result Grant Refusal) : Type 0 where
+  pub said : (gs : List M.Grant) → length gs ≡ count → said_by r ≡ result_of (first (grant_table ns gs ws bs))
+  pub given : r ≡ giving (said_by r) (grant_made ns (parse_as G.grant bs))
+  pub left : ws' ≡ settled (said_by r) ws (with_words ns count (parse_as G.grant bs) ws)

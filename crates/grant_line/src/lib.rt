@@ -6,7 +6,6 @@ ghost use Rattle.std.proofs.Math.Seq.{paste};
 ghost use Rattle.syntax.specs.Limits.{max_line};
 ghost use Rattle.text.specs.Words.{name_of};
 ghost use Rattle.masks.specs.Masks.{inside};
-ghost use Rattle.refusal.specs.declared.Verdict.TheVariants.{Refused};
 ghost use Rattle.grant.specs.Grants.{grant_words, no_time};
 ghost use Rattle.grant_line.specs.Parts.{holder_at, of_at, shown_all, shown_listed, star_at, show_at, WhenRead, limit_at, span_at, window_at};
 ghost use Rattle.grant_line.specs.Lines.{over_read, misplaced_read, grant_read, line_read, no_grant, unread_line, RestRead, LineRead};
@@ -16,7 +15,7 @@ use columns::{Columns, Streams};
 use conditions::Seen;
 use grant::Grant;
 use nodes::Node;
-use refusal::{Checks, Refusal, Verdict};
+use refusal::{Checks, Refusal};
 use text::{Line, Word};
 
 // Whose a grant is, and its right by number.
@@ -69,13 +68,6 @@ pub struct Rest {
 #[derive(Clone, Copy)]
 pub struct GrantLine {
     pub checks: Checks,
-    pub grant: Grant,
-}
-
-// The verdict, and the grant where it is accepted.
-#[derive(Clone, Copy)]
-pub struct Granted {
-    pub verdict: Verdict,
     pub grant: Grant,
 }
 
@@ -255,7 +247,8 @@ fn unread(long: bool) -> GrantLine
     }
 }
 
-fn no_grant() -> Grant
+// Returns a grant of zeros.
+pub fn no_grant() -> Grant
     ensures { result ≡ no_grant }
 {
     Grant {
@@ -461,20 +454,9 @@ fn copy(words: &mut [u32], at: usize, from: &[u32], n: usize)
     words[at..at + n].copy_from_slice(&from[..n]);
 }
 
-// A refusal, with no grant.
-fn refused(f: Refusal) -> Granted
-    ensures { result ≡ (record { verdict = Refused f; grant = no_grant }) }
-{
-    let grant = no_grant();
-    Granted {
-        verdict: Verdict::Refused(f),
-        grant: grant,
-    }
-}
-
-// The grant line, where `count` grants were accepted before. Returns the verdict and the grant. Leaves the words of its conditions in its place, and all others as they were;
-// refused, all words as they were, and the grant is of zeros.
-pub fn grant(names: &[u64], count: usize, line: &[u8], words: &mut [u32]) -> Granted
+// The grant line, where `count` grants were accepted before. Returns the grant, or the refusal. Leaves the words of its conditions in its place, and all others as they were;
+// refused, all words as they were.
+pub fn grant(names: &[u64], count: usize, line: &[u8], words: &mut [u32]) -> Result<Grant, Refusal>
     ensures { Grants names.now count line.now words.old words.new result }
 {
     let mut local = [0u32; Grant::PLACE];
@@ -482,16 +464,8 @@ pub fn grant(names: &[u64], count: usize, line: &[u8], words: &mut [u32]) -> Gra
     let mut checks = l.checks;
     checks.lent = !lendable(names, count, words.len());
     checks.bound = text::either(checks.bound, Grant::GRANTS <= count);
-    let v = checks.verdict();
-    match v {
-        Verdict::Refused(f) => refused(f),
-        Verdict::Accepted => {
-            let g = l.grant;
-            copy(words, count * Grant::PLACE, &local, g.words as usize);
-            Granted {
-                verdict: Verdict::Accepted,
-                grant: g,
-            }
-        }
-    }
+    checks.result()?;
+    let g = l.grant;
+    copy(words, count * Grant::PLACE, &local, g.words as usize);
+    Ok(g)
 }
