@@ -148,6 +148,15 @@ pub record Walk (h : ℕ → List Route) (m : ℕ) (r₀ r : Routes) (i : ℕ) :
   pub at : At m i
   pub same : with_routes r (gather h (bits_from m i)) ≡ with_routes r₀ (gather h (bits_from m 0))
 
+pub at_start : {m i : ℕ} → i ≡ next_bit m 0 → At m i
+at_start e = at_next (next_found (omega arith) e)
+
+pub at_more : {m i k : ℕ} → i < 32 → k ≡ next_bit m (i + 1) → At m k
+at_more l f = at_next (next_found (omega arith) f)
+
+pub at_falls : {m i k : ℕ} → At m i → i < 32 → k ≡ next_bit m (i + 1) → 32 - k < 32 - i
+at_falls a l f = at_less a l (next_found (omega arith) f)
+
 module _ {h : ℕ → List Route} {m : ℕ} where
   pub walk_start : (r : Routes) {i : ℕ} → i ≡ next_bit m 0 → Walk h m r r i
   walk_start r e = let n = next_found (omega arith) e in record { at = at_next n; same = ap (λ l. with_routes r (gather h l)) (sym (bits_next n)) }
@@ -162,7 +171,7 @@ module _ {h : ℕ → List Route} {m : ℕ} where
         }
 
     pub walk_less : i < 32 → {k : ℕ} → k ≡ next_bit m (i + 1) → 32 - k < 32 - i
-    walk_less l f = at_less w.at l (next_found (omega arith) f)
+    walk_less l f = at_falls w.at l f
 
     pub walk_end : 32 ≤ i → r ≡ with_routes r₀ (gather h (bits_from m 0))
     unfolding gather with_routes
@@ -185,17 +194,12 @@ select_each : (p : Route → Bool) (f : ℕ → Route) (xs : List ℕ) → gathe
 select_each p f xs = sym (ap (select p) (sym (gather_ones (map f xs)) ∙ gather_map (λ x. x ∷ []) f xs) ∙ select_gather p (λ x. f x ∷ []) xs)
 
 module _ (g : Gate) (shown : List ℕ) {r₀ r : Routes} {i : ℕ} where
-  pub each_lone : {m : ℕ} (k : ℕ) → Walk (λ j. kept g shown (lone_route k j ∷ [])) m r₀ r i → 32 ≤ i → r ≡ with_routes r₀ (kept g shown (map (lone_route k) (places_in m)))
-  each_lone {m} k w l = walk_end w l ∙ ap (with_routes r₀) (select_each (leaves_some g shown) (lone_route k) (places_in m))
-
-  pub each_right : {m : ℕ} (p : ℕ) → Walk (λ j. kept g shown (side_route p j ∷ [])) m r₀ r i → 32 ≤ i → places_in m ≡ right_sides g p → r ≡ with_routes r₀ (kept g shown (map (side_route p) (right_sides g p)))
-  each_right {m} p w l e = walk_end w l ∙ ap (with_routes r₀) (select_each (leaves_some g shown) (side_route p) (places_in m) ∙ ap (λ js. kept g shown (map (side_route p) js)) e)
+  pub each_made : {m : ℕ} (f : ℕ → Route) → Walk (λ j. kept g shown (f j ∷ [])) m r₀ r i → 32 ≤ i → r ≡ with_routes r₀ (kept g shown (map f (places_in m)))
+  each_made {m} f w l = walk_end w l ∙ ap (with_routes r₀) (select_each (leaves_some g shown) f (places_in m))
 
   pub each_left : Walk (λ p. kept g shown (map (side_route p) (right_sides g p))) g.left r₀ r i → 32 ≤ i → r ≡ with_routes r₀ (kept g shown (side_routes g))
   unfolding side_routes
   each_left w l = walk_end w l ∙ sym (ap (with_routes r₀) (select_gather (leaves_some g shown) (λ p. map (side_route p) (right_sides g p)) (places_in g.left)))
-
-pub ruleset each_ends = (each_lone, each_right, each_left)
 
 -- ---- all routes
 

@@ -1,7 +1,7 @@
 // The routes that a caller's grants open for a query: which grants open it, one at a time, and then every route by the places of its grants.
 #![tactic(auto)]
 
-ghost use Rattle.std.specs.Prelude.{◌≡◌, [], ◌∷◌, map, ◌&&◌, ◌||◌, cond, ◌+◌, ◌<◌, ◌≤◌, leb, eqb};
+ghost use Rattle.std.specs.Prelude.{◌≡◌, ℕ, [], ◌∷◌, map, ◌&&◌, ◌||◌, cond, ◌+◌, ◌<◌, ◌≤◌, leb, eqb};
 ghost use Rattle.lists.specs.Lists.{some?, same_list, select};
 ghost use Rattle.syntax.specs.Limits.{max_routes};
 ghost use Rattle.text.specs.Words.{name_of};
@@ -360,27 +360,39 @@ impl Routes {
         self.with(x)
     }
 
+    // With the routes that the places of a mask have, one each.
+    fn with_each<F: Fn(u32) -> Route>(self, g: Gate, shown: &[u32], m: u32, route: F) -> Self
+        requires callable { F.IsAlwaysCallable route }
+        requires low { (i : ℕ) (x : _) → i < 32 → F.post route i x → Low x }
+        requires room { self.count + 32 ≤ most_opened }
+        ensures routes { (f : ℕ → _) → ((i : ℕ) (x : _) → i < 32 → F.post route i x → x ≡ f i) → result ≡ with_routes self (select (leaves_some g shown.now) (map f (places_in m))) }
+        ensures count { result.count ≤ self.count + 32 }
+    {
+        let mut r = self;
+        let mut i = rows::next_bit(m, 0);
+        while i < Rows::WORD {
+            r = r.with_leaving(g, shown, route(i));
+            i = rows::next_bit(m, i + 1);
+        }
+        r
+    }
+
     // With the routes of a place on the left.
     fn with_rights(self, g: Gate, shown: &[u32], place: u32) -> Self
         requires { (place < 32) × (self.count + 32 ≤ most_opened) }
         ensures { (result ≡ with_routes self (select (leaves_some g shown.now) (map (side_route place) (right_sides g place)))) × (result.count ≤ self.count + 32) }
     {
         let m = right_sides(g, place);
-        let mut r = self;
-        let mut j = rows::next_bit(m, 0);
-        while j < Rows::WORD {
-            r = r.with_leaving(
-                g,
-                shown,
-                Route {
-                    kind: Route::SIDES,
-                    left: place,
-                    right: j,
-                },
-            );
-            j = rows::next_bit(m, j + 1);
-        }
-        r
+        self.with_each(
+            g,
+            shown,
+            m,
+            |j| Route {
+                kind: Route::SIDES,
+                left: place,
+                right: j,
+            },
+        )
     }
 
     // With the routes of all places on the left.
@@ -402,21 +414,16 @@ impl Routes {
         requires { (kind ≤ 3) × (self.count + 32 ≤ most_opened) }
         ensures { (result ≡ with_routes self (select (leaves_some g shown.now) (map (lone_route kind) (places_in m)))) × (result.count ≤ self.count + 32) }
     {
-        let mut r = self;
-        let mut i = rows::next_bit(m, 0);
-        while i < Rows::WORD {
-            r = r.with_leaving(
-                g,
-                shown,
-                Route {
-                    kind: kind,
-                    left: i,
-                    right: i,
-                },
-            );
-            i = rows::next_bit(m, i + 1);
-        }
-        r
+        self.with_each(
+            g,
+            shown,
+            m,
+            |i| Route {
+                kind: kind,
+                left: i,
+                right: i,
+            },
+        )
     }
 }
 

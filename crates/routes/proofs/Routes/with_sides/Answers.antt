@@ -1,6 +1,6 @@
 -- `with_sides`: a walk through the places on the left.
 use borrow.Author.Rules.{rules}
-use Rattle.routes.proofs.Listed.{Walk_Ends, each_ends}
+use Rattle.routes.proofs.Listed.{Walk_Ends, each_left}
 use Rattle.routes.proofs.Routes.with_sides.Goals as goal
 
 pub loop-i-init : goal.loop-i-init
@@ -13,4 +13,4 @@ pub loop-i-preserved : goal.loop-i-preserved
 loop-i-preserved c = (search Walk_Ends, search Walk_Ends)
 
 pub returns : goal.returns
-returns c = (search each_ends, search rules)
+returns c = (search (each_left), search rules)
