@@ -9,7 +9,7 @@ use Rattle.refusal.specs.Checks.{refuse, first}
 use Rattle.refusal.specs.declared.Refusal.TheVariants.{Lent}
 use Rattle.refusal.specs.declared.Verdict.TheVariants.{Refused}
 use Rattle.std.specs.Prelude.{Err}
-use Rattle.refusal.specs.Results.{Said, held_after}
+use Rattle.refusal.specs.Results.{held_after}
 use Rattle.refusal.proofs.Results.{result_some}
 use Rattle.refusal.proofs.Verdicts.{verdict_some, never_first}
 use Rattle.lists.specs.Lists.{every}

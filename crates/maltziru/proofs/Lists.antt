@@ -22,7 +22,7 @@ use Rattle.history.specs.Fixtures.{Store, with_grants, with_caller, Happens, cal
 use Rattle.demands.specs.Recording as D
 use Rattle.maltziru.specs.declared.GrantReply.{GrantReply}
 use Rattle.maltziru.specs.declared.CallerReply.{CallerReply}
-use Rattle.maltziru.specs.Calls.{said, caller_said}
+use Rattle.maltziru.specs.Calls.{verdict_said, caller_said}
 use Rattle.maltziru.specs.Lists as C
 use Rattle.maltziru.specs.Lists.{OnRecord, Recorded, grants_kept, Called, Calls}
 use Rattle.maltziru.proofs.Said.{same_ledger}
@@ -43,7 +43,7 @@ some_number ManyRoutes = refl
 some_number NoRoom = refl
 
 -- a grant is kept where the verdict says so
-pub kept_after : (v : Verdict) (gs : List Grant) (g : Grant) → grants_kept (said v) gs g ≡ grants_after v gs g
+pub kept_after : (v : Verdict) (gs : List Grant) (g : Grant) → grants_kept (verdict_said v) gs g ≡ grants_after v gs g
 unfolding grants_kept grants_after
 kept_after Accepted gs g = refl
 kept_after (Refused f) gs g = rw (some_number f) refl
@@ -54,12 +54,12 @@ relaid {c} m h = subst (λ l. Promise c m (with_ledger m l)) h
 
 pub promised : {c : Call} {m n : Memory} {k : ℕ} → OnRecord c m n k → Promise c m n
 promised (C.stream_called c) = declared c.call
-promised (C.clock_called {m} {t} {r} h) = relaid m (same_ledger (clock_call m.ledger t) h) (clocked refl)
+promised (C.clock_called {m} {t} {r} h) = relaid m (same_ledger m.ledger (clock_call m.ledger t) h) (clocked refl)
 promised (C.row_called c) = rowed c.call
-promised (C.clear_called {m} {r} h) = relaid m (same_ledger (clear_call m.ledger) h) (cleared refl)
-promised (C.clock_line_called {m} {bs} {r} h) = relaid m (same_ledger (clock_line_call m.ledger bs) h) (clock_lined refl)
+promised (C.clear_called {m} {r} h) = relaid m (same_ledger m.ledger (clear_call m.ledger) h) (cleared refl)
+promised (C.clock_line_called {m} {bs} {r} h) = relaid m (same_ledger m.ledger (clock_line_call m.ledger bs) h) (clock_lined refl)
 promised (C.row_line_called c) = row_lined c.call
-promised (C.clear_line_called {m} {bs} {r} h) = relaid m (same_ledger (clear_line_call m.ledger bs) h) (clear_lined refl)
+promised (C.clear_line_called {m} {bs} {r} h) = relaid m (same_ledger m.ledger (clear_line_call m.ledger bs) h) (clear_lined refl)
 
 pub recorded : {cs : List Call} {m u : Memory} → Recorded m cs u → D.Recorded m cs u
 recorded C.stop = D.stop

@@ -5,30 +5,27 @@ use mathlib.Core.Option.{Option, none, some}
 use Prim.Native.Nat.{ℕ}
 use Rattle.refusal.specs.declared.Refusal.{Refusal}
 use Rattle.refusal.specs.Numbers.{verdict_of}
+use Rattle.refusal.specs.Results.{Said, result_of, settled}
+use Rattle.refusal.proofs.Results.{said_giving, held_giving, settled_old}
 use Rattle.refusal.specs.Checks.{Check, first, Ordered, checks_compute}
 use Rattle.refusal.specs.declared.Verdict.{Verdict}
 use Rattle.refusal.specs.declared.Verdict.TheVariants.{Accepted, Refused}
 use Rattle.calls.specs.Events.{Event, call, grant, caller, query}
 use Rattle.calls.specs.Calls.{Call, stream, clock, row, clear, clock_line, row_line, clear_line}
-use Rattle.stream_line.specs.Declaring.{names_after}
-use Rattle.ledger.specs.declared.Ledger.{Ledger}
 use Rattle.ledger.specs.Records.{Memory, with_ledger, with_names}
-use Rattle.ledger.specs.Calls.{entered, clock_call, clear_call, memory_after}
+use Rattle.ledger.specs.Calls.{clock_call, clear_call}
 use Rattle.record_lines.specs.Calls.{clock_line_call, clear_line_call}
-use Rattle.caller.specs.declared.Caller.{Caller}
-use Rattle.caller.specs.Lines.{outcome, identified}
-use Rattle.caller.proofs.Identifying.{outcome_said}
+use Rattle.caller.specs.Lines.{identified}
 use Rattle.grant.specs.declared.Grant.{Grant}
 use Rattle.grant.specs.Catalogues.{catalogue_of}
 use Rattle.grant.proofs.Catalogues.{catalogue_length}
-use Rattle.grant_line.specs.Granting.{words_after, grants_after}
+use Rattle.grant_line.specs.Granting.{grant_table, words_after, grants_after}
 use Rattle.history.specs.Fixtures.{Store, with_memory, with_grants, with_caller}
-use Rattle.history.proofs.Steps.{entered_verdict}
 use Rattle.history.proofs.Order as O
 use Rattle.demands.specs.Refusing.{refused_number, first_number}
 use Rattle.maltziru.specs.declared.GrantReply.{GrantReply}
 use Rattle.maltziru.specs.declared.CallerReply.{CallerReply}
-use Rattle.maltziru.specs.Calls.{said, caller_said}
+use Rattle.maltziru.specs.Calls.{said, verdict_said, caller_said}
 use Rattle.maltziru.specs.Lists as C
 use Rattle.maltziru.specs.Lists.{OnRecord, grants_kept, Called, record_table, table_of}
 use Rattle.maltziru.proofs.Said.{same_ledger, same_number}
@@ -36,30 +33,34 @@ use Rattle.maltziru.proofs.Lists.{kept_after}
 
 -- ---- the number that is returned
 
--- by the verdict of a table
-by_verdict : (o : Option Refusal) → said (verdict_of o) ≡ refused_number o
+-- by the result of a table
+by_result : (o : Option Refusal) → said (result_of o) ≡ refused_number o
+by_result none = refl
+by_result (some f) = refl
+
+by_verdict : (o : Option Refusal) → verdict_said (verdict_of o) ≡ said (result_of o)
 by_verdict none = refl
 by_verdict (some f) = refl
 
-said_first : (cs : List Check) → said (verdict_of (first cs)) ≡ first_number cs
+said_first : (cs : List Check) → said (result_of (first cs)) ≡ first_number cs
 unfolding first_number
-said_first cs = by_verdict (first cs)
+said_first cs = by_result (first cs)
 
-record_said : {c : Call} {m m' : Memory} {n : ℕ} → OnRecord c m m' n → n ≡ said (verdict_of (first (record_table c m)))
+record_said : {c : Call} {m m' : Memory} {n : ℕ} → OnRecord c m m' n → n ≡ said (result_of (first (record_table c m)))
 unfolding record_table clock_call clear_call clock_line_call clear_line_call
 record_said (C.stream_called c) = c.says ∙ ap said c.call.said
-record_said (C.clock_called {m} {t} {r} h) = same_number (clock_call m.ledger t) h ∙ ap said (entered_verdict _ _ _)
+record_said (C.clock_called {m} {t} {r} h) = same_number m.ledger (clock_call m.ledger t) h ∙ ap said (said_giving _ _)
 record_said (C.row_called c) = c.says ∙ ap said c.call.said
-record_said (C.clear_called {m} {r} h) = same_number (clear_call m.ledger) h ∙ ap said (entered_verdict _ _ _)
-record_said (C.clock_line_called {m} {bs} {r} h) = same_number (clock_line_call m.ledger bs) h ∙ ap said (entered_verdict _ _ _)
+record_said (C.clear_called {m} {r} h) = same_number m.ledger (clear_call m.ledger) h ∙ ap said (said_giving _ _)
+record_said (C.clock_line_called {m} {bs} {r} h) = same_number m.ledger (clock_line_call m.ledger bs) h ∙ ap said (said_giving _ _)
 record_said (C.row_line_called c) = c.says ∙ ap said c.call.said
-record_said (C.clear_line_called {m} {bs} {r} h) = same_number (clear_line_call m.ledger bs) h ∙ ap said (entered_verdict _ _ _)
+record_said (C.clear_line_called {m} {bs} {r} h) = same_number m.ledger (clear_line_call m.ledger bs) h ∙ ap said (said_giving _ _)
 
-says : {e : Event} {s t : Store} {n : ℕ} → Called e s t n → (e ≡ query → ⊥) → n ≡ said (verdict_of (first (table_of e s)))
+says : {e : Event} {s t : Store} {n : ℕ} → Called e s t n → (e ≡ query → ⊥) → n ≡ said (result_of (first (table_of e s)))
 unfolding table_of identified caller_said
 says (C.record_called c) o = record_said c
-says (C.grant_called {s} {bs} {ws} {r} c) o = ap (λ (x : GrantReply). x.refusal) c.says ∙ ap said (c.call.said _ (catalogue_length s.memory.names s.grants s.words))
-says (C.caller_called {s} {bs} {r} h) o = ap (λ (x : CallerReply). x.refusal) h ∙ ap said (outcome_said _ _ _)
+says (C.grant_called {s} {bs} {ws} {r} c) o = ap (λ (x : GrantReply). x.refusal) c.says ∙ ap verdict_said (c.call.said _ (catalogue_length s.memory.names s.grants s.words)) ∙ by_verdict (first (grant_table s.memory.names (catalogue_of s.memory.names s.grants s.words) s.words bs))
+says (C.caller_called {s} {bs} {r} h) o = ap (λ (x : CallerReply). x.refusal) h ∙ ap said (said_giving _ _)
 says (C.ask_called gs ws w bs cells h) o = absurd (o refl)
 says (C.line_called gs ws w n bs out h) o = absurd (o refl)
 
@@ -68,32 +69,15 @@ says_first {e} {s} c o = says c o ∙ said_first (table_of e s)
 
 -- ---- what a refusal leaves
 
-same_entered : (v : Verdict) (new old : Ledger) → (said v ≡ 0 → ⊥) → (entered v new old).ledger ≡ old
-unfolding entered
-same_entered Accepted new old ne = absurd (ne refl)
-same_entered (Refused f) new old ne = refl
+same : {A : Type 0} (v : Said) (old new : A) → (said v ≡ 0 → ⊥) → settled v old new ≡ old
+same v old new ne = settled_old v old new (λ a. ne (ap said a))
 
-same_outcome : (v : Verdict) (new old : Caller) → (said v ≡ 0 → ⊥) → (outcome v new old).caller ≡ old
-unfolding outcome
-same_outcome Accepted new old ne = absurd (ne refl)
-same_outcome (Refused f) new old ne = refl
-
-same_memory : (v : Verdict) (old new : Memory) → (said v ≡ 0 → ⊥) → memory_after v old new ≡ old
-unfolding memory_after
-same_memory Accepted old new ne = absurd (ne refl)
-same_memory (Refused f) old new ne = refl
-
-same_names : (v : Verdict) (ns : List ℕ) (o : _) → (said v ≡ 0 → ⊥) → names_after v ns o ≡ ns
-unfolding names_after
-same_names Accepted ns o ne = absurd (ne refl)
-same_names (Refused f) ns o ne = refl
-
-same_words : (v : Verdict) (old new : List ℕ) → (said v ≡ 0 → ⊥) → words_after v old new ≡ old
+same_words : (v : Verdict) (old new : List ℕ) → (verdict_said v ≡ 0 → ⊥) → words_after v old new ≡ old
 unfolding words_after
 same_words Accepted old new ne = absurd (ne refl)
 same_words (Refused f) old new ne = refl
 
-same_grants : (v : Verdict) (gs : List Grant) (g : Grant) → (said v ≡ 0 → ⊥) → grants_after v gs g ≡ gs
+same_grants : (v : Verdict) (gs : List Grant) (g : Grant) → (verdict_said v ≡ 0 → ⊥) → grants_after v gs g ≡ gs
 unfolding grants_after
 same_grants Accepted gs g ne = absurd (ne refl)
 same_grants (Refused f) gs g ne = refl
@@ -104,33 +88,33 @@ other e ne h = ne (e ∙ h)
 
 record_stays : {c : Call} {m m' : Memory} {n : ℕ} → OnRecord c m m' n → (n ≡ 0 → ⊥) → m' ≡ m
 unfolding clock_call clear_call clock_line_call clear_line_call
-record_stays (C.stream_called {m} c) ne = ap (with_names m) (c.call.left ∙ same_names c.verdict _ _ (other c.says ne))
+record_stays (C.stream_called {m} c) ne = ap (with_names m) (c.call.left ∙ same c.verdict _ _ (other c.says ne))
 record_stays (C.clock_called {m} {t} {r} h) ne =
     let e = clock_call m.ledger t in
-    ap (with_ledger m) (sym (same_ledger e h) ∙ same_entered _ _ _ (other (same_number e h ∙ ap said (entered_verdict _ _ _)) ne))
-record_stays (C.row_called c) ne = c.call.left ∙ same_memory c.verdict _ _ (other c.says ne)
+    ap (with_ledger m) (sym (same_ledger m.ledger e h) ∙ held_giving _ _ m.ledger ∙ same _ _ _ (other (same_number m.ledger e h ∙ ap said (said_giving _ _)) ne))
+record_stays (C.row_called c) ne = c.call.left ∙ same c.verdict _ _ (other c.says ne)
 record_stays (C.clear_called {m} {r} h) ne =
     let e = clear_call m.ledger in
-    ap (with_ledger m) (sym (same_ledger e h) ∙ same_entered _ _ _ (other (same_number e h ∙ ap said (entered_verdict _ _ _)) ne))
+    ap (with_ledger m) (sym (same_ledger m.ledger e h) ∙ held_giving _ _ m.ledger ∙ same _ _ _ (other (same_number m.ledger e h ∙ ap said (said_giving _ _)) ne))
 record_stays (C.clock_line_called {m} {bs} {r} h) ne =
     let e = clock_line_call m.ledger bs in
-    ap (with_ledger m) (sym (same_ledger e h) ∙ same_entered _ _ _ (other (same_number e h ∙ ap said (entered_verdict _ _ _)) ne))
-record_stays (C.row_line_called c) ne = c.call.left ∙ same_memory c.verdict _ _ (other c.says ne)
+    ap (with_ledger m) (sym (same_ledger m.ledger e h) ∙ held_giving _ _ m.ledger ∙ same _ _ _ (other (same_number m.ledger e h ∙ ap said (said_giving _ _)) ne))
+record_stays (C.row_line_called c) ne = c.call.left ∙ same c.verdict _ _ (other c.says ne)
 record_stays (C.clear_line_called {m} {bs} {r} h) ne =
     let e = clear_line_call m.ledger bs in
-    ap (with_ledger m) (sym (same_ledger e h) ∙ same_entered _ _ _ (other (same_number e h ∙ ap said (entered_verdict _ _ _)) ne))
+    ap (with_ledger m) (sym (same_ledger m.ledger e h) ∙ held_giving _ _ m.ledger ∙ same _ _ _ (other (same_number m.ledger e h ∙ ap said (said_giving _ _)) ne))
 
 pub refused_stays : {e : Event} {s t : Store} {n : ℕ} → Called e s t n → (n ≡ 0 → ⊥) → t ≡ s
 unfolding with_memory with_grants with_caller identified caller_said
 refused_stays (C.record_called {s} c) ne = ap (with_memory s) (record_stays c ne)
 refused_stays (C.grant_called {s} {bs} {ws} {r} c) ne =
     let v = c.granted.verdict in
-    let ne' : said v ≡ 0 → ⊥ = other (ap (λ (x : GrantReply). x.refusal) c.says) ne in
+    let ne' : verdict_said v ≡ 0 → ⊥ = other (ap (λ (x : GrantReply). x.refusal) c.says) ne in
     let k : grants_kept r.refusal s.grants r.grant ≡ s.grants =
     ap (λ (x : GrantReply). grants_kept x.refusal s.grants x.grant) c.says ∙ kept_after v s.grants c.granted.grant ∙ same_grants v s.grants _ ne' in
     ap (λ gs. with_grants s gs ws) k ∙ ap (λ l. with_grants s s.grants l) (c.call.left ∙ same_words v _ _ ne')
 refused_stays (C.caller_called {s} {bs} {r} h) ne =
-    ap (λ w. with_caller s w) (ap (λ (x : CallerReply). x.caller) h ∙ same_outcome _ _ _ (other (ap (λ (x : CallerReply). x.refusal) h ∙ ap said (outcome_said _ _ _)) ne))
+    ap (λ w. with_caller s w) (ap (λ (x : CallerReply). x.caller) h ∙ held_giving _ _ s.caller ∙ same _ _ _ (other (ap (λ (x : CallerReply). x.refusal) h ∙ ap said (said_giving _ _)) ne))
 refused_stays (C.ask_called gs ws w bs cells h) ne = refl
 refused_stays (C.line_called gs ws w n bs out h) ne = refl
 

@@ -1,15 +1,17 @@
--- What the calls for C say and leave: what the calls of the other crates do, with a verdict as a number.
-use Rattle.std.specs.Prelude.{◌≡◌, List, ℕ, ℤ}
+-- What the calls for C say and leave: what the calls of the other crates do, with a result as a number.
+use Rattle.std.specs.Prelude.{◌≡◌, List, ℕ, ℤ, Result, Ok, Err}
+use Rattle.refusal.specs.Results.{Said, said_by, held_after}
+use Rattle.refusal.specs.declared.Refusal.{Refusal}
 use Rattle.refusal.specs.declared.Verdict.{Verdict}
 use Rattle.refusal.specs.declared.Verdict.TheVariants.{Accepted, Refused}
 use Rattle.refusal.specs.Numbers.{number_of}
 use Rattle.syntax.specs.Grammar.{Bytes}
 use Rattle.stream_line.specs.Declaring.{Declares}
-use Rattle.ledger.specs.declared.Entered.{Entered}
+use Rattle.ledger.specs.declared.Ledger.{Ledger}
 use Rattle.ledger.specs.Records.{Memory}
 use Rattle.ledger.specs.Calls.{RowCall}
 use Rattle.record_lines.specs.Calls.{RowLineCall}
-use Rattle.caller.specs.declared.Identified.{Identified}
+use Rattle.caller.specs.declared.Caller.{Caller}
 use Rattle.grant_line.specs.declared.Granted.{Granted}
 use Rattle.grant_line.specs.Granting.{Grants}
 use Rattle.maltziru.specs.declared.LedgerReply.{LedgerReply}
@@ -17,30 +19,36 @@ use Rattle.maltziru.specs.declared.GrantReply.{GrantReply}
 use Rattle.maltziru.specs.declared.CallerReply.{CallerReply}
 
 -- 0, or the number of the refusal
-abbrev pub said : Verdict → ℕ
-said Accepted = 0
-said (Refused f) = number_of f
+abbrev pub said : Said → ℕ
+said (Ok u) = 0
+said (Err f) = number_of f
 
-unfoldable pub ledger_said : Entered → LedgerReply
-ledger_said e = record { refusal = said e.verdict; ledger = e.ledger }
+-- the same of a grant line's verdict
+abbrev pub verdict_said : Verdict → ℕ
+verdict_said Accepted = 0
+verdict_said (Refused f) = number_of f
 
-unfoldable pub caller_said : Identified → CallerReply
-caller_said i = record { refusal = said i.verdict; caller = i.caller }
+-- the ledger that a call gives, or where it is refused the one that was
+unfoldable pub ledger_said : Ledger → Result Ledger Refusal → LedgerReply
+ledger_said old r = record { refusal = said (said_by r); ledger = held_after r old }
+
+unfoldable pub caller_said : Caller → Result Caller Refusal → CallerReply
+caller_said old r = record { refusal = said (said_by r); caller = held_after r old }
 
 -- the stream line: what it leaves of the names
 pub record StreamCall (names : List ℕ) (line : Bytes) (names' : List ℕ) (refusal : ℕ) : Type 0 where
-  pub verdict : Verdict
+  pub verdict : Said
   pub call : Declares names line names' verdict
   pub says : refusal ≡ said verdict
 
 -- the row call, and the row line
 pub record RowCalled (m : Memory) (stream : ℕ) (row : List ℤ) (m' : Memory) (refusal : ℕ) : Type 0 where
-  pub verdict : Verdict
+  pub verdict : Said
   pub call : RowCall m stream row m' verdict
   pub says : refusal ≡ said verdict
 
 pub record RowLineCalled (m : Memory) (line : Bytes) (m' : Memory) (refusal : ℕ) : Type 0 where
-  pub verdict : Verdict
+  pub verdict : Said
   pub call : RowLineCall m line m' verdict
   pub says : refusal ≡ said verdict
 
@@ -48,4 +56,4 @@ pub record RowLineCalled (m : Memory) (line : Bytes) (m' : Memory) (refusal : �
 pub record GrantCall (names : List ℕ) (count : ℕ) (line : Bytes) (words words' : List ℕ) (r : GrantReply) : Type 0 where
   pub granted : Granted
   pub call : Grants names count line words words' granted
-  pub says : r ≡ record { refusal = said granted.verdict; grant = granted.grant }
+  pub says : r ≡ record { refusal = verdict_said granted.verdict; grant = granted.grant }

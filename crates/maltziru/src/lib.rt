@@ -12,14 +12,14 @@ ghost use Rattle.syntax.specs.Readers.{parse_query};
 ghost use Rattle.calls.specs.Asking.{with_route};
 ghost use Rattle.ask.specs.Replies.{Replies};
 ghost use Rattle.ask.specs.Asking.{asked, LineReplies};
-ghost use Rattle.maltziru.specs.Calls.{said, ledger_said, caller_said, StreamCall, RowCalled, RowLineCalled, GrantCall};
+ghost use Rattle.maltziru.specs.Calls.{said, verdict_said, ledger_said, caller_said, StreamCall, RowCalled, RowLineCalled, GrantCall};
 
 use ask::Reply;
-use caller::{Caller, Identified};
+use caller::Caller;
 use grant::Grant;
 use grant_line::Granted;
-use ledger::{Entered, Ledger};
-use refusal::Verdict;
+use ledger::Ledger;
+use refusal::{Refusal, Verdict};
 
 // What a call on the record says, and the ledger that it leaves.
 #[repr(C)]
@@ -45,10 +45,20 @@ pub struct CallerReply {
     pub caller: Caller,
 }
 
-// ---- verdicts as numbers
+// ---- results as numbers
 
-fn number(v: Verdict) -> u32
-    ensures { result ≡ said v }
+fn number(r: Result<(), Refusal>) -> u32
+    ensures { result ≡ said r }
+{
+    match r {
+        Ok(()) => 0,
+        Err(f) => f.number(),
+    }
+}
+
+// The verdict of a grant line.
+fn verdict_number(v: Verdict) -> u32
+    ensures { result ≡ verdict_said v }
 {
     match v {
         Verdict::Accepted => 0,
@@ -56,25 +66,35 @@ fn number(v: Verdict) -> u32
     }
 }
 
-fn ledger_reply(e: Entered) -> LedgerReply
-    ensures { result ≡ ledger_said e }
+// A ledger and what a call with it gave.
+fn ledger_reply(ledger: Ledger, r: Result<Ledger, Refusal>) -> LedgerReply
+    ensures { result ≡ ledger_said ledger r }
 {
-    let l = e.ledger;
-    let v = e.verdict;
-    LedgerReply {
-        refusal: number(v),
-        ledger: l,
+    match r {
+        Ok(l) => LedgerReply {
+            refusal: 0,
+            ledger: l,
+        },
+        Err(f) => LedgerReply {
+            refusal: f.number(),
+            ledger: ledger,
+        },
     }
 }
 
-fn caller_reply(i: Identified) -> CallerReply
-    ensures { result ≡ caller_said i }
+// A caller and what a line gave.
+fn caller_reply(caller: Caller, r: Result<Caller, Refusal>) -> CallerReply
+    ensures { result ≡ caller_said caller r }
 {
-    let c = i.caller;
-    let v = i.verdict;
-    CallerReply {
-        refusal: number(v),
-        caller: c,
+    match r {
+        Ok(c) => CallerReply {
+            refusal: 0,
+            caller: c,
+        },
+        Err(f) => CallerReply {
+            refusal: f.number(),
+            caller: caller,
+        },
     }
 }
 
@@ -85,8 +105,7 @@ fn caller_reply(i: Identified) -> CallerReply
 pub extern "C" fn maltziru_stream(names: &mut [u64], line: &[u8]) -> u32
     ensures { StreamCall names.old line.now names.new result }
 {
-    let v = stream_line::declare(names, line);
-    number(v)
+    number(stream_line::declare(names, line))
 }
 
 // ---- the record
@@ -102,9 +121,9 @@ pub extern "C" fn maltziru_fresh() -> Ledger
 // The clock call. Returns the ledger with the time; refused, the ledger as it was.
 #[unsafe(no_mangle)]
 pub extern "C" fn maltziru_clock(ledger: Ledger, time: i64) -> LedgerReply
-    ensures { result ≡ ledger_said (clock_call ledger time) }
+    ensures { result ≡ ledger_said ledger (clock_call ledger time) }
 {
-    ledger_reply(ledger.clock(time))
+    ledger_reply(ledger, ledger.clock(time))
 }
 
 // The row call: one row more of the stream of a number. Returns the ledger with one row more. Leaves the clock in the row's time and its values in their places,
@@ -120,24 +139,24 @@ pub extern "C" fn maltziru_row(
 ) -> LedgerReply
     ensures { RowCalled (record { ledger = ledger; names = names.now; times = times.old; values = values.old }) stream row.now (record { ledger = result.ledger; names = names.now; times = times.new; values = values.new }) result.refusal }
 {
-    let e = ledger.row(names, stream, row, times, values);
-    ledger_reply(e)
+    let r = ledger.row(names, stream, row, times, values);
+    ledger_reply(ledger, r)
 }
 
 // The clear call. Returns the ledger with no rows and its clock; refused, the ledger as it was.
 #[unsafe(no_mangle)]
 pub extern "C" fn maltziru_clear(ledger: Ledger) -> LedgerReply
-    ensures { result ≡ ledger_said (clear_call ledger) }
+    ensures { result ≡ ledger_said ledger (clear_call ledger) }
 {
-    ledger_reply(ledger.clear())
+    ledger_reply(ledger, ledger.clear())
 }
 
 // The clock line, which does what the clock call does.
 #[unsafe(no_mangle)]
 pub extern "C" fn maltziru_clock_line(ledger: Ledger, line: &[u8]) -> LedgerReply
-    ensures { result ≡ ledger_said (clock_line_call ledger line.now) }
+    ensures { result ≡ ledger_said ledger (clock_line_call ledger line.now) }
 {
-    ledger_reply(record_lines::clock_line(ledger, line))
+    ledger_reply(ledger, record_lines::clock_line(ledger, line))
 }
 
 // The row line, which does what the row call does.
@@ -151,16 +170,16 @@ pub extern "C" fn maltziru_row_line(
 ) -> LedgerReply
     ensures { RowLineCalled (record { ledger = ledger; names = names.now; times = times.old; values = values.old }) line.now (record { ledger = result.ledger; names = names.now; times = times.new; values = values.new }) result.refusal }
 {
-    let e = record_lines::row_line(ledger, names, line, times, values);
-    ledger_reply(e)
+    let r = record_lines::row_line(ledger, names, line, times, values);
+    ledger_reply(ledger, r)
 }
 
 // The clear line, which does what the clear call does.
 #[unsafe(no_mangle)]
 pub extern "C" fn maltziru_clear_line(ledger: Ledger, line: &[u8]) -> LedgerReply
-    ensures { result ≡ ledger_said (clear_line_call ledger line.now) }
+    ensures { result ≡ ledger_said ledger (clear_line_call ledger line.now) }
 {
-    ledger_reply(record_lines::clear_line(ledger, line))
+    ledger_reply(ledger, record_lines::clear_line(ledger, line))
 }
 
 // ---- grants and callers
@@ -180,7 +199,7 @@ pub extern "C" fn maltziru_grant(
     let h = g.grant;
     let v = g.verdict;
     GrantReply {
-        refusal: number(v),
+        refusal: verdict_number(v),
         grant: h,
     }
 }
@@ -196,9 +215,9 @@ pub extern "C" fn maltziru_nobody() -> Caller
 // The caller line. Returns the caller that the line names; refused, the caller as it was.
 #[unsafe(no_mangle)]
 pub extern "C" fn maltziru_caller(caller: Caller, line: &[u8]) -> CallerReply
-    ensures { result ≡ caller_said (identified caller line.now) }
+    ensures { result ≡ caller_said caller (identified caller line.now) }
 {
-    caller_reply(caller.with_line(line))
+    caller_reply(caller, caller.with_line(line))
 }
 
 // ---- queries

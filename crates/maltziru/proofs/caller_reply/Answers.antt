@@ -1,5 +1,8 @@
-use Rattle.maltziru.proofs.Said.{caller_is}
+use Rattle.maltziru.proofs.Said.{caller_ok, caller_err}
 use Rattle.maltziru.proofs.caller_reply.Goals as goal
 
-pub returns : goal.returns
-returns c = caller_is c.args.i c.number.ensures
+pub returns-in-Ok : goal.returns-in-Ok
+returns-in-Ok c = caller_ok _ c.in-Ok.is
+
+pub returns-in-Err : goal.returns-in-Err
+returns-in-Err c = caller_err _ c.in-Err.is c.number.ensures

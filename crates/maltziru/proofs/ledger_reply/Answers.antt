@@ -1,5 +1,8 @@
-use Rattle.maltziru.proofs.Said.{ledger_is}
+use Rattle.maltziru.proofs.Said.{ledger_ok, ledger_err}
 use Rattle.maltziru.proofs.ledger_reply.Goals as goal
 
-pub returns : goal.returns
-returns c = ledger_is c.args.e c.number.ensures
+pub returns-in-Ok : goal.returns-in-Ok
+returns-in-Ok c = ledger_ok _ c.in-Ok.is
+
+pub returns-in-Err : goal.returns-in-Err
+returns-in-Err c = ledger_err _ c.in-Err.is c.number.ensures
