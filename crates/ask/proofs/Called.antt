@@ -9,11 +9,10 @@ use mir.Syntax.{w64}
 use mir.Val.{SFits, to_z, of_z}
 use mir.ValLaws.{to_z-of_z}
 use borrow.Author.Tests.{not-true, not-false}
-use Rattle.refusal.specs.Numbers.{verdict_of}
+use Rattle.std.specs.Prelude.{Ok, Err}
+use Rattle.refusal.specs.Results.{Said, result_of}
 use Rattle.refusal.specs.Checks.{first, table}
 use Rattle.refusal.specs.declared.Refusal.{Refusal}
-use Rattle.refusal.specs.declared.Verdict.{Verdict}
-use Rattle.refusal.specs.declared.Verdict.TheVariants.{Accepted, Refused}
 use Rattle.lists.specs.Lists.{every}
 use Rattle.syntax.specs.Grammar.{Bytes}
 use Rattle.syntax.specs.Limits.{is_value}
@@ -59,17 +58,17 @@ module _ (a b c : Bool) where
 
 -- ---- a query of which the text and the catalogue were read
 
-module _ (m : Memory) (ws : List ℕ) (who : Caller) (t : Told) (x : Opened) {b : Bool} (may : b ≡ (memory_sound m && x.sound && caller_sound who)) {v : Verdict} (told : v ≡ verdict_of (first (table (with_lent (not b) t.checks)))) where
-  pub answers_refused : (cells : List ℤ) {f : Refusal} → v ≡ Refused f → {r : Reply} → r ≡ refused_with f → Answers m ws who t x cells cells r
+module _ (m : Memory) (ws : List ℕ) (who : Caller) (t : Told) (x : Opened) {b : Bool} (may : b ≡ (memory_sound m && x.sound && caller_sound who)) {v : Said} (told : v ≡ result_of (first (table (with_lent (not b) t.checks)))) where
+  pub answers_refused : (cells : List ℤ) {f : Refusal} → v ≡ Err f → {r : Reply} → r ≡ refused_with f → Answers m ws who t x cells cells r
   answers_refused cells e g = record { shown = λ spare bs form gs text opened. text_refused m ws who t spare bs form gs text opened may told cells e g }
 
-  pub answers_ready : (cells : List ℤ) → Prepared m.names ws who t x → v ≡ Accepted → {ps : List ℕ} → ps ≡ profile_of who
+  pub answers_ready : (cells : List ℤ) → Prepared m.names ws who t x → v ≡ Ok tt → {ps : List ℕ} → ps ≡ profile_of who
       → Ready (record { memory = m; own = t.words; granted = ws; profile = ps; forms = query_forms t.query }) x.opens t.needs
   answers_ready cells p e {ps} g =
       subst (λ l. Ready (record { memory = m; own = t.words; granted = ws; profile = l; forms = query_forms t.query }) x.opens t.needs) (sym g)
       (text_ready m ws who t p.spare p.bytes p.form p.grants p.text p.opened may told cells e)
 
-  pub answers_given : (cells : List ℤ) → v ≡ Accepted → {ps : List ℕ} → ps ≡ profile_of who → {cells' : List ℤ} {r : Reply}
+  pub answers_given : (cells : List ℤ) → v ≡ Ok tt → {ps : List ℕ} → ps ≡ profile_of who → {cells' : List ℤ} {r : Reply}
       → Replies (run_reply (record { memory = m; own = t.words; granted = ws; profile = ps; forms = query_forms t.query }) x.opens t.needs cells) cells cells' r
       → Answers m ws who t x cells cells' r
   answers_given cells e g {cells'} {r} h =
@@ -81,17 +80,17 @@ module _ (m : Memory) (ws : List ℕ) (who : Caller) (t : Told) (x : Opened) {b 
   -- ---- and the number of a route
 
   module _ (number : ℤ) (out : Bytes) where
-    pub lines_refused : T (every is_value m.values) → {f : Refusal} → v ≡ Refused f → {r : Reply} → r ≡ refused_with f → Lines m ws who t x number out out r
+    pub lines_refused : T (every is_value m.values) → {f : Refusal} → v ≡ Err f → {r : Reply} → r ≡ refused_with f → Lines m ws who t x number out out r
     lines_refused i e g = record { shown = λ spare bs form gs text opened. record { said = line_refused m ws who t spare bs form gs text opened may told number out e g; ranges = i } }
 
-    pub lines_ready : Prepared m.names ws who t x → v ≡ Accepted → {ps : List ℕ} → ps ≡ profile_of who
+    pub lines_ready : Prepared m.names ws who t x → v ≡ Ok tt → {ps : List ℕ} → ps ≡ profile_of who
         → Printable (record { names = m.names; own = t.words; granted = ws; profile = ps; forms = query_forms t.query }) x.opens t.needs
     lines_ready p e {ps} g =
         subst (λ l. Printable (record { names = m.names; own = t.words; granted = ws; profile = l; forms = query_forms t.query }) x.opens t.needs) (sym g)
         (line_ready m ws who t p.spare p.bytes p.form p.grants p.text p.opened may told number out e)
 
     -- the number was handed on
-    pub lines_given : T (every is_value m.values) → v ≡ Accepted → SFits w64 number → {ps : List ℕ} → ps ≡ profile_of who → {out' : Bytes} {r : Reply}
+    pub lines_given : T (every is_value m.values) → v ≡ Ok tt → SFits w64 number → {ps : List ℕ} → ps ≡ profile_of who → {out' : Bytes} {r : Reply}
         → Replies (print_reply (record { names = m.names; own = t.words; granted = ws; profile = ps; forms = query_forms t.query }) x.opens t.needs (to_z w64 (of_z w64 number)) out) out out' r
         → Lines m ws who t x number out out' r
     lines_given i e f g {out'} {r} h =

@@ -6,15 +6,15 @@ use mathlib.Core.Option.{Option, none, some, none-ne-some}
 use Prim.Native.Nat.{ℕ, ◌≤◌}
 use lib.Dec.{T, ltb}
 use lib.ListN.{length}
-use Rattle.refusal.specs.Numbers.{verdict_of}
+use Rattle.std.specs.Prelude.{Ok, Err}
+use Rattle.refusal.specs.Results.{Said, result_of}
 use Rattle.refusal.specs.Checks.{Check, refuse, first, passes, table}
 use Rattle.refusal.specs.declared.Checks.{Checks}
 use Rattle.refusal.specs.declared.Refusal.{Refusal}
 use Rattle.refusal.specs.declared.Refusal.TheVariants.{Lent, Malformed, Bound}
-use Rattle.refusal.specs.declared.Verdict.{Verdict}
-use Rattle.refusal.specs.declared.Verdict.TheVariants.{Accepted, Refused}
 use Rattle.refusal.proofs.Passing.{passes_first}
-use Rattle.refusal.proofs.Verdicts.{verdict_none, verdict_some, never, never_first}
+use Rattle.refusal.proofs.Results.{result_none, result_some}
+use Rattle.refusal.proofs.Verdicts.{never, never_first}
 use Rattle.lists.specs.Lists.{every}
 use Rattle.lists.proofs.Laws.{T_true, and_l, and_r}
 use Rattle.syntax.specs.Grammar.{Bytes, Form, query_text}
@@ -112,7 +112,7 @@ of_form rest (some f) = rest f
 
 module _ (m : Memory) (ws : List ℕ) (who : Caller) (t : Told) (spare : ℕ) (bs : Bytes) (form : Option Form) (gs : List Grant) (text : TextRead spare form m.names bs t)
     {x : Opened} (opened : x ≡ opened_in t.needs m.names gs ws (roles_of who) (profile_of who)) {b : Bool} (may : b ≡ (memory_sound m && x.sound && caller_sound who))
-    {v : Verdict} (told : v ≡ verdict_of (first (table (with_lent (not b) t.checks)))) where
+    {v : Said} (told : v ≡ result_of (first (table (with_lent (not b) t.checks)))) where
   abbrev lending : Lending
   lending = record { memory = m; grants = gs; granted = ws; caller = who }
 
@@ -147,15 +147,15 @@ module _ (m : Memory) (ws : List ℕ) (who : Caller) (t : Told) (spare : ℕ) (b
         go none = refl
         go (some f) = refl
 
-    pub whole_refused : {f : Refusal} → v ≡ Refused f → first whole ≡ some f
-    whole_refused {f} e = ap first whole_is ∙ first_stops (refuse Lent (not b) ∷ front) (of_form rest form) f (sym first_is ∙ verdict_some _ f (sym told ∙ e))
+    pub whole_refused : {f : Refusal} → v ≡ Err f → first whole ≡ some f
+    whole_refused {f} e = ap first whole_is ∙ first_stops (refuse Lent (not b) ∷ front) (of_form rest form) f (sym first_is ∙ result_some _ f (sym told ∙ e))
 
-    pub whole_passed : v ≡ Accepted → first whole ≡ first (of_form rest form)
-    whole_passed e = ap first whole_is ∙ first_goes_on (refuse Lent (not b) ∷ front) (of_form rest form) (sym first_is ∙ verdict_none _ (sym told ∙ e))
+    pub whole_passed : v ≡ Ok tt → first whole ≡ first (of_form rest form)
+    whole_passed e = ap first whole_is ∙ first_goes_on (refuse Lent (not b) ∷ front) (of_form rest form) (sym first_is ∙ result_none _ (sym told ∙ e))
 
-  module _ (e : v ≡ Accepted) where
+  module _ (e : v ≡ Ok tt) where
     none_fails : first (refuse Lent (not b) ∷ front) ≡ none
-    none_fails = sym first_is ∙ verdict_none _ (sym told ∙ e)
+    none_fails = sym first_is ∙ result_none _ (sym told ∙ e)
 
     sound : T b
     sound = go b (not_first (not b) Lent front none_fails).0

@@ -7,12 +7,11 @@ use Prim.Native.Nat.{ℕ}
 use lib.IntN.{ℤ}
 use lib.Dec.{T}
 use lib.ListN.{length}
-use Rattle.refusal.specs.Numbers.{verdict_of}
+use Rattle.std.specs.Prelude.{Ok, Err}
+use Rattle.refusal.specs.Results.{Said, result_of}
 use Rattle.refusal.specs.Checks.{Check, refuse, first, table}
 use Rattle.refusal.specs.declared.Refusal.{Refusal}
 use Rattle.refusal.specs.declared.Refusal.TheVariants.{Lent}
-use Rattle.refusal.specs.declared.Verdict.{Verdict}
-use Rattle.refusal.specs.declared.Verdict.TheVariants.{Accepted, Refused}
 use Rattle.syntax.specs.Grammar.{Bytes, Form, RouteLine}
 use Rattle.model.specs.Queries as M
 use Rattle.calls.specs.Names.{map_option, resolve}
@@ -179,8 +178,8 @@ module _ (m : Memory) (ws : List ℕ) (who : Caller) (t : Told) {x : Opened} (fo
 
 module _ (m : Memory) (ws : List ℕ) (who : Caller) (t : Told) (spare : ℕ) (bs : Bytes) (form : Option Form) (gs : List Grant) (text : TextRead spare form m.names bs t)
     {x : Opened} (opened : x ≡ opened_in t.needs m.names gs ws (roles_of who) (profile_of who)) {b : Bool} (may : b ≡ (memory_sound m && x.sound && caller_sound who))
-    {v : Verdict} (told : v ≡ verdict_of (first (table (with_lent (not b) t.checks)))) where
-  abbrev pass : v ≡ Accepted → Passed m ws who t form gs
+    {v : Said} (told : v ≡ result_of (first (table (with_lent (not b) t.checks)))) where
+  abbrev pass : v ≡ Ok tt → Passed m ws who t form gs
   pass e = passed m ws who t spare bs form gs text opened may told e
 
   -- ---- asking
@@ -189,15 +188,15 @@ module _ (m : Memory) (ws : List ℕ) (who : Caller) (t : Told) (spare : ℕ) (b
     abbrev last : Form → List Check
     last f = answer_checks (record_of m) (catalogue_of m.names gs ws) (caller_of who) cells f
 
-    stops : {f : Refusal} → v ≡ Refused f → first (asked_table spare form (record { memory = m; grants = gs; granted = ws; caller = who }) bs cells) ≡ some f
+    stops : {f : Refusal} → v ≡ Err f → first (asked_table spare form (record { memory = m; grants = gs; granted = ws; caller = who }) bs cells) ≡ some f
     unfolding asked_table
     stops e = whole_refused m ws who t spare bs form gs text opened may told last e
 
-    pub text_refused : {f : Refusal} → v ≡ Refused f → {r : Reply} → r ≡ refused_with f → Replies (asked spare form (record { memory = m; grants = gs; granted = ws; caller = who }) bs cells) cells cells r
+    pub text_refused : {f : Refusal} → v ≡ Err f → {r : Reply} → r ≡ refused_with f → Replies (asked spare form (record { memory = m; grants = gs; granted = ws; caller = who }) bs cells) cells cells r
     unfolding asked reply reply_of lent_after
     text_refused e g = record { said = rw (stops e) g; left = rw (stops e) refl }
 
-    module _ (e : v ≡ Accepted) where
+    module _ (e : v ≡ Ok tt) where
       pub text_ready : Ready (record { memory = m; own = t.words; granted = ws; profile = profile_of who; forms = query_forms t.query }) x.opens t.needs
       text_ready = ready m ws who t form gs text.needs opened (pass e)
 
@@ -230,14 +229,14 @@ module _ (m : Memory) (ws : List ℕ) (who : Caller) (t : Told) (spare : ℕ) (b
         go none = refl
         go (some f) = refl
 
-    line_stops : {f : Refusal} → v ≡ Refused f → first (lined_table spare (with_route number form) lending bs out) ≡ some f
+    line_stops : {f : Refusal} → v ≡ Err f → first (lined_table spare (with_route number form) lending bs out) ≡ some f
     line_stops e = ap first lined_is ∙ whole_refused m ws who t spare bs form gs text opened may told line_last e
 
-    pub line_refused : {f : Refusal} → v ≡ Refused f → {r : Reply} → r ≡ refused_with f → Replies (lined spare (with_route number form) (record { memory = m; grants = gs; granted = ws; caller = who }) bs out) out out r
+    pub line_refused : {f : Refusal} → v ≡ Err f → {r : Reply} → r ≡ refused_with f → Replies (lined spare (with_route number form) (record { memory = m; grants = gs; granted = ws; caller = who }) bs out) out out r
     unfolding lined reply reply_of lent_after
     line_refused e g = record { said = rw (line_stops e) g; left = rw (line_stops e) refl }
 
-    module _ (e : v ≡ Accepted) where
+    module _ (e : v ≡ Ok tt) where
       pub line_ready : Printable (record { names = m.names; own = t.words; granted = ws; profile = profile_of who; forms = query_forms t.query }) x.opens t.needs
       line_ready = printable m ws who t form gs text.needs opened (pass e)
 
@@ -264,11 +263,11 @@ module _ (m : Memory) (ws : List ℕ) (who : Caller) (t : Told) (spare : ℕ) (b
   same_numbered : (form : Option Form) → TextRead spare form m.names bs t → (y z : ℤ) → (T (schema_sound m.names) → first (table t.checks) ≡ none → clamp y ≡ clamp z)
       → lined spare (with_route y form) lends bs out ≡ lined spare (with_route z form) lends bs out
   unfolding lined reply
-  same_numbered form text y z k = go (verdict_of (first (table (with_lent (not may_lend) t.checks)))) refl
+  same_numbered form text y z k = go (result_of (first (table (with_lent (not may_lend) t.checks)))) refl
     where
-      go : (v : Verdict) → v ≡ verdict_of (first (table (with_lent (not may_lend) t.checks))) → lined spare (with_route y form) lends bs out ≡ lined spare (with_route z form) lends bs out
-      go (Refused f) e = rw (line_stops m ws who t spare bs form gs text opened refl e y out refl, line_stops m ws who t spare bs form gs text opened refl e z out refl)
-      go Accepted e =
+      go : (v : Said) → v ≡ result_of (first (table (with_lent (not may_lend) t.checks))) → lined spare (with_route y form) lends bs out ≡ lined spare (with_route z form) lends bs out
+      go (Err f) e = rw (line_stops m ws who t spare bs form gs text opened refl e y out refl, line_stops m ws who t spare bs form gs text opened refl e z out refl)
+      go (Ok u) e =
           let p = passed m ws who t spare bs form gs text opened refl e refl in
           let safe = (sound_parts m p.safe).names in
           lined_run m ws who t spare bs form gs text opened refl e y out refl
