@@ -16,7 +16,7 @@ use Rattle.lists.proofs.Laws.{true_T, T_true, never, by_test, same_list→eq}
 use Rattle.syntax.specs.Grammar as G
 use Rattle.syntax.specs.Grammar.{Bytes, Form, RouteLine, verb_word}
 use Rattle.syntax.specs.Limits.{form_depth, shallow}
-use Rattle.syntax.specs.Readers.{Read, bind, byte, ◌>>=◌, ◌>>◌, give, read_number, read_body, parse_as, parse_query}
+use Rattle.syntax.specs.Readers.{Read, bind, byte, ◌>>=◌, ◌>>◌, give, read_number, read_body, parse, parse_as, parse_query}
 use Rattle.syntax.proofs.Depths.{query_shallow, ask_shallow, line_shallow}
 use Rattle.calls.specs.Names.{form_conds, map_option}
 use Rattle.calls.specs.Tables.{query_checks}
@@ -33,7 +33,6 @@ use Rattle.text.proofs.Views.{no_some, left_drop, skip_none, skip_is}
 use Rattle.text.proofs.Places.{Spells, whole_some, closed_none, closed_is, closed_not, ask_word, line_word}
 use Rattle.text.proofs.Found as F
 use Rattle.text.proofs.Found.{number_none, number_some, line_unread}
-use Rattle.text.proofs.Lines.{query_whole}
 use Rattle.schema.specs.Schemas.{schema_of, schema_sound}
 use Rattle.nodes.specs.Storing.{store_list}
 use Rattle.conditions.specs.Seeing.{nodes_of}
@@ -42,6 +41,11 @@ use Rattle.query_line.specs.declared.Asked.{Asked}
 use Rattle.query_line.specs.declared.Routed.{Routed}
 use Rattle.query_line.specs.Asking.{asked_of, unread_asked, asked_form, asked_seen, form_checks, Tells, Asks, Means}
 use Rattle.query_line.specs.Texts.{unread_routed, routed_of, route_said, said_asked, said_stored, text_asked, Told, QueryTold, AskTold, RouteTold}
+
+-- a query's text has no line around it
+query_whole : (s : Bytes) → parse_query s ≡ whole (any_form (drop 0 s))
+unfolding parse_query parse whole any_form
+query_whole s = refl
 
 some_not : {A X : Type 0} {a : A} → ◌≡◌ {A = Option A} (some a) none → X
 some_not {a} e = absurd (none-ne-some a (sym e))
