@@ -1,5 +1,5 @@
 -- Names as numbers: which stand twice, and which may be a caller's.
-use mathlib.Core.Path.{◌≡◌, sym, ap, ◌∙◌, subst}
+use mathlib.Core.Path.{◌≡◌, sym, ◌∙◌, subst}
 use mathlib.Core.List.{List, [], ◌∷◌, map}
 use mathlib.Core.Bool.{Bool, true, false}
 use Prim.Native.Nat.{ℕ, ◌<◌, min}
@@ -7,13 +7,13 @@ use native.Mathlib.Omega.{arith}
 use lib.Dec.{eqb, eqb→eq}
 use lib.ListN.{length, take, drop, get_or, take-append-drop}
 use lib.Seq.{take_all}
-use Rattle.std.proofs.lemmas.List.{take_min}
 use Rattle.lists.specs.Lists.{All, all_nil, all_cons, every, distinct, same_list, count_from}
 use Rattle.lists.proofs.Laws.{all_left, distinct_map, distinct_unmap, same_list_refl, same_truth}
 use Rattle.text.specs.Words.{name_of}
 use Rattle.schema.specs.Schemas.{code_end}
 use Rattle.schema.proofs.FreeNames.{name_one}
 use Rattle.items.specs.Items.{once}
+use Rattle.items.proofs.Sameness.{once_is}
 use Rattle.caller.specs.Callers.{code_valid, names_of, names_sound}
 use Rattle.caller.proofs.Slots.{the_first}
 
@@ -36,10 +36,6 @@ four_of : (xs : List ℕ) → length xs ≡ 4 → get_or xs 0 0 ∷ get_or xs 1 
 unfolding count_from
 four_of xs l = the_first 0 xs 4 (omega arith) ∙ take_all 4 xs (omega arith)
 
--- of a count above all only as many are taken
-pub first_few : (xs : List ℕ) (n : ℕ) {m k : ℕ} → length xs ≡ k → m ≡ min n k → take m xs ≡ take n xs
-first_few xs n l e = ap (λ m. take m xs) (e ∙ ap (min n) (sym l)) ∙ take_min n xs
-
 module _ (xs : List ℕ) (l : length xs ≡ 4) (ha : Below (get_or xs 0 0)) (hb : Below (get_or xs 1 0)) (hc : Below (get_or xs 2 0)) (hd : Below (get_or xs 3 0)) where
   below : All Below xs
   below = subst (λ l. All Below l) (four_of xs l) (all_cons ha (all_cons hb (all_cons hc (all_cons hd all_nil))))
@@ -47,7 +43,7 @@ module _ (xs : List ℕ) (l : length xs ≡ 4) (ha : Below (get_or xs 0 0)) (hb 
   pub twice : (n : ℕ) {r : Bool} {m : ℕ} → m ≡ min n 4 → r ≡ distinct eqb (take m xs) → (r ≡ once xs n) × (r ≡ distinct same_list (names_of xs n))
   unfolding once names_of
   twice n {r} {m} e f =
-      let g : r ≡ distinct eqb (take n xs) = f ∙ ap (distinct eqb) (first_few xs n l e) in
+      let g : r ≡ distinct eqb (take n xs) = once_is xs n l e f in
       (g, g ∙ distinct_names (all_take n xs below))
 
 -- ---- both

@@ -9,8 +9,8 @@ use borrow.Author.Tests.{lt-ltb, le-ltb}
 use Rattle.refusal.specs.declared.Checks.{Checks}
 use Rattle.refusal.specs.Checks.{unread, shown}
 use Rattle.lists.specs.Lists.{distinct, same_list}
-use Rattle.items.specs.declared.NamesAt.{NamesAt}
-use Rattle.items.specs.declared.EntriesAt.{EntriesAt}
+use Rattle.items.specs.declared.Names.{Names}
+use Rattle.items.specs.declared.Entries.{Entries}
 use Rattle.items.specs.Items.{once}
 use Rattle.caller.specs.declared.Caller.{Caller}
 use Rattle.caller.specs.Callers.{no_caller, names_of}
@@ -20,7 +20,7 @@ pub unread_made : (long : Bool) {k : Checks} {w : Caller} → k ≡ unread long 
 unfolding unread_line
 unread_made long e d = ap₂ (λ k w. record { checks = k; caller = w }) e d
 
-module _ (rs : NamesAt) (es : EntriesAt) where
+module _ (rs : Names) (es : Entries) where
   abbrev bound : Bool
   bound = (line_read rs es).checks.bound
 

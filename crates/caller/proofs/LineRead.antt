@@ -26,8 +26,8 @@ use Rattle.text.proofs.Places.{closed_is, closed_not, caller_word, roles_word}
 use Rattle.text.proofs.Views.{skip_none, skip_is}
 use Rattle.text.proofs.Found.{part_none, part_some}
 use Rattle.text.proofs.Found as T
-use Rattle.items.specs.declared.NamesAt.{NamesAt}
-use Rattle.items.specs.declared.EntriesAt.{EntriesAt}
+use Rattle.items.specs.declared.Names.{Names}
+use Rattle.items.specs.declared.Entries.{Entries}
 use Rattle.items.specs.Items.{first_of, once, names_seen, names_found, entries_seen, entries_found}
 use Rattle.items.proofs.NameLists.{names_none, names_some}
 use Rattle.items.proofs.EntryLists.{entries_none, entries_some}
@@ -82,7 +82,7 @@ module _ (s : Bytes) (at : ℕ) where
     unfolding line_after read_body ◌>>=◌ bind closed seen
     line_unnamed e = rw (part_some s at roles_word h roles, names_none s q e)
 
-    module _ {rs : NamesAt} (u : Some rs ≡ names_found s q) where
+    module _ {rs : Names} (u : Some rs ≡ names_found s q) where
       pub line_unended : None ≡ read_end s (byte 41 (drop rs.next s)) → None ≡ line_after s at
       unfolding line_after read_body ◌>>=◌ bind closed seen
       line_unended d = names_some s q u (λ ws e m. rw (part_some s at roles_word h roles, e, skip_none s rs.next 41 d))
@@ -92,7 +92,7 @@ module _ (s : Bytes) (at : ℕ) where
         unfolding line_after read_body ◌>>=◌ bind closed seen
         line_profileless g = names_some s q u (λ ws e m. rw (part_some s at roles_word h roles, e, skip_is s rs.next 41 d, entries_none s p g))
 
-        module _ {es : EntriesAt} (v : Some es ≡ entries_found s p) {c : Bool} (y : c ≡ closes_at s es.next) where
+        module _ {es : Entries} (v : Some es ≡ entries_found s p) {c : Bool} (y : c ≡ closes_at s es.next) where
           line_entries : {X : Type 0} → ((ws : List Bytes) (xs : List Entry) → line_read rs es ≡ line_given (record { roles = ws; profile = xs })
               → line_after s at ≡ seen line_given (closed (some (record { what = record { roles = ws; profile = xs }; left = drop es.next s }))) → X) → X
           unfolding line_after read_body ◌>>=◌ bind give

@@ -13,8 +13,8 @@ use Rattle.calls.specs.Calls.{caller_table}
 use Rattle.text.specs.Words.{Found, seen, value_kept}
 use Rattle.text.specs.Readings.{closed}
 use Rattle.items.specs.Items.{code_short, first_of, once}
-use Rattle.items.specs.declared.NamesAt.{NamesAt}
-use Rattle.items.specs.declared.EntriesAt.{EntriesAt}
+use Rattle.items.specs.declared.Names.{Names}
+use Rattle.items.specs.declared.Entries.{Entries}
 use Rattle.caller.specs.declared.Caller.{Caller}
 use Rattle.caller.specs.declared.CallerLine.{CallerLine}
 use Rattle.caller.specs.Callers.{no_caller}
@@ -55,10 +55,10 @@ unfoldable pub caller_line : Bytes → CallerLine
 caller_line bs = cond (ltb max_line (length bs)) (unread_line true) (line_of (parse_as G.caller bs))
 
 -- the same by roles and entries as the code reads them
-unfoldable pub caller_read : NamesAt → EntriesAt → Caller
+unfoldable pub caller_read : Names → Entries → Caller
 caller_read rs es = record { roles = rs.count; role = take max_roles rs.codes; entries = es.count; name = es.names; value = es.values }
 
-unfoldable pub line_read : NamesAt → EntriesAt → CallerLine
+unfoldable pub line_read : Names → Entries → CallerLine
 line_read rs es =
     record {
       checks =

@@ -8,7 +8,7 @@ ghost use Rattle.items.specs.Items.{once};
 ghost use Rattle.caller.specs.Callers.{caller_sound, no_caller, code_valid, names_of, names_sound};
 ghost use Rattle.caller.specs.Lines.{caller_line, line_after, unread_line, line_read, caller_read, identified};
 
-use items::{Entries, EntriesAt, Names, NamesAt};
+use items::{Entries, Names};
 use refusal::{Checks, Refusal};
 use text::{Line, Word};
 
@@ -90,7 +90,7 @@ fn first_four(codes: [u64; Names::MOST]) -> [u64; Caller::ROLES]
 }
 
 // Whether a name is too long, a value beyond 32 bits, or there are too many roles or entries.
-fn beyond(rs: NamesAt, es: EntriesAt) -> bool
+fn beyond(rs: Names, es: Entries) -> bool
     ensures { result ≡ (line_read rs es).checks.bound }
 {
     if rs.long {
@@ -106,7 +106,7 @@ fn beyond(rs: NamesAt, es: EntriesAt) -> bool
 }
 
 // The caller of roles and entries.
-fn caller_of(rs: NamesAt, es: EntriesAt) -> Caller
+fn caller_of(rs: Names, es: Entries) -> Caller
     ensures { result ≡ caller_read rs es }
 {
     let codes = rs.codes;
@@ -123,7 +123,7 @@ fn caller_of(rs: NamesAt, es: EntriesAt) -> Caller
 }
 
 // The line of roles and entries.
-fn line_of(rs: NamesAt, es: EntriesAt) -> CallerLine
+fn line_of(rs: Names, es: Entries) -> CallerLine
     ensures { result ≡ line_read rs es }
 {
     let caller = caller_of(rs, es);

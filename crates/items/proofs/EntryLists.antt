@@ -1,7 +1,7 @@
 -- The profile entries at a place as the code reads them.
 use mathlib.Core.Path.{◌≡◌, refl, sym, ap, ◌∙◌}
 use mathlib.Core.List.{List, [], ◌∷◌, ◌++◌, map}
-use mathlib.Core.Bool.{Bool, true, false, ◌&&◌, not}
+use mathlib.Core.Bool.{Bool, false, ◌&&◌, ◌||◌, not}
 use mathlib.Core.Option.{none, some}
 use Prim.Native.Nat.{ℕ, ◌≤◌, min}
 use native.Mathlib.Omega.{arith}
@@ -14,12 +14,24 @@ use Rattle.syntax.proofs.Leaving.{entry_leaves}
 use Rattle.syntax.specs.Limits.{short, is_value}
 use Rattle.text.specs.Words.{Found, Some, None, value_kept}
 use Rattle.text.proofs.Views.{Reading}
-use Rattle.items.specs.declared.Entries.{Entries}
 use Rattle.items.specs.declared.EntryAt.{EntryAt}
-use Rattle.items.specs.declared.EntriesAt.{EntriesAt}
-use Rattle.items.specs.Items.{first_of, code_short, entry_seen, entries_seen, entries_found, entry_more, entries_read, entries_at, no_entries}
-use Rattle.items.proofs.Lists.{Whole, items_none, items_some, items_within, some_none, some_empty_none, some_some, Listing, list_not, list_is, some_not, some_empty, some_is}
+use Rattle.items.specs.declared.Entries.{Entries}
+use Rattle.items.specs.Items.{first_of, code_short, entry_seen, entries_seen, entries_found, entry_more}
+use Rattle.items.proofs.Lists.{Whole, items_none, items_some, items_within, some_none, some_empty_none, some_some}
 use Rattle.items.proofs.Folds.{first_more, every_more, map_more, length_more, Way, on, list_start}
+
+-- ---- one entry more
+
+module _ (r : Entries) (e : EntryAt) where
+  pub entry_full : length r.names ≡ 4 → length r.values ≡ 4 → 4 ≤ r.count → record { next = r.next; count = 5; over = r.over || e.over; names = r.names; values = r.values } ≡ entry_more r e
+  unfolding entry_more
+  entry_full k m h =
+      let c : 5 ≡ min (suc r.count) 5 = omega arith in
+      rw (set_out r.names r.count e.name (omega arith), set_out r.values r.count e.value (omega arith), sym c)
+
+  pub entry_room : {v : ℤ} → v ≡ e.value → r.count < 4 → record { next = r.next; count = r.count + 1; over = r.over || e.over; names = set r.names r.count e.name; values = set r.values r.count v } ≡ entry_more r e
+  unfolding entry_more
+  entry_room d h = let c : min (suc r.count) 5 ≡ r.count + 1 = omega arith in rw (d, c)
 
 -- ---- the list, entry by entry
 
@@ -36,15 +48,15 @@ entry_code e = code_short e.name
 unfoldable pub entry_value : Entry → ℤ
 entry_value e = value_kept e.value
 
-unfoldable pub entry_step : EntriesAt → Entry → EntriesAt
+unfoldable pub entry_step : Entries → Entry → Entries
 entry_step r e = entry_more r (record { over = not (entry_bounded e); name = entry_code e; value = entry_value e; next = 0 })
 
-entries_so_far : List Entry → EntriesAt
+entries_so_far : List Entry → Entries
 entries_so_far es =
     record { next = 0; count = min (length es) 5; over = not (every entry_bounded es); names = first_of 4 0 (map entry_code es); values = first_of 4 (pos 0) (map entry_value es) }
 
 alike : {c d : ℕ} {l m : Bool} {x y : List ℕ} {u v : List ℤ} → c ≡ d → l ≡ m → x ≡ y → u ≡ v
-    → ◌≡◌ {A = EntriesAt} (record { next = 0; count = c; over = l; names = x; values = u }) (record { next = 0; count = d; over = m; names = y; values = v })
+    → ◌≡◌ {A = Entries} (record { next = 0; count = c; over = l; names = x; values = u }) (record { next = 0; count = d; over = m; names = y; values = v })
 alike e f g h = rw (e, f, g, h)
 
 one_more : (es : List Entry) (e : Entry) → entry_step (entries_so_far es) e ≡ entries_so_far (es ++ (e ∷ []))
@@ -55,7 +67,7 @@ one_more es e =
     (ap (λ n. set (first_of 4 0 (map entry_code es)) (min n 5) (entry_code e)) (sym (length-map es entry_code)) ∙ first_more 0 4 (map entry_code es) (entry_code e) ∙ ap (first_of 4 0) (map_more entry_code es e))
     (ap (λ n. set (first_of 4 (pos 0) (map entry_value es)) (min n 5) (entry_value e)) (sym (length-map es entry_value)) ∙ first_more (pos 0) 4 (map entry_value es) (entry_value e) ∙ ap (first_of 4 (pos 0)) (map_more entry_value es e))
 
-unfoldable pub entries_way : (s : Bytes) → Way Entry EntryAt EntriesAt s
+unfoldable pub entries_way : (s : Bytes) → Way Entry EntryAt Entries s
 unfolding entry_reading entry_seen entry_step entry_more entry_bounded entry_code entry_value
 entries_way s =
     record {
@@ -67,7 +79,7 @@ entries_way s =
     }
 
 -- what is read so far, joined to what is read on from a place
-abbrev pub entries_on : Bytes → EntriesAt → ℕ → Found EntriesAt
+abbrev pub entries_on : Bytes → Entries → ℕ → Found Entries
 entries_on s r i = on (entries_way s) r i
 
 pub entries_start : (s : Bytes) (at : ℕ) → entries_found s at ≡ entries_on s (record { next = 0; count = 0; over = false; names = replicate 4 0; values = replicate 4 (pos 0) }) at
@@ -76,7 +88,7 @@ entries_start s at = list_start (entries_way s) entries_so_far one_more (entries
 
 -- ---- the whole list, for a reader of lines
 
-unfoldable entries_whole : (s : Bytes) → Whole Entry EntriesAt s
+unfoldable entries_whole : (s : Bytes) → Whole Entry Entries s
 unfolding entries_seen
 entries_whole s =
     record {
@@ -99,7 +111,7 @@ module _ (s : Bytes) (p : ℕ) where
   unfolding entries_found entries_whole
   some_entries_none e = some_none (entries_whole s) p e
 
-  module _ {n : EntriesAt} (e : Some n ≡ entries_found s p) where
+  module _ {n : Entries} (e : Some n ≡ entries_found s p) where
     pub entries_some : {X : Type 0} → ((xs : List Entry) → read_items closes read_entry (length s) (drop p s) ≡ some (record { what = xs; left = drop n.next s }) → n ≡ entries_seen s (record { what = xs; left = drop n.next s }) → X) → X
     unfolding entries_found entries_whole
     entries_some k = items_some (entries_whole s) p e k
@@ -116,46 +128,3 @@ module _ (s : Bytes) (p : ℕ) where
         → ((xs : List Entry) → read_some closes read_entry (length s) (drop p s) ≡ some (record { what = xs; left = drop n.next s }) → n ≡ entries_seen s (record { what = xs; left = drop n.next s }) → X) → X
     unfolding entries_found entries_whole
     some_entries_some f k = some_some (entries_whole s) p e f k
-
--- ---- the same with a flag
-
-unfoldable entries_listing : (s : Bytes) → Listing Entry Entries s
-unfolding entries_read no_entries
-entries_listing s =
-    record {
-      item = read_entry;
-      leaves = entry_leaves;
-      seen = entries_read s;
-      ok = λ n. n.ok;
-      next = λ n. n.next;
-      count = λ n. n.count;
-      most = 4;
-      unseen = refl;
-      ok_seen = λ a. refl;
-      next_seen = λ a. refl;
-      count_seen = λ a. refl;
-    }
-
-module _ (s : Bytes) (p : ℕ) {n : Entries} (e : n ≡ entries_at s p) where
-  pub entries_not : not n.ok ≡ true → read_items closes read_entry (length s) (drop p s) ≡ none
-  unfolding entries_at entries_listing
-  entries_not q = list_not (entries_listing s) p e q
-
-  pub some_entries_not : not n.ok ≡ true → read_some closes read_entry (length s) (drop p s) ≡ none
-  unfolding entries_at entries_listing
-  some_entries_not q = some_not (entries_listing s) p e q
-
-  module _ (q : not n.ok ≡ false) where
-    pub entries_is : {X : Type 0}
-        → ((xs : List Entry) → read_items closes read_entry (length s) (drop p s) ≡ some (record { what = xs; left = drop n.next s }) → n ≡ entries_read s (some (record { what = xs; left = drop n.next s })) → X) → X
-    unfolding entries_at entries_listing
-    entries_is k = list_is (entries_listing s) p e q k
-
-    pub some_entries_empty : n.count ≡ 0 → read_some closes read_entry (length s) (drop p s) ≡ none
-    unfolding entries_at entries_listing
-    some_entries_empty z = some_empty (entries_listing s) p e q z
-
-    pub some_entries_is : {X : Type 0} → (n.count ≡ 0 → ⊥)
-        → ((xs : List Entry) → read_some closes read_entry (length s) (drop p s) ≡ some (record { what = xs; left = drop n.next s }) → n ≡ entries_read s (some (record { what = xs; left = drop n.next s })) → X) → X
-    unfolding entries_at entries_listing
-    some_entries_is f k = some_is (entries_listing s) p e q f k

@@ -6,4 +6,3 @@ pub mod EntryLists
 pub mod NameCodes
 pub mod Profile
 pub mod Sameness
-pub mod Flags

@@ -1,7 +1,7 @@
 -- The names at a place as the code reads them.
 use mathlib.Core.Path.{◌≡◌, refl, sym, ap, ◌∙◌}
 use mathlib.Core.List.{List, [], ◌∷◌, ◌++◌, map}
-use mathlib.Core.Bool.{Bool, true, false, not}
+use mathlib.Core.Bool.{Bool, false, ◌||◌, not}
 use mathlib.Core.Option.{none, some}
 use Prim.Native.Nat.{ℕ, ◌≤◌, min}
 use native.Mathlib.Omega.{arith}
@@ -15,20 +15,32 @@ use Rattle.text.specs.declared.NameAt.{NameAt}
 use Rattle.text.specs.Words.{Found, Some, None, name_seen}
 use Rattle.text.proofs.Views.{name_reading}
 use Rattle.items.specs.declared.Names.{Names}
-use Rattle.items.specs.declared.NamesAt.{NamesAt}
-use Rattle.items.specs.Items.{first_of, code_short, names_seen, names_found, name_more, names_read, names_at, no_names}
-use Rattle.items.proofs.Lists.{Whole, items_none, items_some, items_within, some_none, some_empty_none, some_some, Listing, list_not, list_is, some_not, some_empty, some_is}
+use Rattle.items.specs.Items.{first_of, code_short, names_seen, names_found, name_more}
+use Rattle.items.proofs.Lists.{Whole, items_none, items_some, items_within, some_none, some_empty_none, some_some}
 use Rattle.items.proofs.Folds.{first_more, every_more, map_more, length_more, Way, on, list_start}
+
+-- ---- one name more
+
+module _ (r : Names) (n : NameAt) where
+  pub name_full : length r.codes ≡ 6 → 6 ≤ r.count → record { next = r.next; count = 7; long = r.long || n.long; codes = r.codes } ≡ name_more r n
+  unfolding name_more
+  name_full k h =
+      let c : 7 ≡ min (suc r.count) 7 = omega arith in
+      rw (set_out r.codes r.count n.code (omega arith), sym c)
+
+  pub name_room : r.count < 6 → record { next = r.next; count = r.count + 1; long = r.long || n.long; codes = set r.codes r.count n.code } ≡ name_more r n
+  unfolding name_more
+  name_room h = let c : min (suc r.count) 7 ≡ r.count + 1 = omega arith in rw c
 
 -- ---- the list, name by name
 
-unfoldable pub name_step : NamesAt → Bytes → NamesAt
+unfoldable pub name_step : Names → Bytes → Names
 name_step r w = name_more r (record { long = not (short w); code = code_short w; next = 0 })
 
-names_so_far : List Bytes → NamesAt
+names_so_far : List Bytes → Names
 names_so_far ws = record { next = 0; count = min (length ws) 7; long = not (every short ws); codes = first_of 6 0 (map code_short ws) }
 
-alike : {c d : ℕ} {l m : Bool} {x y : List ℕ} → c ≡ d → l ≡ m → x ≡ y → ◌≡◌ {A = NamesAt} (record { next = 0; count = c; long = l; codes = x }) (record { next = 0; count = d; long = m; codes = y })
+alike : {c d : ℕ} {l m : Bool} {x y : List ℕ} → c ≡ d → l ≡ m → x ≡ y → ◌≡◌ {A = Names} (record { next = 0; count = c; long = l; codes = x }) (record { next = 0; count = d; long = m; codes = y })
 alike e f g = rw (e, f, g)
 
 one_more : (ws : List Bytes) (w : Bytes) → name_step (names_so_far ws) w ≡ names_so_far (ws ++ (w ∷ []))
@@ -39,7 +51,7 @@ one_more ws w =
     alike (omega arith) (every_more short ws w)
     (ap (λ n. set (first_of 6 0 (map code_short ws)) n (code_short w)) m ∙ first_more 0 6 (map code_short ws) (code_short w) ∙ ap (first_of 6 0) (map_more code_short ws w))
 
-unfoldable pub names_way : (s : Bytes) → Way Bytes NameAt NamesAt s
+unfoldable pub names_way : (s : Bytes) → Way Bytes NameAt Names s
 unfolding name_reading name_seen name_step name_more code_short
 names_way s =
     record {
@@ -51,7 +63,7 @@ names_way s =
     }
 
 -- what is read so far, joined to what is read on from a place
-abbrev pub names_on : Bytes → NamesAt → ℕ → Found NamesAt
+abbrev pub names_on : Bytes → Names → ℕ → Found Names
 names_on s r i = on (names_way s) r i
 
 pub names_start : (s : Bytes) (at : ℕ) → names_found s at ≡ names_on s (record { next = 0; count = 0; long = false; codes = replicate 6 0 }) at
@@ -60,7 +72,7 @@ names_start s at = list_start (names_way s) names_so_far one_more (names_seen s)
 
 -- ---- the whole list, for a reader of lines
 
-unfoldable names_whole : (s : Bytes) → Whole Bytes NamesAt s
+unfoldable names_whole : (s : Bytes) → Whole Bytes Names s
 unfolding names_seen
 names_whole s =
     record {
@@ -83,7 +95,7 @@ module _ (s : Bytes) (p : ℕ) where
   unfolding names_found names_whole
   some_names_none e = some_none (names_whole s) p e
 
-  module _ {n : NamesAt} (e : Some n ≡ names_found s p) where
+  module _ {n : Names} (e : Some n ≡ names_found s p) where
     pub names_some : {X : Type 0} → ((xs : List Bytes) → read_items closes read_name (length s) (drop p s) ≡ some (record { what = xs; left = drop n.next s }) → n ≡ names_seen s (record { what = xs; left = drop n.next s }) → X) → X
     unfolding names_found names_whole
     names_some k = items_some (names_whole s) p e k
@@ -100,46 +112,3 @@ module _ (s : Bytes) (p : ℕ) where
         → ((xs : List Bytes) → read_some closes read_name (length s) (drop p s) ≡ some (record { what = xs; left = drop n.next s }) → n ≡ names_seen s (record { what = xs; left = drop n.next s }) → X) → X
     unfolding names_found names_whole
     some_names_some f k = some_some (names_whole s) p e f k
-
--- ---- the same with a flag
-
-unfoldable names_listing : (s : Bytes) → Listing Bytes Names s
-unfolding names_read no_names
-names_listing s =
-    record {
-      item = read_name;
-      leaves = name_leaves;
-      seen = names_read s;
-      ok = λ n. n.ok;
-      next = λ n. n.next;
-      count = λ n. n.count;
-      most = 6;
-      unseen = refl;
-      ok_seen = λ a. refl;
-      next_seen = λ a. refl;
-      count_seen = λ a. refl;
-    }
-
-module _ (s : Bytes) (p : ℕ) {n : Names} (e : n ≡ names_at s p) where
-  pub names_not : not n.ok ≡ true → read_items closes read_name (length s) (drop p s) ≡ none
-  unfolding names_at names_listing
-  names_not q = list_not (names_listing s) p e q
-
-  pub some_names_not : not n.ok ≡ true → read_some closes read_name (length s) (drop p s) ≡ none
-  unfolding names_at names_listing
-  some_names_not q = some_not (names_listing s) p e q
-
-  module _ (q : not n.ok ≡ false) where
-    pub names_is : {X : Type 0}
-        → ((xs : List Bytes) → read_items closes read_name (length s) (drop p s) ≡ some (record { what = xs; left = drop n.next s }) → n ≡ names_read s (some (record { what = xs; left = drop n.next s })) → X) → X
-    unfolding names_at names_listing
-    names_is k = list_is (names_listing s) p e q k
-
-    pub some_names_empty : n.count ≡ 0 → read_some closes read_name (length s) (drop p s) ≡ none
-    unfolding names_at names_listing
-    some_names_empty z = some_empty (names_listing s) p e q z
-
-    pub some_names_is : {X : Type 0} → (n.count ≡ 0 → ⊥)
-        → ((xs : List Bytes) → read_some closes read_name (length s) (drop p s) ≡ some (record { what = xs; left = drop n.next s }) → n ≡ names_read s (some (record { what = xs; left = drop n.next s })) → X) → X
-    unfolding names_at names_listing
-    some_names_is f k = some_is (names_listing s) p e q f k

@@ -5,11 +5,12 @@ use mathlib.Core.Bool.{Bool, true, false, ◌||◌, ◌&&◌, not}
 use Prim.Native.Nat.{ℕ, ◌+◌, ◌-◌, ◌≤◌, ◌<◌, min}
 use native.Mathlib.Omega.{arith}
 use native.Mathlib.Numerals.{add-one}
-use lib.Dec.{eqb, ltb}
+use lib.Dec.{eqb}
 use lib.ListN.{length, take, drop, get_or, length-drop, drop_of_length-le}
 use lib.Seq.{drop-cons, take_all}
-use borrow.Author.Tests.{eq-eqb, ne_eqb, eqb-true, eqb-false, ltb-true, ltb-false}
+use borrow.Author.Tests.{eq-eqb, ne_eqb, eqb-true, eqb-false}
 use Rattle.std.specs.List.{list_any}
+use Rattle.std.proofs.lemmas.List.{take_min}
 use Rattle.lists.specs.Lists.{some?, distinct}
 use Rattle.items.specs.Items.{once}
 
@@ -45,13 +46,10 @@ module _ (xs : List ℕ) (i : ℕ) (inv : distinct eqb xs ≡ distinct eqb (drop
     pub distinct_more : a ≡ false → distinct eqb xs ≡ distinct eqb (drop (i + 1) xs)
     distinct_more t = here ∙ rw t
 
-pub once_is : (xs : List ℕ) (n : ℕ) {m : ℕ} {r : Bool} → length xs ≡ 6 → m ≡ min n 6 → r ≡ distinct eqb (take m xs) → r ≡ once xs n
+-- of a count above all only as many are taken
+pub first_few : (xs : List ℕ) (n : ℕ) {m k : ℕ} → length xs ≡ k → m ≡ min n k → take m xs ≡ take n xs
+first_few xs n l e = ap (λ m. take m xs) (e ∙ ap (min n) (sym l)) ∙ take_min n xs
+
+pub once_is : (xs : List ℕ) (n : ℕ) {m k : ℕ} {r : Bool} → length xs ≡ k → m ≡ min n k → r ≡ distinct eqb (take m xs) → r ≡ once xs n
 unfolding once
-once_is xs n {m} l e d = d ∙ ap (distinct eqb) (go (ltb n 6) refl)
-  where
-    go : (b : Bool) → ltb n 6 ≡ b → take m xs ≡ take n xs
-    go true t = let h = ltb-true n 6 t in let k : m ≡ n = omega arith in rw k
-    go false t =
-        let h = ltb-false n 6 t in
-        let k : m ≡ 6 = omega arith in
-        rw k (take_all 6 xs (omega arith) ∙ sym (take_all n xs (omega arith)))
+once_is xs n l e d = d ∙ ap (distinct eqb) (first_few xs n l e)

@@ -1,7 +1,7 @@
 -- The numbers at a place as the code reads them.
 use mathlib.Core.Path.{◌≡◌, refl, sym, ap, ◌∙◌}
 use mathlib.Core.List.{List, [], ◌∷◌, ◌++◌, map}
-use mathlib.Core.Bool.{Bool, true, false, not}
+use mathlib.Core.Bool.{Bool, false, ◌||◌, not}
 use mathlib.Core.Option.{none, some}
 use Prim.Native.Nat.{ℕ, ◌≤◌, min}
 use native.Mathlib.Omega.{arith}
@@ -18,20 +18,32 @@ use Rattle.text.proofs.Ranges.{value_clamp}
 use Rattle.text.proofs.Views.{number_reading}
 use Rattle.text.proofs.Found.{value_flag, value_or}
 use Rattle.items.specs.declared.Values.{Values}
-use Rattle.items.specs.declared.ValuesAt.{ValuesAt}
-use Rattle.items.specs.Items.{first_of, values_seen, values_found, value_more, values_read, values_at, no_values}
-use Rattle.items.proofs.Lists.{Whole, items_none, items_some, items_within, some_none, some_empty_none, some_some, Listing, list_not, list_is, some_not, some_empty, some_is}
+use Rattle.items.specs.Items.{first_of, values_seen, values_found, value_more}
+use Rattle.items.proofs.Lists.{Whole, items_none, items_some, items_within, some_none, some_empty_none, some_some}
 use Rattle.items.proofs.Folds.{first_more, every_more, map_more, length_more, Way, on, list_start}
+
+-- ---- one number more
+
+module _ (r : Values) (v : Found ℤ) {b : Bool} (e : b ≡ is_none v) where
+  pub value_full : length r.values ≡ 6 → 6 ≤ r.count → record { next = r.next; count = 7; wide = r.wide || b; values = r.values } ≡ value_more r v
+  unfolding value_more
+  value_full k h =
+      let c : 7 ≡ min (suc r.count) 7 = omega arith in
+      rw (e, set_out r.values r.count (unwrap_or v (pos 0)) (omega arith), sym c)
+
+  pub value_room : {z : ℤ} → z ≡ unwrap_or v (pos 0) → r.count < 6 → record { next = r.next; count = r.count + 1; wide = r.wide || b; values = set r.values r.count z } ≡ value_more r v
+  unfolding value_more
+  value_room d h = let c : min (suc r.count) 7 ≡ r.count + 1 = omega arith in rw (e, d, c)
 
 -- ---- the list, number by number
 
-unfoldable pub value_step : ValuesAt → ℤ → ValuesAt
+unfoldable pub value_step : Values → ℤ → Values
 value_step r z = value_more r (value_given z)
 
-values_so_far : List ℤ → ValuesAt
+values_so_far : List ℤ → Values
 values_so_far zs = record { next = 0; count = min (length zs) 7; wide = not (every is_value zs); values = first_of 6 (pos 0) (map value_kept zs) }
 
-alike : {c d : ℕ} {l m : Bool} {x y : List ℤ} → c ≡ d → l ≡ m → x ≡ y → ◌≡◌ {A = ValuesAt} (record { next = 0; count = c; wide = l; values = x }) (record { next = 0; count = d; wide = m; values = y })
+alike : {c d : ℕ} {l m : Bool} {x y : List ℤ} → c ≡ d → l ≡ m → x ≡ y → ◌≡◌ {A = Values} (record { next = 0; count = c; wide = l; values = x }) (record { next = 0; count = d; wide = m; values = y })
 alike e f g = rw (e, f, g)
 
 one_more : (zs : List ℤ) (z : ℤ) → value_step (values_so_far zs) z ≡ values_so_far (zs ++ (z ∷ []))
@@ -43,7 +55,7 @@ one_more zs z =
     (alike (omega arith) (every_more is_value zs z)
     (ap (λ n. set (first_of 6 (pos 0) (map value_kept zs)) n (value_kept z)) m ∙ first_more (pos 0) 6 (map value_kept zs) (value_kept z) ∙ ap (first_of 6 (pos 0)) (map_more value_kept zs z)))
 
-unfoldable pub values_way : (s : Bytes) → Way ℤ NumberAt ValuesAt s
+unfoldable pub values_way : (s : Bytes) → Way ℤ NumberAt Values s
 unfolding number_reading number_seen value_step
 values_way s =
     record {
@@ -55,7 +67,7 @@ values_way s =
     }
 
 -- what is read so far, joined to what is read on from a place
-abbrev pub values_on : Bytes → ValuesAt → ℕ → Found ValuesAt
+abbrev pub values_on : Bytes → Values → ℕ → Found Values
 values_on s r i = on (values_way s) r i
 
 pub values_start : (s : Bytes) (at : ℕ) → values_found s at ≡ values_on s (record { next = 0; count = 0; wide = false; values = replicate 6 (pos 0) }) at
@@ -64,7 +76,7 @@ values_start s at = list_start (values_way s) values_so_far one_more (values_see
 
 -- ---- the whole list, for a reader of lines
 
-unfoldable values_whole : (s : Bytes) → Whole ℤ ValuesAt s
+unfoldable values_whole : (s : Bytes) → Whole ℤ Values s
 unfolding values_seen
 values_whole s =
     record {
@@ -87,7 +99,7 @@ module _ (s : Bytes) (p : ℕ) where
   unfolding values_found values_whole
   some_values_none e = some_none (values_whole s) p e
 
-  module _ {n : ValuesAt} (e : Some n ≡ values_found s p) where
+  module _ {n : Values} (e : Some n ≡ values_found s p) where
     pub values_some : {X : Type 0} → ((xs : List ℤ) → read_items closes read_int (length s) (drop p s) ≡ some (record { what = xs; left = drop n.next s }) → n ≡ values_seen s (record { what = xs; left = drop n.next s }) → X) → X
     unfolding values_found values_whole
     values_some k = items_some (values_whole s) p e k
@@ -104,46 +116,3 @@ module _ (s : Bytes) (p : ℕ) where
         → ((xs : List ℤ) → read_some closes read_int (length s) (drop p s) ≡ some (record { what = xs; left = drop n.next s }) → n ≡ values_seen s (record { what = xs; left = drop n.next s }) → X) → X
     unfolding values_found values_whole
     some_values_some f k = some_some (values_whole s) p e f k
-
--- ---- the same with a flag
-
-unfoldable values_listing : (s : Bytes) → Listing ℤ Values s
-unfolding values_read no_values
-values_listing s =
-    record {
-      item = read_int;
-      leaves = int_leaves;
-      seen = values_read s;
-      ok = λ n. n.ok;
-      next = λ n. n.next;
-      count = λ n. n.count;
-      most = 6;
-      unseen = refl;
-      ok_seen = λ a. refl;
-      next_seen = λ a. refl;
-      count_seen = λ a. refl;
-    }
-
-module _ (s : Bytes) (p : ℕ) {n : Values} (e : n ≡ values_at s p) where
-  pub values_not : not n.ok ≡ true → read_items closes read_int (length s) (drop p s) ≡ none
-  unfolding values_at values_listing
-  values_not q = list_not (values_listing s) p e q
-
-  pub some_values_not : not n.ok ≡ true → read_some closes read_int (length s) (drop p s) ≡ none
-  unfolding values_at values_listing
-  some_values_not q = some_not (values_listing s) p e q
-
-  module _ (q : not n.ok ≡ false) where
-    pub values_is : {X : Type 0}
-        → ((xs : List ℤ) → read_items closes read_int (length s) (drop p s) ≡ some (record { what = xs; left = drop n.next s }) → n ≡ values_read s (some (record { what = xs; left = drop n.next s })) → X) → X
-    unfolding values_at values_listing
-    values_is k = list_is (values_listing s) p e q k
-
-    pub some_values_empty : n.count ≡ 0 → read_some closes read_int (length s) (drop p s) ≡ none
-    unfolding values_at values_listing
-    some_values_empty z = some_empty (values_listing s) p e q z
-
-    pub some_values_is : {X : Type 0} → (n.count ≡ 0 → ⊥)
-        → ((xs : List ℤ) → read_some closes read_int (length s) (drop p s) ≡ some (record { what = xs; left = drop n.next s }) → n ≡ values_read s (some (record { what = xs; left = drop n.next s })) → X) → X
-    unfolding values_at values_listing
-    some_values_is f k = some_is (values_listing s) p e q f k

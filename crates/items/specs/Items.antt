@@ -1,6 +1,5 @@
 -- Lists of names, numbers and profile entries in a line: each item after one space, up to a closing bracket.
-use Rattle.std.specs.Prelude.{List, map, Bool, true, false, ◌&&◌, ◌||◌, not, cond, ℕ, suc, ◌-◌, min, ℤ, pos, eqb, length, drop, take, get_or, set, replicate, is_none, unwrap_or}
-use Rattle.std.proofs.Math.Option.{Option, none, some}
+use Rattle.std.specs.Prelude.{List, map, Bool, ◌&&◌, ◌||◌, not, cond, ℕ, suc, min, ℤ, pos, eqb, length, drop, take, get_or, set, is_none, unwrap_or}
 use Rattle.lists.specs.Lists.{every, distinct, count_from}
 use Rattle.syntax.specs.Grammar.{Bytes, Entry}
 use Rattle.syntax.specs.Readers.{Read, closes, read_name, read_int, read_entry}
@@ -11,9 +10,6 @@ use Rattle.text.specs.Readings.{any_items}
 use Rattle.items.specs.declared.Names.{Names}
 use Rattle.items.specs.declared.Values.{Values}
 use Rattle.items.specs.declared.Entries.{Entries}
-use Rattle.items.specs.declared.NamesAt.{NamesAt}
-use Rattle.items.specs.declared.ValuesAt.{ValuesAt}
-use Rattle.items.specs.declared.EntriesAt.{EntriesAt}
 use Rattle.items.specs.declared.EntryAt.{EntryAt}
 
 -- the first n of a list, with a filler past its end
@@ -26,11 +22,8 @@ first_of n filler xs = map (λ i. get_or xs i filler) (count_from 0 n)
 unfoldable pub code_short : Bytes → ℕ
 code_short w = cond (short w) (code_of w) 0
 
-unfoldable pub no_names : Names
-no_names = record { ok = false; next = 0; count = 0; long = false; codes = replicate max_columns 0 }
-
 -- the place after them, how many (7 for more than 6), whether one is longer than a name may be, and the numbers of the first six
-unfoldable pub names_seen : Bytes → Read (List Bytes) → NamesAt
+unfoldable pub names_seen : Bytes → Read (List Bytes) → Names
 names_seen s r =
     record {
       next = left_at s r;
@@ -39,34 +32,17 @@ names_seen s r =
       codes = first_of max_columns 0 (map code_short r.what);
     }
 
-unfoldable pub names_found : Bytes → ℕ → Found NamesAt
+unfoldable pub names_found : Bytes → ℕ → Found Names
 names_found s at = seen (names_seen s) (any_items closes read_name (drop at s))
 
 -- what is read so far, with one name more
-unfoldable pub name_more : NamesAt → NameAt → NamesAt
+unfoldable pub name_more : Names → NameAt → Names
 name_more r n = record { next = r.next; count = min (suc r.count) (suc max_columns); long = r.long || n.long; codes = set r.codes r.count n.code }
-
-unfoldable pub names_read : Bytes → Option (Read (List Bytes)) → Names
-names_read s none = no_names
-names_read s (some r) =
-    record {
-      ok = true;
-      next = length s - length r.left;
-      count = min (length r.what) (suc max_columns);
-      long = not (every short r.what);
-      codes = first_of max_columns 0 (map code_short r.what);
-    }
-
-unfoldable pub names_at : Bytes → ℕ → Names
-names_at s at = names_read s (any_items closes read_name (drop at s))
 
 -- ---- numbers
 
-unfoldable pub no_values : Values
-no_values = record { ok = false; next = 0; count = 0; wide = false; values = replicate max_columns (pos 0) }
-
 -- the place after them, how many (7 for more than 6), whether one is beyond 32 bits, and the first six
-unfoldable pub values_seen : Bytes → Read (List ℤ) → ValuesAt
+unfoldable pub values_seen : Bytes → Read (List ℤ) → Values
 values_seen s r =
     record {
       next = left_at s r;
@@ -75,26 +51,12 @@ values_seen s r =
       values = first_of max_columns (pos 0) (map value_kept r.what);
     }
 
-unfoldable pub values_found : Bytes → ℕ → Found ValuesAt
+unfoldable pub values_found : Bytes → ℕ → Found Values
 values_found s at = seen (values_seen s) (any_items closes read_int (drop at s))
 
 -- what is read so far, with one number more
-unfoldable pub value_more : ValuesAt → Found ℤ → ValuesAt
+unfoldable pub value_more : Values → Found ℤ → Values
 value_more r v = record { next = r.next; count = min (suc r.count) (suc max_columns); wide = r.wide || is_none v; values = set r.values r.count (unwrap_or v (pos 0)) }
-
-unfoldable pub values_read : Bytes → Option (Read (List ℤ)) → Values
-values_read s none = no_values
-values_read s (some r) =
-    record {
-      ok = true;
-      next = length s - length r.left;
-      count = min (length r.what) (suc max_columns);
-      wide = not (every is_value r.what);
-      values = first_of max_columns (pos 0) (map value_kept r.what);
-    }
-
-unfoldable pub values_at : Bytes → ℕ → Values
-values_at s at = values_read s (any_items closes read_int (drop at s))
 
 -- ---- profile entries
 
@@ -111,11 +73,8 @@ entry_seen s r =
 unfoldable pub entry_found : Bytes → ℕ → Found EntryAt
 entry_found s at = seen (entry_seen s) (read_entry (drop at s))
 
-unfoldable pub no_entries : Entries
-no_entries = record { ok = false; next = 0; count = 0; over = false; names = replicate max_entries 0; values = replicate max_entries (pos 0) }
-
 -- the place after them, how many (5 for more than 4), whether a name is too long or a value beyond 32 bits, and the first four
-unfoldable pub entries_seen : Bytes → Read (List Entry) → EntriesAt
+unfoldable pub entries_seen : Bytes → Read (List Entry) → Entries
 entries_seen s r =
     record {
       next = left_at s r;
@@ -125,11 +84,11 @@ entries_seen s r =
       values = first_of max_entries (pos 0) (map (λ e. value_kept e.value) r.what);
     }
 
-unfoldable pub entries_found : Bytes → ℕ → Found EntriesAt
+unfoldable pub entries_found : Bytes → ℕ → Found Entries
 entries_found s at = seen (entries_seen s) (any_items closes read_entry (drop at s))
 
 -- what is read so far, with one entry more
-unfoldable pub entry_more : EntriesAt → EntryAt → EntriesAt
+unfoldable pub entry_more : Entries → EntryAt → Entries
 entry_more r e =
     record {
       next = r.next;
@@ -138,22 +97,6 @@ entry_more r e =
       names = set r.names r.count e.name;
       values = set r.values r.count e.value;
     }
-
--- how many (5 for more than 4), whether a name is too long or a value beyond 32 bits, and the first four
-unfoldable pub entries_read : Bytes → Option (Read (List Entry)) → Entries
-entries_read s none = no_entries
-entries_read s (some r) =
-    record {
-      ok = true;
-      next = length s - length r.left;
-      count = min (length r.what) (suc max_entries);
-      over = not (every (λ e. short e.name && is_value e.value) r.what);
-      names = first_of max_entries 0 (map (λ e. code_short e.name) r.what);
-      values = first_of max_entries (pos 0) (map (λ e. value_kept e.value) r.what);
-    }
-
-unfoldable pub entries_at : Bytes → ℕ → Entries
-entries_at s at = entries_read s (any_items closes read_entry (drop at s))
 
 -- ---- sameness
 

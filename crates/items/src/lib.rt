@@ -4,13 +4,13 @@
 ghost use Rattle.std.specs.Prelude.{◌≡◌, ◌<◌, ◌-◌, ◌^◌, suc, eqb, min, set};
 ghost use Rattle.lists.specs.Lists.{distinct};
 ghost use Rattle.syntax.specs.Limits.{max_columns, max_entries};
-ghost use Rattle.items.specs.Items.{name_more, names_found, names_at, value_more, values_found, values_at, entry_found, entry_more, entries_found, entries_at, once};
+ghost use Rattle.items.specs.Items.{name_more, names_found, value_more, values_found, entry_found, entry_more, entries_found};
 
 use text::{NameAt, Word};
 
 // Names at a place: the place after them, how many, Names::OVER for more than are kept, whether one is too long, and the first of them as numbers.
 #[derive(Clone, Copy)]
-pub struct NamesAt {
+pub struct Names {
     pub next: usize,
     pub count: u32,
     pub long: bool,
@@ -19,7 +19,7 @@ pub struct NamesAt {
 
 // Numbers at a place: the place after them, how many, Names::OVER for more than are kept, whether one is beyond 32 bits, and the first of them.
 #[derive(Clone, Copy)]
-pub struct ValuesAt {
+pub struct Values {
     pub next: usize,
     pub count: u32,
     pub wide: bool,
@@ -37,22 +37,12 @@ pub struct EntryAt {
 
 // Profile entries at a place: the place after them, how many, Entries::OVER for more than are kept, whether one is out of bounds, and the first of them.
 #[derive(Clone, Copy)]
-pub struct EntriesAt {
+pub struct Entries {
     pub next: usize,
     pub count: u32,
     pub over: bool,
     pub names: [u64; Entries::MOST],
     pub values: [i32; Entries::MOST],
-}
-
-// Names: how many, Names::OVER for more than are kept, whether one is too long, and the first of them as numbers.
-#[derive(Clone, Copy)]
-pub struct Names {
-    pub ok: bool,
-    pub next: usize,
-    pub count: u32,
-    pub long: bool,
-    pub codes: [u64; Names::MOST],
 }
 
 impl Names {
@@ -69,27 +59,6 @@ impl Names {
     }
 }
 
-// Numbers: how many, Names::OVER for more than are kept, whether one is beyond 32 bits, and the first of them.
-#[derive(Clone, Copy)]
-pub struct Values {
-    pub ok: bool,
-    pub next: usize,
-    pub count: u32,
-    pub wide: bool,
-    pub values: [i32; Names::MOST],
-}
-
-// Profile entries: how many, Entries::OVER for more than are kept, whether one is out of bounds, and the first of them.
-#[derive(Clone, Copy)]
-pub struct Entries {
-    pub ok: bool,
-    pub next: usize,
-    pub count: u32,
-    pub over: bool,
-    pub names: [u64; Entries::MOST],
-    pub values: [i32; Entries::MOST],
-}
-
 impl Entries {
     // How many entries a caller may have.
     pub const MOST: usize = 4;
@@ -104,21 +73,7 @@ impl Entries {
     }
 }
 
-// Keeps an item of a list where it is among the first. Returns the count with it, at most one more than are kept.
-fn keep<T: Copy, const N: usize>(items: &mut [T; N], count: u32, item: T) -> u32
-    requires { N < 2 ^ 32 - 1 }
-    ensures items { items.new ≡ set items.old count item }
-    ensures count { result ≡ min (suc count) (suc N) }
-{
-    let at = count as usize;
-    if N <= at {
-        return N as u32 + 1;
-    }
-    items[at] = item;
-    count + 1
-}
-
-impl NamesAt {
+impl Names {
     // Counts one name more, and keeps it where it is among the first.
     fn add(&mut self, n: NameAt)
         ensures { self.new ≡ name_more self.old n }
@@ -129,10 +84,10 @@ impl NamesAt {
 }
 
 // Returns the names at a place up to a closing bracket, and the place of that.
-pub fn read_names(s: &[u8], at: usize) -> Option<NamesAt>
+pub fn read_names(s: &[u8], at: usize) -> Option<Names>
     ensures { result ≡ names_found s.now at }
 {
-    let mut r = NamesAt {
+    let mut r = Names {
         next: 0,
         count: 0,
         long: false,
@@ -148,32 +103,7 @@ pub fn read_names(s: &[u8], at: usize) -> Option<NamesAt>
     Some(r)
 }
 
-// Returns the names at a place up to a closing bracket, and the place of that; `ok` is false where there is no such list, and all else 0.
-pub fn names_at(s: &[u8], at: usize) -> Names
-    ensures { result ≡ names_at s.now at }
-{
-    match read_names(s, at) {
-        None => Names {
-            ok: false,
-            next: 0,
-            count: 0,
-            long: false,
-            codes: [0; Names::MOST],
-        },
-        Some(r) => {
-            let codes = r.codes;
-            Names {
-                ok: true,
-                next: r.next,
-                count: r.count,
-                long: r.long,
-                codes: codes,
-            }
-        }
-    }
-}
-
-impl ValuesAt {
+impl Values {
     // Counts one number more, None where it is beyond 32 bits, and keeps it where it is among the first.
     fn add(&mut self, v: Option<i32>)
         ensures { self.new ≡ value_more self.old v }
@@ -184,10 +114,10 @@ impl ValuesAt {
 }
 
 // Returns the numbers at a place up to a closing bracket, and the place of that.
-pub fn read_values(s: &[u8], at: usize) -> Option<ValuesAt>
+pub fn read_values(s: &[u8], at: usize) -> Option<Values>
     ensures { result ≡ values_found s.now at }
 {
-    let mut r = ValuesAt {
+    let mut r = Values {
         next: 0,
         count: 0,
         wide: false,
@@ -201,31 +131,6 @@ pub fn read_values(s: &[u8], at: usize) -> Option<ValuesAt>
     }
     r.next = i;
     Some(r)
-}
-
-// Returns the numbers at a place up to a closing bracket, and the place of that; `ok` is false where there is no such list, and all else 0.
-pub fn values_at(s: &[u8], at: usize) -> Values
-    ensures { result ≡ values_at s.now at }
-{
-    match read_values(s, at) {
-        None => Values {
-            ok: false,
-            next: 0,
-            count: 0,
-            wide: false,
-            values: [0; Names::MOST],
-        },
-        Some(r) => {
-            let values = r.values;
-            Values {
-                ok: true,
-                next: r.next,
-                count: r.count,
-                wide: r.wide,
-                values: values,
-            }
-        }
-    }
 }
 
 // Returns the profile entry at a place, in brackets.
@@ -245,7 +150,7 @@ pub fn read_entry(s: &[u8], at: usize) -> Option<EntryAt>
     })
 }
 
-impl EntriesAt {
+impl Entries {
     // Counts one entry more, and keeps it where it is among the first.
     fn add(&mut self, e: EntryAt)
         ensures { self.new ≡ entry_more self.old e }
@@ -257,10 +162,10 @@ impl EntriesAt {
 }
 
 // Returns the profile entries at a place up to a closing bracket, and the place of that.
-pub fn read_entries(s: &[u8], at: usize) -> Option<EntriesAt>
+pub fn read_entries(s: &[u8], at: usize) -> Option<Entries>
     ensures { result ≡ entries_found s.now at }
 {
-    let mut r = EntriesAt {
+    let mut r = Entries {
         next: 0,
         count: 0,
         over: false,
@@ -277,34 +182,6 @@ pub fn read_entries(s: &[u8], at: usize) -> Option<EntriesAt>
     Some(r)
 }
 
-// Returns the profile entries at a place up to a closing bracket, and the place of that; `ok` is false where there is no such list, and all else 0.
-pub fn entries_at(s: &[u8], at: usize) -> Entries
-    ensures { result ≡ entries_at s.now at }
-{
-    match read_entries(s, at) {
-        None => Entries {
-            ok: false,
-            next: 0,
-            count: 0,
-            over: false,
-            names: [0; Entries::MOST],
-            values: [0; Entries::MOST],
-        },
-        Some(r) => {
-            let names = r.names;
-            let values = r.values;
-            Entries {
-                ok: true,
-                next: r.next,
-                count: r.count,
-                over: r.over,
-                names: names,
-                values: values,
-            }
-        }
-    }
-}
-
 // Returns whether of some numbers none stands twice.
 pub fn distinct(codes: &[u64]) -> bool
     ensures { result ≡ distinct eqb codes.now }
@@ -315,11 +192,4 @@ pub fn distinct(codes: &[u64]) -> bool
         }
     }
     true
-}
-
-// Returns whether of the first n numbers none stands twice.
-pub fn once(codes: [u64; Names::MOST], n: usize) -> bool
-    ensures { result ≡ once codes n }
-{
-    distinct(&codes[..n.min(Names::MOST)])
 }

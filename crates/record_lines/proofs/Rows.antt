@@ -27,7 +27,7 @@ use Rattle.text.specs.Readings.{closed}
 use Rattle.text.proofs.Places.{closed_is, closed_not, row_word}
 use Rattle.text.proofs.Views.{skip_none, skip_is}
 use Rattle.text.proofs.Found.{name_none, name_some, line_unread, line_read}
-use Rattle.items.specs.declared.ValuesAt.{ValuesAt}
+use Rattle.items.specs.declared.Values.{Values}
 use Rattle.items.specs.Items.{code_short, values_seen, values_found}
 use Rattle.items.proofs.ValueLists.{some_values_none, some_values_empty_none, some_values_some}
 use Rattle.record_lines.specs.Lines.{unread_row, row_given, row_of, row_after, row_line, row_read}
@@ -39,7 +39,7 @@ row_blank e = rw e
 
 -- ---- the line of a name and values, as the code makes it
 
-pub row_made : (n : NameAt) (vs : ValuesAt) {b : Bool} {c : Checks} → b ≡ (n.long || vs.wide) → c ≡ shown b false false (leb 7 vs.count) false
+pub row_made : (n : NameAt) (vs : Values) {b : Bool} {c : Checks} → b ≡ (n.long || vs.wide) → c ≡ shown b false false (leb 7 vs.count) false
     → record { checks = c; name = n.code; count = vs.count; values = vs.values } ≡ row_read n vs
 unfolding row_read
 row_made n vs e d = rw (d, e)
@@ -52,7 +52,7 @@ more_than_six n = go (ltb 6 n) refl
     go false e = let h = ltb-false 6 n e in lt-leb 7 (min n 7) (omega arith)
 
 -- it is the line that was read
-row_same : (s w : Bytes) (xs : List ℤ) (left : Bytes) (n : NameAt) {vs : ValuesAt} → n.long ≡ not (short w) → n.code ≡ code_short w → vs ≡ values_seen s (record { what = xs; left = left })
+row_same : (s w : Bytes) (xs : List ℤ) (left : Bytes) (n : NameAt) {vs : Values} → n.long ≡ not (short w) → n.code ≡ code_short w → vs ≡ values_seen s (record { what = xs; left = left })
     → row_read n vs ≡ row_given (record { name = w; values = xs })
 unfolding row_read row_given values_seen row_bounded
 row_same s w xs left n l c e = rw (l, c, e, more_than_six (length xs), not_both (short w) (every is_value xs))
@@ -74,7 +74,7 @@ module _ (s : Bytes) (at : ℕ) where
       unfolding row_after read_body ◌>>◌ ◌>>=◌ bind closed seen
       row_listless e = name_some s p m (λ w y l c. rw (skip_is s at 32 q, y, some_values_none s n.next e))
 
-      module _ {vs : ValuesAt} (g : Some vs ≡ values_found s n.next) where
+      module _ {vs : Values} (g : Some vs ≡ values_found s n.next) where
         pub row_empty : vs.count ≡ 0 → None ≡ row_after s at
         unfolding row_after read_body ◌>>◌ ◌>>=◌ bind closed seen
         row_empty z = name_some s p m (λ w y l c. rw (skip_is s at 32 q, y, some_values_empty_none s n.next g z))

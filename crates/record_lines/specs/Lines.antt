@@ -12,7 +12,7 @@ use Rattle.text.specs.Words.{Found, None, seen, value_kept, time_given}
 use Rattle.text.specs.Readings.{closed}
 use Rattle.text.specs.declared.NameAt.{NameAt}
 use Rattle.items.specs.Items.{code_short, first_of}
-use Rattle.items.specs.declared.ValuesAt.{ValuesAt}
+use Rattle.items.specs.declared.Values.{Values}
 use Rattle.record_lines.specs.declared.ClockLine.{ClockLine}
 use Rattle.record_lines.specs.declared.RowLine.{RowLine}
 
@@ -71,5 +71,5 @@ unfoldable pub row_line : Bytes → RowLine
 row_line bs = cond (ltb max_line (length bs)) (unread_row true) (row_of (parse_as G.row bs))
 
 -- the same by a name and values as the code reads them
-unfoldable pub row_read : NameAt → ValuesAt → RowLine
+unfoldable pub row_read : NameAt → Values → RowLine
 row_read n vs = record { checks = shown (n.long || vs.wide) false false (leb (suc max_columns) vs.count) false; name = n.code; count = vs.count; values = vs.values }

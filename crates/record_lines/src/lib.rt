@@ -6,7 +6,7 @@ ghost use Rattle.refusal.specs.Results.{said_by, held_after};
 ghost use Rattle.record_lines.specs.Lines.{clock_line, clock_after, unread_clock, clear_line, row_line, row_after, unread_row, row_read};
 ghost use Rattle.record_lines.specs.Calls.{clock_line_call, clear_line_call, RowLineCall};
 
-use items::{Names, ValuesAt};
+use items::{Names, Values};
 use ledger::Ledger;
 use refusal::{Checks, Refusal};
 use text::{Line, NameAt, Word};
@@ -88,7 +88,7 @@ fn unread_row(long: bool) -> RowLine
 }
 
 // The row line of a name and values.
-fn row_of(n: NameAt, vs: ValuesAt) -> RowLine
+fn row_of(n: NameAt, vs: Values) -> RowLine
     ensures { result ≡ row_read n vs }
 {
     let over = text::either(n.long, vs.wide);

@@ -26,7 +26,7 @@ use Rattle.text.proofs.Places.{closed_is, closed_not, stream_word}
 use Rattle.text.proofs.Views.{skip_none, skip_is}
 use Rattle.text.proofs.Found.{name_none, name_some}
 use Rattle.text.proofs.Found as T
-use Rattle.items.specs.declared.NamesAt.{NamesAt}
+use Rattle.items.specs.declared.Names.{Names}
 use Rattle.items.specs.Items.{code_short, names_seen, names_found}
 use Rattle.items.proofs.NameLists.{some_names_none, some_names_empty_none, some_names_some}
 use Rattle.items.proofs.Sameness.{once_is}
@@ -38,14 +38,14 @@ use Rattle.stream_line.proofs.Flags.{few_columns}
 -- ---- the line of a name and columns
 
 -- by its parts
-pub line_made : (n : NameAt) (cs : NamesAt) {long over o f : Bool} {m : ℕ} {c : Checks} → length cs.codes ≡ 6 → long ≡ (n.long || cs.long) → over ≡ (long || leb 7 cs.count) → m ≡ min cs.count 6
+pub line_made : (n : NameAt) (cs : Names) {long over o f : Bool} {m : ℕ} {c : Checks} → length cs.codes ≡ 6 → long ≡ (n.long || cs.long) → over ≡ (long || leb 7 cs.count) → m ≡ min cs.count 6
     → o ≡ distinct eqb (take m cs.codes) → f ≡ (code_free n.code && every code_free (take cs.count cs.codes)) → c ≡ shown over false (not o) (not f) false
     → record { checks = c; stream = record { name = n.code; count = cs.count; columns = cs.codes } } ≡ line_read n cs
 unfolding line_read
 line_made n cs l p q t r s e = rw (e, q, p, once_is cs.codes cs.count l t r, s)
 
 -- by what the text says
-line_said : (s w : Bytes) (xs : List Bytes) (l : Bytes) (n : NameAt) (cs : NamesAt) → n.long ≡ not (short w) → n.code ≡ cond (short w) (code_of w) 0 → cs ≡ names_seen s (record { what = xs; left = l })
+line_said : (s w : Bytes) (xs : List Bytes) (l : Bytes) (n : NameAt) (cs : Names) → n.long ≡ not (short w) → n.code ≡ cond (short w) (code_of w) 0 → cs ≡ names_seen s (record { what = xs; left = l })
     → line_read n cs ≡ read_line (record { name = w; columns = xs })
 unfolding line_read read_line stream_made stream_bounded names_seen code_short every
 line_said s w xs l n cs a b c =
@@ -68,7 +68,7 @@ module _ (s : Bytes) (at : ℕ) where
       unfolding line_after read_body ◌>>=◌ ◌>>◌ bind closed seen
       line_listless e = name_some s p m (λ v r i j. rw (skip_is s at 32 q, r, some_names_none s n.next e))
 
-      module _ {cs : NamesAt} (g : Some cs ≡ names_found s n.next) where
+      module _ {cs : Names} (g : Some cs ≡ names_found s n.next) where
         pub line_empty : cs.count ≡ 0 → None ≡ line_after s at
         unfolding line_after read_body ◌>>=◌ ◌>>◌ bind closed seen
         line_empty z = name_some s p m (λ v r i j. rw (skip_is s at 32 q, r, some_names_empty_none s n.next g z))

@@ -15,7 +15,7 @@ use Rattle.calls.specs.Tables.{stream_checks}
 use Rattle.text.specs.Words.{Found, seen, code_of}
 use Rattle.text.specs.Readings.{closed}
 use Rattle.text.specs.declared.NameAt.{NameAt}
-use Rattle.items.specs.declared.NamesAt.{NamesAt}
+use Rattle.items.specs.declared.Names.{Names}
 use Rattle.items.specs.Items.{code_short, first_of, once}
 use Rattle.schema.specs.declared.Stream as M
 use Rattle.schema.specs.Schemas.{code_free, schema_of, schema_sound, with_codes}
@@ -41,7 +41,7 @@ read_line s =
     }
 
 -- the same by a name and columns as the code reads them
-unfoldable pub line_read : NameAt → NamesAt → StreamLine
+unfoldable pub line_read : NameAt → Names → StreamLine
 line_read n cs =
     record {
       checks = shown ((n.long || cs.long) || leb (suc max_columns) cs.count) false (not (once cs.codes cs.count)) (not (code_free n.code && every code_free (take cs.count cs.codes))) false;

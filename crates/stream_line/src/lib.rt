@@ -6,7 +6,7 @@ ghost use Rattle.lists.specs.Lists.{every};
 ghost use Rattle.schema.specs.Schemas.{code_free};
 ghost use Rattle.stream_line.specs.Declaring.{unread_line, line_read, line_after, stream_line, Declares};
 
-use items::{Names, NamesAt};
+use items::Names;
 use refusal::{Checks, Refusal};
 use schema::Stream;
 use text::{Line, NameAt, Word};
@@ -45,7 +45,7 @@ fn all_free(codes: [u64; Names::MOST], n: usize) -> bool
 }
 
 // Whether the stream and its columns have names that they may have.
-fn free(n: NameAt, cs: NamesAt) -> bool
+fn free(n: NameAt, cs: Names) -> bool
     ensures { result ≡ (code_free n.code && every code_free (take cs.count cs.codes)) }
 {
     if !schema::free_name(n.code) {
@@ -56,7 +56,7 @@ fn free(n: NameAt, cs: NamesAt) -> bool
 }
 
 // The line of a name and columns.
-fn line_of(n: NameAt, cs: NamesAt) -> StreamLine
+fn line_of(n: NameAt, cs: Names) -> StreamLine
     ensures { result ≡ line_read n cs }
 {
     let codes = cs.codes;

@@ -9,7 +9,7 @@ use borrow.Author.Rules.{rules}
 use Rattle.lists.specs.Lists.{every, count_from}
 use Rattle.lists.proofs.Counting.{every_places, every_past, every_fails, every_done}
 use Rattle.caller.specs.Callers.{code_valid}
-use Rattle.caller.proofs.CodeTests.{first_few}
+use Rattle.items.proofs.Sameness.{first_few}
 use Rattle.caller.proofs.all_valid.Goals as goal
 use Rattle.caller.proofs.all_valid.Goals.{Start}
 

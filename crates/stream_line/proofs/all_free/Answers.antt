@@ -9,7 +9,7 @@ use borrow.Author.Rules.{rules}
 use Rattle.lists.specs.Lists.{every, count_from}
 use Rattle.lists.proofs.Counting.{every_places, every_past, every_fails, every_done}
 use Rattle.schema.specs.Schemas.{code_free}
-use Rattle.stream_line.proofs.Names.{first_few}
+use Rattle.items.proofs.Sameness.{first_few}
 use Rattle.stream_line.proofs.all_free.Goals as goal
 use Rattle.stream_line.proofs.all_free.Goals.{Start}
 

@@ -1,8 +1,8 @@
--- `ValuesAt::add`: by its fields.
+-- `Values::add`: by whether there is a place.
 use borrow.Author.Rules.{rules}
 use Rattle.text.proofs.Found.{none_is}
-use Rattle.items.specs.Items.{value_more}
-use Rattle.items.proofs.ValuesAt.add.Goals as goal
+use Rattle.items.proofs.ValueLists.{value_full, value_room}
+use Rattle.items.proofs.Values.add.Goals as goal
 
 pub returns : goal.returns
 unfolding value_more

@@ -1,8 +1,0 @@
--- `EntriesAt::add`: by its fields.
-use borrow.Author.Rules.{rules}
-use Rattle.items.specs.Items.{entry_more}
-use Rattle.items.proofs.EntriesAt.add.Goals as goal
-
-pub returns : goal.returns
-unfolding entry_more
-returns c = search rules

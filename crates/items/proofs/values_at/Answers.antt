@@ -1,9 +1,0 @@
--- `values_at`: by the list.
-use Rattle.items.proofs.Flags.{values_flag_none, values_flag_some}
-use Rattle.items.proofs.values_at.Goals as goal
-
-pub returns-in-None : goal.returns-in-None
-returns-in-None c = values_flag_none _ _ c.in-None.ensures
-
-pub returns-in-Some : goal.returns-in-Some
-returns-in-Some c = values_flag_some _ _ c.in-Some.ensures
