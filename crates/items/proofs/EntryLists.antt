@@ -3,10 +3,11 @@ use mathlib.Core.Path.{◌≡◌, refl, sym, ap, ◌∙◌}
 use mathlib.Core.List.{List, [], ◌∷◌, ◌++◌, map}
 use mathlib.Core.Bool.{Bool, false, ◌&&◌, ◌||◌, not}
 use mathlib.Core.Option.{none, some}
-use Prim.Native.Nat.{ℕ, ◌≤◌, min}
+use Prim.Native.Nat.{ℕ, suc, ◌+◌, ◌≤◌, ◌<◌, min}
 use native.Mathlib.Omega.{arith}
 use lib.IntN.{ℤ, pos}
 use lib.ListN.{length, drop, set, replicate, length-map}
+use lib.Seq.{set_out}
 use Rattle.lists.specs.Lists.{every, count_from}
 use Rattle.syntax.specs.Grammar.{Bytes, Entry}
 use Rattle.syntax.specs.Readers.{read_entry, read_items, read_some, closes}
@@ -19,19 +20,6 @@ use Rattle.items.specs.declared.Entries.{Entries}
 use Rattle.items.specs.Items.{first_of, code_short, entry_seen, entries_seen, entries_found, entry_more}
 use Rattle.items.proofs.Lists.{Whole, items_none, items_some, items_within, some_none, some_empty_none, some_some}
 use Rattle.items.proofs.Folds.{first_more, every_more, map_more, length_more, Way, on, list_start}
-
--- ---- one entry more
-
-module _ (r : Entries) (e : EntryAt) where
-  pub entry_full : length r.names ≡ 4 → length r.values ≡ 4 → 4 ≤ r.count → record { next = r.next; count = 5; over = r.over || e.over; names = r.names; values = r.values } ≡ entry_more r e
-  unfolding entry_more
-  entry_full k m h =
-      let c : 5 ≡ min (suc r.count) 5 = omega arith in
-      rw (set_out r.names r.count e.name (omega arith), set_out r.values r.count e.value (omega arith), sym c)
-
-  pub entry_room : {v : ℤ} → v ≡ e.value → r.count < 4 → record { next = r.next; count = r.count + 1; over = r.over || e.over; names = set r.names r.count e.name; values = set r.values r.count v } ≡ entry_more r e
-  unfolding entry_more
-  entry_room d h = let c : min (suc r.count) 5 ≡ r.count + 1 = omega arith in rw (d, c)
 
 -- ---- the list, entry by entry
 

@@ -3,9 +3,10 @@ use mathlib.Core.Path.{◌≡◌, refl, sym, ap, ◌∙◌}
 use mathlib.Core.List.{List, [], ◌∷◌, ◌++◌, map}
 use mathlib.Core.Bool.{Bool, false, ◌||◌, not}
 use mathlib.Core.Option.{none, some}
-use Prim.Native.Nat.{ℕ, ◌≤◌, min}
+use Prim.Native.Nat.{ℕ, suc, ◌+◌, ◌≤◌, ◌<◌, min}
 use native.Mathlib.Omega.{arith}
 use lib.ListN.{length, drop, set, replicate, length-map}
+use lib.Seq.{set_out}
 use Rattle.lists.specs.Lists.{every, count_from}
 use Rattle.syntax.specs.Grammar.{Bytes}
 use Rattle.syntax.specs.Readers.{read_name, read_items, read_some, closes}
@@ -18,19 +19,6 @@ use Rattle.items.specs.declared.Names.{Names}
 use Rattle.items.specs.Items.{first_of, code_short, names_seen, names_found, name_more}
 use Rattle.items.proofs.Lists.{Whole, items_none, items_some, items_within, some_none, some_empty_none, some_some}
 use Rattle.items.proofs.Folds.{first_more, every_more, map_more, length_more, Way, on, list_start}
-
--- ---- one name more
-
-module _ (r : Names) (n : NameAt) where
-  pub name_full : length r.codes ≡ 6 → 6 ≤ r.count → record { next = r.next; count = 7; long = r.long || n.long; codes = r.codes } ≡ name_more r n
-  unfolding name_more
-  name_full k h =
-      let c : 7 ≡ min (suc r.count) 7 = omega arith in
-      rw (set_out r.codes r.count n.code (omega arith), sym c)
-
-  pub name_room : r.count < 6 → record { next = r.next; count = r.count + 1; long = r.long || n.long; codes = set r.codes r.count n.code } ≡ name_more r n
-  unfolding name_more
-  name_room h = let c : min (suc r.count) 7 ≡ r.count + 1 = omega arith in rw c
 
 -- ---- the list, name by name
 

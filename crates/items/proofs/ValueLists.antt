@@ -3,10 +3,12 @@ use mathlib.Core.Path.{◌≡◌, refl, sym, ap, ◌∙◌}
 use mathlib.Core.List.{List, [], ◌∷◌, ◌++◌, map}
 use mathlib.Core.Bool.{Bool, false, ◌||◌, not}
 use mathlib.Core.Option.{none, some}
-use Prim.Native.Nat.{ℕ, ◌≤◌, min}
+use Prim.Native.Nat.{ℕ, suc, ◌+◌, ◌≤◌, ◌<◌, min}
 use native.Mathlib.Omega.{arith}
 use lib.IntN.{ℤ, pos}
 use lib.ListN.{length, drop, set, replicate, length-map}
+use lib.Seq.{set_out}
+use Rattle.std.specs.Prelude.{is_none, unwrap_or}
 use Rattle.lists.specs.Lists.{every, count_from}
 use Rattle.syntax.specs.Grammar.{Bytes}
 use Rattle.syntax.specs.Readers.{read_int, read_items, read_some, closes}
@@ -21,19 +23,6 @@ use Rattle.items.specs.declared.Values.{Values}
 use Rattle.items.specs.Items.{first_of, values_seen, values_found, value_more}
 use Rattle.items.proofs.Lists.{Whole, items_none, items_some, items_within, some_none, some_empty_none, some_some}
 use Rattle.items.proofs.Folds.{first_more, every_more, map_more, length_more, Way, on, list_start}
-
--- ---- one number more
-
-module _ (r : Values) (v : Found ℤ) {b : Bool} (e : b ≡ is_none v) where
-  pub value_full : length r.values ≡ 6 → 6 ≤ r.count → record { next = r.next; count = 7; wide = r.wide || b; values = r.values } ≡ value_more r v
-  unfolding value_more
-  value_full k h =
-      let c : 7 ≡ min (suc r.count) 7 = omega arith in
-      rw (e, set_out r.values r.count (unwrap_or v (pos 0)) (omega arith), sym c)
-
-  pub value_room : {z : ℤ} → z ≡ unwrap_or v (pos 0) → r.count < 6 → record { next = r.next; count = r.count + 1; wide = r.wide || b; values = set r.values r.count z } ≡ value_more r v
-  unfolding value_more
-  value_room d h = let c : min (suc r.count) 7 ≡ r.count + 1 = omega arith in rw (e, d, c)
 
 -- ---- the list, number by number
 

@@ -73,6 +73,20 @@ impl Entries {
     }
 }
 
+// Keeps an item of a list where it is among the first. Returns the count with it, at most one more than are kept.
+fn keep<T: Copy, const N: usize>(items: &mut [T; N], count: u32, item: T) -> u32
+    requires { N < 2 ^ 32 - 1 }
+    ensures items { items.new ≡ set items.old count item }
+    ensures count { result ≡ min (suc count) (suc N) }
+{
+    let at = count as usize;
+    if N <= at {
+        return N as u32 + 1;
+    }
+    items[at] = item;
+    count + 1
+}
+
 impl Names {
     // Counts one name more, and keeps it where it is among the first.
     fn add(&mut self, n: NameAt)

@@ -1,7 +1,6 @@
--- `Entries::add`: by whether there is a place.
+-- `Entries::add`: by its fields.
 use borrow.Author.Rules.{rules}
-use native.Mathlib.Omega.{arith}
-use Rattle.items.proofs.EntryLists.{entry_full, entry_room}
+use Rattle.items.specs.Items.{entry_more}
 use Rattle.items.proofs.Entries.add.Goals as goal
 
 pub returns : goal.returns

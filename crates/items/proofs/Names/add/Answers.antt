@@ -1,7 +1,6 @@
--- `Names::add`: by whether there is a place.
+-- `Names::add`: by its fields.
 use borrow.Author.Rules.{rules}
-use native.Mathlib.Omega.{arith}
-use Rattle.items.proofs.NameLists.{name_full, name_room}
+use Rattle.items.specs.Items.{name_more}
 use Rattle.items.proofs.Names.add.Goals as goal
 
 pub returns : goal.returns

@@ -1,7 +1,7 @@
--- `Values::add`: by whether there is a place.
+-- `Values::add`: by its fields.
 use borrow.Author.Rules.{rules}
 use Rattle.text.proofs.Found.{none_is}
-use Rattle.items.proofs.ValueLists.{value_full, value_room}
+use Rattle.items.specs.Items.{value_more}
 use Rattle.items.proofs.Values.add.Goals as goal
 
 pub returns : goal.returns
