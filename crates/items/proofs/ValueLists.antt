@@ -1,14 +1,12 @@
 -- The numbers at a place as the code reads them.
 use mathlib.Core.Path.{◌≡◌, refl, sym, ap, ◌∙◌}
 use mathlib.Core.List.{List, [], ◌∷◌, ◌++◌, map}
-use mathlib.Core.Bool.{Bool, false, ◌||◌, not}
+use mathlib.Core.Bool.{Bool, false, not}
 use mathlib.Core.Option.{none, some}
-use Prim.Native.Nat.{ℕ, suc, ◌+◌, ◌≤◌, ◌<◌, min}
+use Prim.Native.Nat.{ℕ, ◌≤◌, min}
 use native.Mathlib.Omega.{arith}
 use lib.IntN.{ℤ, pos}
 use lib.ListN.{length, drop, set, replicate, length-map}
-use lib.Seq.{set_out}
-use Rattle.std.specs.Prelude.{is_none, unwrap_or}
 use Rattle.lists.specs.Lists.{every, count_from}
 use Rattle.syntax.specs.Grammar.{Bytes}
 use Rattle.syntax.specs.Readers.{read_int, read_items, read_some, closes}
