@@ -13,7 +13,7 @@ use conditions::Seen;
 use query::{Form, Query};
 use schema::Stream;
 use terms::Term;
-use text::{Line, Number, NumberAt, Time, Word};
+use text::{Line, NumberAt, Time, Word};
 
 // One form by itself, up to its closing bracket or to the form inside it. `over`: it is out of bounds. `words` words are stored after it;
 // `lefts` and `rights` are the codes of its condition's terms as bits, and `lefts` those of a keep's columns.
@@ -118,7 +118,7 @@ fn span_of(n: NumberAt) -> Time
             value: 0,
         };
     }
-    if Number::MOST < v {
+    if NumberAt::MOST < v {
         return Time {
             beyond: true,
             value: 0,

@@ -1,39 +1,27 @@
 -- What readers read at a place of a text, by what the code finds there.
 use mathlib.Core.Path.{◌≡◌, refl, sym, ap, ◌∙◌}
-use mathlib.Core.List.{List, [], ◌∷◌}
+use mathlib.Core.List.{[], ◌∷◌}
 use mathlib.Core.Bool.{Bool, true, false, ◌&&◌, not, cond}
 use mathlib.Core.Option.{none, some, none-ne-some}
 use Prim.Native.Nat.{ℕ, ◌+◌, ◌^◌, ◌<◌}
 use native.Mathlib.Omega.{arith}
 use native.Mathlib.Numerals.{add-one}
-use lib.IntN.{ℤ}
 use lib.Dec.{T, eqb, ltb, ltb→lt, leb}
 use lib.ListN.{length, drop, get_or, drop_of_length-le}
 use lib.Seq.{drop-cons}
 use mir.Syntax.{w64}
 use mir.Val.{Fits}
-use borrow.Author.Tests.{eq-eqb, ne_eqb, eqb-true, eqb-false, ltb-true, ltb-false, le-leb, lt-leb}
-use Rattle.lists.specs.Lists.{every, empty?, same_list}
+use borrow.Author.Tests.{eq-eqb, ne_eqb, ltb-true, ltb-false, le-leb, lt-leb}
+use Rattle.lists.specs.Lists.{empty?, same_list}
 use Rattle.lists.proofs.Laws.{cond_cases}
-use Rattle.syntax.specs.Grammar.{Bytes, bytes, eq, stream, grant, clock, row, clear, caller, ask, line, op_word, right_word, verb_word}
-use Rattle.syntax.specs.Readers.{Read, Reader, bind, ensure, ◌>>=◌, ◌>>◌, give, byte, run, past, plain, among, read_word, read_head, itself, read_open, read_name, read_int, head_word, heads, rights, kind_word, kinds, word_opens, part_opens, read_part}
-use Rattle.syntax.specs.Limits.{short}
+use Rattle.syntax.specs.Grammar.{Bytes, bytes, eq, stream, grant, clock, row, clear, caller, ask, line, op_word, verb_word}
+use Rattle.syntax.specs.Readers.{Read, bind, ensure, ◌>>◌, byte, run, past, plain, among, read_word, read_head, itself, read_open, word_opens}
 use Rattle.syntax.proofs.Steps.{from, done}
-use Rattle.syntax.proofs.Leaving.{open_leaves, head_less}
-use Rattle.text.specs.declared.Class.TheVariants.{Plain}
-use Rattle.text.specs.declared.Word.{Word}
-use Rattle.text.specs.declared.Kept.{Kept}
-use Rattle.text.specs.declared.Time.{Time}
-use Rattle.text.specs.declared.Name.{Name}
-use Rattle.text.specs.declared.Number.{Number}
-use Rattle.text.specs.Words.{class_of, code_of, name_of, name_read, name_at, clamp, number_read, number_at, kept_of, time_of}
-use Rattle.text.specs.Keywords.{keyword?, word_at, WordAt, coded, place, opened_at, part_at, closes_at, keywords_compute}
+use Rattle.text.specs.Words.{code_of, name_of}
+use Rattle.text.specs.Keywords.{keyword?, closes_at, keywords_compute}
 use Rattle.text.specs.Readings.{whole, closed}
 use Rattle.text.proofs.Codes.{word_above, word_back}
-use Rattle.text.proofs.Runs.{inside, run_left}
-use Rattle.text.proofs.Keywords.{among_coded}
-use Rattle.text.proofs.Ranges.{kept_clamp, time_clamp}
-use Rattle.text.proofs.Views.{place_none, place_some, view_none, view_here, name_view, int_view}
+use Rattle.text.proofs.Runs.{inside}
 
 -- ---- bytes
 
@@ -69,39 +57,6 @@ module _ (s : Bytes) (p : ℕ) {b : ℕ} (e : b ≡ get_or s p 0) where
 
   pub close_is : b ≡ 41 → byte 41 (drop p s) ≡ some (record { what = tt; left = drop (p + 1) s })
   close_is d = byte_is 41 d (omega arith)
-
-  pub close_not : (b ≡ 41 → ⊥) → byte 41 (drop p s) ≡ none
-  close_not f = byte_not 41 f
-
--- ---- names
-
-module _ (s : Bytes) (p : ℕ) {n : Name} (e : n ≡ name_at s p) where
-  pub name_not : not n.ok ≡ true → read_name (drop p s) ≡ none
-  unfolding name_at name_view
-  name_not q = view_none (name_view s) p e q
-
-  pub name_is : {X : Type 0} → not n.ok ≡ false
-      → ((w : Bytes) → read_name (drop p s) ≡ some (record { what = w; left = drop n.next s }) → n.long ≡ not (short w) → n.code ≡ cond (short w) (code_of w) 0 → X) → X
-  unfolding name_at name_view name_read
-  name_is q k = view_here (name_view s) p e q (λ w r m. k w r (ap (λ x. x.long) m) (ap (λ x. x.code) m))
-
--- ---- numbers
-
-module _ (s : Bytes) (p : ℕ) {n : Number} (e : n ≡ number_at s p) where
-  pub number_not : not n.ok ≡ true → read_int (drop p s) ≡ none
-  unfolding number_at int_view
-  number_not q = view_none (int_view s) p e q
-
-  pub number_is : {X : Type 0} → not n.ok ≡ false → ((z : ℤ) → read_int (drop p s) ≡ some (record { what = z; left = drop n.next s }) → n.value ≡ clamp z → X) → X
-  unfolding number_at int_view number_read
-  number_is q k = view_here (int_view s) p e q (λ z r m. k z r (ap (λ x. x.value) m))
-
--- what is kept of a number as it was read is what is kept of the number
-pub kept_is : (z : ℤ) {k : Kept} {x : ℤ} → k ≡ kept_of x → x ≡ clamp z → k ≡ kept_of z
-kept_is z e d = e ∙ ap kept_of d ∙ kept_clamp z
-
-pub time_is : (z : ℤ) {t : Time} {x : ℤ} → t ≡ time_of x → x ≡ clamp z → t ≡ time_of z
-time_is z e d = e ∙ ap time_of d ∙ time_clamp z
 
 -- ---- keywords
 
@@ -144,93 +99,6 @@ opens_is w (b ∷ bs) r e = go (eqb 40 b) (same_list w (run plain bs)) refl e
     go true true f e = refl
     go true false f e = absurd (none-ne-some r (rw f at e))
     go false y f e = absurd (none-ne-some r e)
-
-open_less : (w bs : Bytes) (r : Read Bytes) → read_open w bs ≡ some r → length r.left < length bs
-unfolding read_open
-open_less w bs r e = head_less itself (w ∷ []) bs r e
-
-module _ (s : Bytes) (p : ℕ) {c : ℕ} {w : Bytes} (k : Spells c w) {r : ℕ} (e : r ≡ opened_at s p c) where
-  at_place : r ≡ place s (read_open w (drop p s))
-  unfolding opened_at
-  at_place = let h = spelt_above k in e ∙ rw (ne_eqb c 0 (λ z. omega arith), spelt_name k)
-
-  pub open_not : r ≡ 0 → read_open w (drop p s) ≡ none
-  open_not z = place_none (open_leaves w) (open_less w) s p at_place z
-
-  pub open_is : (r ≡ 0 → ⊥) → read_open w (drop p s) ≡ some (record { what = w; left = drop r s })
-  open_is n = place_some (open_leaves w) (open_less w) s p at_place n (λ x f. f ∙ ap (λ y. some (record { what = y; left = drop r s })) (open_what w (drop p s) _ f))
-
--- ---- words of a table
-
-module _ {H : Type 0} (word : H → Bytes) (hs : List H) (k : T (every (λ h. keyword? (word h)) hs)) (s : Bytes) (p : ℕ) {w : Word} (q : WordAt s p w) where
-  pub word_is : read_word word hs (drop p s) ≡ bind (coded word hs w.code) (λ h. some (record { what = h; left = drop w.next s }))
-  unfolding read_word word_at class_of
-  word_is = rw (q.is, run_left Plain s p refl, among_coded word hs (run plain (drop p s)) k q.narrow)
-
-module _ (s : Bytes) (p : ℕ) {w : Word} (q : WordAt s p w) where
-  -- the head of a condition
-  pub head_is : read_word head_word heads (drop p s) ≡ bind (coded head_word heads w.code) (λ h. some (record { what = h; left = drop w.next s }))
-  unfolding keywords_compute
-  head_is = word_is head_word heads tt s p q
-
-  -- a right
-  pub right_is : read_word right_word rights (drop p s) ≡ bind (coded right_word rights w.code) (λ h. some (record { what = h; left = drop w.next s }))
-  unfolding keywords_compute
-  right_is = word_is right_word rights tt s p q
-
-  -- the first word of a form
-  pub kind_is : read_word kind_word kinds (drop p s) ≡ bind (coded kind_word kinds w.code) (λ h. some (record { what = h; left = drop w.next s }))
-  unfolding keywords_compute
-  kind_is = word_is kind_word kinds tt s p q
-
--- ---- parts: a space, an opening bracket and a keyword
-
-module _ (s : Bytes) (p : ℕ) {c : ℕ} {w : Bytes} (k : Spells c w) {r : ℕ} (e : r ≡ part_at s p c) where
-  part_cases : {X : Type 0} → (r ≡ 0 → byte 32 (drop p s) ≡ none → X) → (byte 32 (drop p s) ≡ some (record { what = tt; left = drop (p + 1) s }) → p < length s → r ≡ opened_at s (p + 1) c → X) → X
-  unfolding part_at
-  part_cases {X} f g = go (eqb (get_or s p 0) 32) refl e
-    where
-      go : (b : Bool) → eqb (get_or s p 0) 32 ≡ b → r ≡ part_at s p c → X
-      go true t d = let h = eqb-true (get_or s p 0) 32 t in g (space_is s p refl h) (byte_inside s p refl h (omega arith)) (d ∙ rw t)
-      go false t d = f (d ∙ rw t) (space_not s p refl (eqb-false (get_or s p 0) 32 t))
-
-  parts_not : byte 32 (drop p s) ≡ none → part_opens w (drop p s) ≡ false
-  unfolding part_opens byte ensure
-  parts_not f = go (drop p s) f
-    where
-      go : (bs : Bytes) → byte 32 bs ≡ none → part_opens w bs ≡ false
-      go [] f = refl
-      go (b ∷ bs) f = first (eqb 32 b) f
-        where
-          first : (x : Bool) → ensure {A = Read (Unit {0})} x (record { what = tt; left = bs }) ≡ none → (x && word_opens w bs) ≡ false
-          first true f = absurd (none-ne-some _ (sym f))
-          first false f = refl
-
-  parts_is : byte 32 (drop p s) ≡ some (record { what = tt; left = drop (p + 1) s }) → part_opens w (drop p s) ≡ word_opens w (drop (p + 1) s)
-  unfolding part_opens byte ensure
-  parts_is f = go (drop p s) f
-    where
-      go : (bs : Bytes) → byte 32 bs ≡ some (record { what = tt; left = drop (p + 1) s }) → part_opens w bs ≡ word_opens w (drop (p + 1) s)
-      go [] f = absurd (none-ne-some _ f)
-      go (b ∷ bs) f = first (eqb 32 b) f
-        where
-          first : (x : Bool) → ensure {A = Read (Unit {0})} x (record { what = tt; left = bs }) ≡ some (record { what = tt; left = drop (p + 1) s }) → (x && word_opens w bs) ≡ word_opens w (drop (p + 1) s)
-          first true f = done (λ y. word_opens w bs ≡ word_opens w y.left) f refl
-          first false f = absurd (none-ne-some _ f)
-
-  pub part_absent : {A : Type 0} (inner : Reader A) → r ≡ 0 → read_part w inner (drop p s) ≡ none
-  unfolding read_part ◌>>◌ ◌>>=◌ bind
-  part_absent inner z = part_cases (λ y f. rw f) (λ f l d. rw (f, open_not s (p + 1) k d z))
-
-  pub part_unopened : r ≡ 0 → part_opens w (drop p s) ≡ false
-  part_unopened z = part_cases (λ y f. parts_not f) (λ f l d. parts_is f ∙ opens_not w (drop (p + 1) s) (open_not s (p + 1) k d z))
-
-  pub part_present : {A : Type 0} (inner : Reader A) → (r ≡ 0 → ⊥) → read_part w inner (drop p s) ≡ bind (inner (drop r s)) (λ a. bind (byte 41 a.left) (λ u. some (record { what = a.what; left = u.left })))
-  unfolding read_part ◌>>◌ ◌>>=◌ give bind
-  part_present inner n = part_cases (λ y f. absurd (n y)) (λ f l d. rw (f, open_is s (p + 1) k d n))
-
-  pub part_opened : (r ≡ 0 → ⊥) → part_opens w (drop p s) ≡ true
-  part_opened n = part_cases (λ y f. absurd (n y)) (λ f l d. parts_is f ∙ opens_is w (drop (p + 1) s) _ (open_is s (p + 1) k d n))
 
 -- ---- the end of a text
 

@@ -1,6 +1,6 @@
 -- What is kept of a number: a value of 32 bits, or a time.
 use mathlib.Core.Path.{◌≡◌, refl}
-use mathlib.Core.Bool.{Bool, true, false, not, cond}
+use mathlib.Core.Bool.{Bool, true, false, cond}
 use Prim.Native.Nat.{ℕ, ◌<◌}
 use native.Mathlib.Omega.{arith}
 use lib.IntN.{ℤ, pos, negsuc, nat_abs}
@@ -12,28 +12,10 @@ use mir.ValLaws.{to_z-of_z}
 use borrow.Author.Rules.{sfits_of}
 use borrow.Author.Tests.{le-leb, lt-leb, ltb-true, ltb-false}
 use Rattle.syntax.specs.Limits.{is_value, is_time, natural}
-use Rattle.text.specs.declared.Kept.{Kept}
-use Rattle.text.specs.declared.Time.{Time}
-use Rattle.text.specs.Words.{Found, Some, None, clamp, value_given, time_given, value_kept, kept_of, time_kept, time_of}
+use Rattle.text.specs.Words.{Found, Some, None, clamp, value_given, time_given}
 use Rattle.text.proofs.Clamps.{clamp_value, clamp_time, value_same, time_same}
 
 -- ---- clamping changes nothing that is kept
-
-pub kept_clamp : (z : ℤ) → kept_of (clamp z) ≡ kept_of z
-unfolding kept_of value_kept
-kept_clamp z = rw (clamp_value z) (go (is_value z) refl)
-  where
-    go : (b : Bool) → is_value z ≡ b → ◌≡◌ {A = Kept} (record { wide = not b; value = cond b (clamp z) (pos 0) }) (record { wide = not b; value = cond b z (pos 0) })
-    go true e = rw (value_same z (rw e tt))
-    go false e = refl
-
-pub time_clamp : (z : ℤ) → time_of (clamp z) ≡ time_of z
-unfolding time_of time_kept
-time_clamp z = rw (clamp_time z) (go (is_time z) refl)
-  where
-    go : (b : Bool) → is_time z ≡ b → ◌≡◌ {A = Time} (record { beyond = not b; value = cond b (natural (clamp z)) 0 }) (record { beyond = not b; value = cond b (natural z) 0 })
-    go true e = rw (time_same z (rw e tt))
-    go false e = refl
 
 pub value_clamp : (z : ℤ) → value_given (clamp z) ≡ value_given z
 unfolding value_given

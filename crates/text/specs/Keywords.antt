@@ -1,15 +1,14 @@
 -- Keywords by their letters, and the numbers that the code has for them.
-use Rattle.std.specs.Prelude.{◌≡◌, List, [], ◌∷◌, Bool, true, false, ◌&&◌, not, cond, ℕ, ◌+◌, ◌-◌, T, ltb, eqb, length, drop, get_or}
+use Rattle.std.specs.Prelude.{◌≡◌, List, [], ◌∷◌, Bool, true, false, ◌&&◌, not, cond, ℕ, ◌+◌, T, ltb, eqb, length, drop}
 pub use Rattle.std.specs.Prelude.{Result, Ok, Err, ok_or, option_and_then}
 use Rattle.std.proofs.Math.Option.{Option, none, some}
 use Rattle.lists.specs.Lists.{every, same_list}
 use Rattle.syntax.specs.Grammar.{Bytes, Op, eq, ne, lt, le, gt, ge, right_word, fn_number, right_number}
 use Rattle.syntax.specs.Limits.{max_line, short}
-use Rattle.syntax.specs.Readers.{Read, byte, plain, run, read_open, Head, compare, and, or, not_of, head_word, heads, rights, Kind, k_in, k_pick, k_keep, k_join, k_fn, kind_word, kinds, readers_compute}
+use Rattle.syntax.specs.Readers.{byte, plain, run, read_open, Head, compare, and, or, not_of, head_word, heads, rights, Kind, k_in, k_pick, k_keep, k_join, k_fn, kind_word, kinds, readers_compute}
 use Rattle.text.specs.Words.{Found, Some, None, seen, read_end, code_from, code_of, bytes_from, name_of, run_end}
 use Rattle.text.specs.declared.Class.TheVariants.{Plain}
 use Rattle.text.specs.declared.Word.{Word}
-use Rattle.text.specs.declared.Line.{Line}
 use Rattle.text.specs.declared.Unread.{Unread}
 use Rattle.text.specs.declared.Unread.TheVariants.{TooLong, Malformed}
 
@@ -45,10 +44,6 @@ unfoldable pub coded : {H : Type 0} → (H → Bytes) → List H → ℕ → Opt
 coded word [] c = none
 coded word (h ∷ hs) c = cond (eqb (code_of (word h)) c) (some h) (coded word hs c)
 
-unfoldable pub numbered : {H : Type 0} → (H → ℕ) → ℕ → Option H → ℕ
-numbered number other none = other
-numbered number other (some h) = number h
-
 -- ---- heads of conditions
 
 unfoldable pub op_number : Op → ℕ
@@ -68,16 +63,10 @@ head_number not_of = 9
 unfoldable pub head_given : ℕ → Found ℕ
 head_given c = seen head_number (coded head_word heads c)
 
-unfoldable pub head_coded : ℕ → ℕ
-head_coded c = numbered head_number 0 (coded head_word heads c)
-
 -- ---- rights
 
 unfoldable pub right_given : ℕ → Found ℕ
 right_given c = seen right_number (coded right_word rights c)
-
-unfoldable pub right_coded : ℕ → ℕ
-right_coded c = numbered right_number 6 (coded right_word rights c)
 
 -- ---- first words of forms: an aggregate's is four and the number that rights have for it
 
@@ -91,15 +80,7 @@ kind_number (k_fn f) = 4 + fn_number f
 unfoldable pub form_given : ℕ → Found ℕ
 form_given c = seen kind_number (coded kind_word kinds c)
 
-unfoldable pub kind_coded : ℕ → ℕ
-kind_coded c = numbered kind_number 10 (coded kind_word kinds c)
-
 -- ---- brackets and words at a place
-
--- where what a reader leaves of a text begins; 0 where it reads nothing
-unfoldable pub place : {A : Type 0} → Bytes → Option (Read A) → ℕ
-place s none = 0
-place s (some r) = length s - length r.left
 
 -- where an opening bracket and the word of a code end
 unfoldable pub opening_end : Bytes → ℕ → ℕ → Found ℕ
@@ -108,14 +89,6 @@ opening_end s at c = cond (eqb c 0) None (read_end s (read_open (name_of c) (dro
 -- the same after a space
 unfoldable pub part_end : Bytes → ℕ → ℕ → Found ℕ
 part_end s at c = option_and_then (λ p. opening_end s p c) (read_end s (byte 32 (drop at s)))
-
--- an opening bracket and the word of a code
-unfoldable pub opened_at : Bytes → ℕ → ℕ → ℕ
-opened_at s at c = cond (eqb c 0) 0 (place s (read_open (name_of c) (drop at s)))
-
--- the same after a space
-unfoldable pub part_at : Bytes → ℕ → ℕ → ℕ
-part_at s at c = cond (eqb (get_or s at 0) 32) (opened_at s (at + 1) c) 0
 
 -- a closing bracket, and nothing after it
 unfoldable pub closes_at : Bytes → ℕ → Bool
@@ -129,10 +102,7 @@ unfoldable pub too_long : Unread → Bool
 too_long TooLong = true
 too_long Malformed = false
 
-unfoldable pub line_open : Bytes → ℕ → Line
-line_open s verb = record { long = ltb max_line (length s); at = cond (ltb max_line (length s)) 0 (opened_at s 0 verb) }
-
 -- To unfold this is to unfold every definition above, and those of the readers.
 unfoldable pub keywords_compute : Unit {0}
-unfolding readers_compute short code_from code_of bytes_from name_of word_code octet keyword? coded seen numbered op_number head_number head_given head_coded right_number right_given right_coded fn_number kind_number form_given kind_coded
+unfolding readers_compute short code_from code_of bytes_from name_of word_code octet keyword? coded seen op_number head_number head_given right_number right_given fn_number kind_number form_given
 keywords_compute = tt

@@ -7,12 +7,8 @@ use Rattle.syntax.specs.Readers.{Read, plain, run, numeral, read_name, read_natu
 use Rattle.syntax.specs.Limits.{short, is_value, is_time, natural}
 use Rattle.text.specs.declared.Class.{Class}
 use Rattle.text.specs.declared.Class.TheVariants.{Alnum, Digit, Plain}
-use Rattle.text.specs.declared.Name.{Name}
-use Rattle.text.specs.declared.Number.{Number}
 use Rattle.text.specs.declared.NameAt.{NameAt}
 use Rattle.text.specs.declared.NumberAt.{NumberAt}
-use Rattle.text.specs.declared.Kept.{Kept}
-use Rattle.text.specs.declared.Time.{Time}
 
 -- ---- what readers read, as the code has it
 
@@ -65,14 +61,6 @@ name_seen s r = record { long = not (short r.what); code = cond (short r.what) (
 unfoldable pub name_found : Bytes → ℕ → Found NameAt
 name_found s at = seen (name_seen s) (read_name (drop at s))
 
--- the name at a place: whether there is one, whether it is longer than a name may be, its number (0 where it is longer), and the place after it
-unfoldable pub name_read : Bytes → Option (Read Bytes) → Name
-name_read s none = record { ok = false; long = false; code = 0; next = 0 }
-name_read s (some r) = record { ok = true; long = not (short r.what); code = cond (short r.what) (code_of r.what) 0; next = length s - length r.left }
-
-unfoldable pub name_at : Bytes → ℕ → Name
-name_at s at = name_read s (read_name (drop at s))
-
 -- ---- numbers
 
 -- past this nothing is told apart: it is beyond every range
@@ -94,13 +82,6 @@ number_found s at = seen (number_seen s) (read_int (drop at s))
 unfoldable pub natural_found : Bytes → ℕ → Found NumberAt
 natural_found s at = seen (number_seen s) (read_natural (drop at s))
 
-unfoldable pub number_read : Bytes → Option (Read ℤ) → Number
-number_read s none = record { ok = false; value = pos 0; next = 0 }
-number_read s (some r) = record { ok = true; value = clamp r.what; next = length s - length r.left }
-
-unfoldable pub number_at : Bytes → ℕ → Number
-number_at s at = number_read s (read_int (drop at s))
-
 -- where digits with no needless zero end that begin at a place
 unfoldable pub numeral_end : Bytes → ℕ → Found ℕ
 numeral_end s at = cond (numeral (run digit (drop at s))) (Some (run_end Digit s at)) None
@@ -117,12 +98,6 @@ time_given z = cond (is_time z) (Some (natural z)) None
 unfoldable pub value_kept : ℤ → ℤ
 value_kept z = cond (is_value z) z (pos 0)
 
-unfoldable pub kept_of : ℤ → Kept
-kept_of z = record { wide = not (is_value z); value = value_kept z }
-
 -- a time within its range, and else 0
 unfoldable pub time_kept : ℤ → ℕ
 time_kept z = cond (is_time z) (natural z) 0
-
-unfoldable pub time_of : ℤ → Time
-time_of z = record { beyond = not (is_time z); value = time_kept z }

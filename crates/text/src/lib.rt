@@ -5,8 +5,8 @@ ghost use Rattle.std.specs.Prelude.{◌≡◌, ◌||◌, ◌+◌, ◌*◌, ◌-�
 ghost use Rattle.syntax.specs.Grammar.{digit, letter, alnum};
 ghost use Rattle.syntax.specs.Limits.{max_name, max_line, max_depth, top};
 ghost use Rattle.syntax.specs.Readers.{byte, plain, value_from};
-ghost use Rattle.text.specs.Words.{read_end, class_of, run_end, code_of, name_found, name_at, far, numeral_end, natural_found, number_found, number_at, value_given, time_given, kept_of, time_of};
-ghost use Rattle.text.specs.Keywords.{head_given, right_given, form_given, head_coded, right_coded, kind_coded, word_found, WordAt, opening_end, part_end, opened_at, part_at, closes_at, line_after, too_long, line_open};
+ghost use Rattle.text.specs.Words.{read_end, class_of, run_end, code_of, name_found, far, numeral_end, natural_found, number_found, value_given, time_given};
+ghost use Rattle.text.specs.Keywords.{head_given, right_given, form_given, word_found, WordAt, opening_end, part_end, closes_at, line_after, too_long};
 
 // Classes of bytes: letters and digits, digits, and all but spaces and brackets.
 #[derive(Clone, Copy)]
@@ -14,23 +14,6 @@ pub enum Class {
     Alnum,
     Digit,
     Plain,
-}
-
-// A name at a place: a name of at most eight bytes fits a number, so that two names are compared as numbers.
-#[derive(Clone, Copy)]
-pub struct Name {
-    pub ok: bool,
-    pub long: bool,
-    pub code: u64,
-    pub next: usize,
-}
-
-// A number at a place, clamped where it is beyond every range.
-#[derive(Clone, Copy)]
-pub struct Number {
-    pub ok: bool,
-    pub value: i64,
-    pub next: usize,
 }
 
 // A name at a place: one of at most eight bytes fits a number, so that two names are compared as numbers; a longer one has 0.
@@ -55,13 +38,6 @@ pub enum Unread {
     Malformed,
 }
 
-// A number within 32 bits, or that it is beyond.
-#[derive(Clone, Copy)]
-pub struct Kept {
-    pub wide: bool,
-    pub value: i32,
-}
-
 // A time, or that a number is none.
 #[derive(Clone, Copy)]
 pub struct Time {
@@ -76,22 +52,18 @@ pub struct Word {
     pub next: usize,
 }
 
-// A line up to its first word: whether it is longer than a line may be, and the place after the word, 0 where it has another.
-#[derive(Clone, Copy)]
-pub struct Line {
-    pub long: bool,
-    pub at: usize,
-}
+// A written line.
+pub struct Line {}
 
-impl Name {
+impl NameAt {
     // How many bytes a name may have.
     pub const BYTES: usize = 8;
 
-    // Returns Name::BYTES, which is the bound of the definitions.
+    // Returns NameAt::BYTES, which is the bound of the definitions.
     pub fn bytes() -> usize
         ensures { result ≡ max_name }
     {
-        Name::BYTES
+        NameAt::BYTES
     }
 }
 
@@ -168,9 +140,6 @@ impl Word {
 
     pub const EQUAL: u64 = 0x3d;
 
-    // The number of no form's first word.
-    pub const FORMLESS: u32 = 10;
-
     // Returns the word as a condition's head: 1 to 6 for the comparisons, 7 `and`, 8 `or`, 9 `not`.
     pub fn as_head(self) -> Option<u32>
         ensures { result ≡ head_given self.code }
@@ -220,39 +189,6 @@ impl Word {
             Word::SUM => Some(9),
             _ => None,
         }
-    }
-
-    // Returns a condition's head by the code of its word, 0 for none.
-    pub fn head(code: u64) -> u32
-        ensures { result ≡ head_coded code }
-    {
-        let w = Word {
-            code: code,
-            next: 0,
-        };
-        w.as_head().unwrap_or(0)
-    }
-
-    // Returns a right by the code of its word, 6 for none.
-    pub fn right(code: u64) -> u32
-        ensures { result ≡ right_coded code }
-    {
-        let w = Word {
-            code: code,
-            next: 0,
-        };
-        w.as_right().unwrap_or(6)
-    }
-
-    // Returns a form by the code of its first word, 10 for none.
-    pub fn form(code: u64) -> u32
-        ensures { result ≡ kind_coded code }
-    {
-        let w = Word {
-            code: code,
-            next: 0,
-        };
-        w.as_form().unwrap_or(Word::FORMLESS)
     }
 }
 
@@ -370,7 +306,7 @@ pub fn read_name(s: &[u8], at: usize) -> Option<NameAt>
         return None;
     }
     let end = run_end(s, at, Class::Alnum);
-    if end - at <= Name::BYTES {
+    if end - at <= NameAt::BYTES {
         return Some(NameAt {
             long: false,
             code: packed(&s[at..end]),
@@ -382,26 +318,6 @@ pub fn read_name(s: &[u8], at: usize) -> Option<NameAt>
         code: 0,
         next: end,
     })
-}
-
-// Returns the name at a place, its number and the place after it; `ok` is false where there is none, and all else 0.
-pub fn name_at(s: &[u8], at: usize) -> Name
-    ensures { result ≡ name_at s.now at }
-{
-    match read_name(s, at) {
-        None => Name {
-            ok: false,
-            long: false,
-            code: 0,
-            next: 0,
-        },
-        Some(n) => Name {
-            ok: true,
-            long: n.long,
-            code: n.code,
-            next: n.next,
-        },
-    }
 }
 
 // A value with one digit more, up to what is far.
@@ -468,34 +384,21 @@ pub fn read_number(s: &[u8], at: usize) -> Option<NumberAt>
     })
 }
 
-// Returns the number at a place and the place after it; `ok` is false where there is none, and all else 0.
-pub fn number_at(s: &[u8], at: usize) -> Number
-    ensures { result ≡ number_at s.now at }
-{
-    match read_number(s, at) {
-        None => Number {
-            ok: false,
-            value: 0,
-            next: 0,
-        },
-        Some(n) => Number {
-            ok: true,
-            value: n.value,
-            next: n.next,
-        },
-    }
-}
-
 impl NumberAt {
+    // The numbers of 32 bits.
+    pub const LEAST: i64 = -2147483648;
+
+    pub const MOST: i64 = 2147483647;
+
     // Returns the number where it is within 32 bits.
     pub fn kept(self) -> Option<i32>
         ensures { result ≡ value_given self.value }
     {
         let v = self.value;
-        if v < Number::LEAST {
+        if v < NumberAt::LEAST {
             return None;
         }
-        if Number::MOST < v {
+        if NumberAt::MOST < v {
             return None;
         }
         Some(v as i32)
@@ -509,57 +412,10 @@ impl NumberAt {
         if v < 0 {
             return None;
         }
-        if Number::MOST < v {
+        if NumberAt::MOST < v {
             return None;
         }
         Some(v as u32)
-    }
-}
-
-impl Number {
-    // The numbers of 32 bits.
-    pub const LEAST: i64 = -2147483648;
-
-    pub const MOST: i64 = 2147483647;
-
-    // Returns a number within 32 bits; `wide` and 0 for one beyond.
-    pub fn kept(self) -> Kept
-        ensures { result ≡ kept_of self.value }
-    {
-        let n = NumberAt {
-            value: self.value,
-            next: self.next,
-        };
-        match n.kept() {
-            None => Kept {
-                wide: true,
-                value: 0,
-            },
-            Some(v) => Kept {
-                wide: false,
-                value: v,
-            },
-        }
-    }
-
-    // Returns a time; `beyond` and 0 for a number that is none.
-    pub fn time(self) -> Time
-        ensures { result ≡ time_of self.value }
-    {
-        let n = NumberAt {
-            value: self.value,
-            next: self.next,
-        };
-        match n.time() {
-            None => Time {
-                beyond: true,
-                value: 0,
-            },
-            Some(t) => Time {
-                beyond: false,
-                value: t,
-            },
-        }
     }
 }
 
@@ -574,7 +430,7 @@ pub fn read_word(s: &[u8], at: usize) -> Option<Word>
     if end == at {
         return None;
     }
-    if Name::BYTES < end - at {
+    if NameAt::BYTES < end - at {
         return None;
     }
     Some(Word {
@@ -612,20 +468,6 @@ pub fn part(s: &[u8], at: usize, code: u64) -> Option<usize>
     ensures { result ≡ part_end s.now at code }
 {
     opening(s, skip(s, at, b' ')?, code)
-}
-
-// Returns the place after an opening bracket and the word of a code; 0 means that they do not stand at the place.
-pub fn open_at(s: &[u8], at: usize, code: u64) -> usize
-    ensures { result ≡ opened_at s.now at code }
-{
-    opening(s, at, code).unwrap_or(0)
-}
-
-// Returns the place after a space, an opening bracket and the word of a code; 0 means that they do not stand at the place.
-pub fn part_at(s: &[u8], at: usize, code: u64) -> usize
-    ensures { result ≡ part_at s.now at code }
-{
-    part(s, at, code).unwrap_or(0)
 }
 
 // Returns whether a text ends with a closing bracket that stands at a place.
@@ -669,22 +511,6 @@ impl Line {
             return Err(Unread::TooLong);
         }
         opening(s, 0, verb).ok_or(Unread::Malformed)
-    }
-
-    // Returns the place after the first word of a line of a verb; 0 means that it is too long (`long`) or has another.
-    pub fn open(s: &[u8], verb: u64) -> Line
-        ensures { result ≡ line_open s.now verb }
-    {
-        match Line::after(s, verb) {
-            Ok(at) => Line {
-                long: false,
-                at: at,
-            },
-            Err(e) => Line {
-                long: e.long(),
-                at: 0,
-            },
-        }
     }
 }
 
