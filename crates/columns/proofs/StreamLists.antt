@@ -15,7 +15,7 @@ use Rattle.syntax.specs.Grammar.{Bytes}
 use Rattle.syntax.specs.Readers.{Read, bind, byte, closes, read_name}
 use Rattle.syntax.specs.Limits.{short}
 use Rattle.syntax.proofs.Leaving.{name_leaves}
-use Rattle.text.specs.declared.NameAt.{NameAt}
+use Rattle.text.specs.declared.Name.{Name}
 use Rattle.text.specs.Words.{Found, Some, None, seen, left_at, read_end, name_seen, name_found}
 use Rattle.text.specs.Readings.{any_items}
 use Rattle.text.proofs.Views.{Reading, name_reading}
@@ -128,7 +128,7 @@ unfolding streams_answer more bind fold
 answer_more ns s r x none = refl
 answer_more ns s r x (some xs) = refl
 
-unfoldable pub streams_walk : (ns : List ℕ) (s : Bytes) → Walk Bytes NameAt Seen (Found Streams) s
+unfoldable pub streams_walk : (ns : List ℕ) (s : Bytes) → Walk Bytes Name Seen (Found Streams) s
 streams_walk ns s =
     record {
       ends = ends_by false;
@@ -163,7 +163,7 @@ streams_start ns s at e = rw e (go (any_items closes read_name (drop at s)))
 abbrev both : Streams → ℕ → Seen
 both r seen = record { read = r; mask = seen }
 
-pub streams_less : (ns : List ℕ) (s : Bytes) (i p : ℕ) {n : NameAt} → i < length s → Some p ≡ read_end s (byte 32 (drop i s)) → Some n ≡ name_found s p → length s - n.next < length s - i
+pub streams_less : (ns : List ℕ) (s : Bytes) (i p : ℕ) {n : Name} → i < length s → Some p ≡ read_end s (byte 32 (drop i s)) → Some n ≡ name_found s p → length s - n.next < length s - i
 unfolding streams_walk name_reading name_found
 streams_less ns s i p h b q = walk_falls (streams_walk ns s) i p h b q
 
@@ -187,7 +187,7 @@ module _ (ns : List ℕ) (s : Bytes) (at i : ℕ) (r : Streams) (seen : ℕ) (in
         unfolding streams_on streams_walk streams_answer name_reading name_found
         streams_stuck q e = e ∙ sym (walk_stuck (streams_walk ns s) (both r seen) i inv u d b q)
 
-        pub streams_more : {n : NameAt} {x : Streams} {place mask : ℕ} {again : Bool} → Some n ≡ name_found s p → place ≡ stream_found ns n.code → again ≡ bit? seen place
+        pub streams_more : {n : Name} {x : Streams} {place mask : ℕ} {again : Bool} → Some n ≡ name_found s p → place ≡ stream_found ns n.code → again ≡ bit? seen place
             → x ≡ stream_added r n.long place again → mask ≡ with_bit seen place → streams_at ns s at ≡ streams_on ns s x mask n.next
         unfolding streams_on streams_walk name_reading name_found seen_step stream_place code_short name_seen
         streams_more {n} {x} {place} {mask} {again} q a c e m =

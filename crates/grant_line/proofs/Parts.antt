@@ -18,7 +18,7 @@ use Rattle.syntax.proofs.Steps.{from, done}
 use Rattle.syntax.proofs.Leaving.{Leaves, items_ended, ref_leaves}
 use Rattle.syntax.specs.Readers.{Read, Reader, bind, ensure, ◌>>=◌, ◌>>◌, give, byte, read_word, rights, itself, read_name, read_ref, read_some, closes, read_star, star_next, read_show}
 use Rattle.syntax.proofs.Aggregates.{fn_range}
-use Rattle.text.specs.declared.NameAt.{NameAt}
+use Rattle.text.specs.declared.Name.{Name}
 use Rattle.text.specs.declared.Word.{Word}
 use Rattle.text.specs.Words.{Found, Some, None, seen, left_at, read_end, name_found}
 use Rattle.text.specs.Keywords.{right_given, coded, word_found, part_end, keywords_compute}
@@ -101,7 +101,7 @@ module _ (s : Bytes) (at : ℕ) where
     unfolding read_held ◌>>◌ ◌>>=◌ bind
     holder_unnamed q e = unheld (rw (skip_is s at 32 sp, name_none s p q)) e
 
-    module _ {n : NameAt} (q : Some n ≡ name_found s p) where
+    module _ {n : Name} (q : Some n ≡ name_found s p) where
       pub holder_alone : {r : Found Holder} → None ≡ read_end s (byte 32 (drop n.next s)) → r ≡ None → r ≡ holder_at s at
       unfolding read_held ◌>>◌ ◌>>=◌ bind
       holder_alone u e = name_some s p q (λ v h l c. unheld (rw (skip_is s at 32 sp, h, skip_none s n.next 32 u)) e)

@@ -12,7 +12,7 @@ use Rattle.std.specs.Prelude.{is_some, is_none, unwrap_or}
 use Rattle.syntax.specs.Grammar.{Bytes, Span}
 use Rattle.syntax.specs.Limits.{is_time}
 use Rattle.syntax.specs.Readers.{Read, Reader, bind, ◌>>=◌, ◌>>◌, give, byte, read_optional, read_number, read_limit, read_window}
-use Rattle.text.specs.declared.NumberAt.{NumberAt}
+use Rattle.text.specs.declared.Number.{Number}
 use Rattle.text.specs.Words.{Found, Some, None, seen, left_at, read_end, name_of, number_found, time_given, time_kept}
 use Rattle.text.specs.Keywords.{part_end}
 use Rattle.text.proofs.Codes.{code_back, code_keyword}
@@ -59,7 +59,7 @@ module _ (s : Bytes) (at word : ℕ) (above : 0 < word) (inside : at ≤ length 
       unfolding seen read_number ◌>>=◌ ◌>>◌ bind
       limit_unread f d = d ∙ sym (limit_is ∙ rw (skip_is s p 32 sp, number_none s q f))
 
-      module _ {n : NumberAt} (f : Some n ≡ number_found s q) where
+      module _ {n : Number} (f : Some n ≡ number_found s q) where
         pub limit_unclosed : {r : Found Limit} → None ≡ read_end s (byte 41 (drop n.next s)) → r ≡ None → r ≡ limit_at s at (name_of word)
         unfolding seen read_number ◌>>=◌ ◌>>◌ bind give
         limit_unclosed v d = number_some s q f (λ z g w. d ∙ sym (limit_is ∙ rw (skip_is s p 32 sp, g, skip_none s n.next 41 v)))
@@ -90,7 +90,7 @@ module _ (s : Bytes) (at : ℕ) where
     unfolding read_span read_number ◌>>=◌ ◌>>◌ bind
     span_sizeless f d = unspan (rw (skip_is s at 32 sp, number_none s p f)) d
 
-    module _ {m : NumberAt} (f : Some m ≡ number_found s p) where
+    module _ {m : Number} (f : Some m ≡ number_found s p) where
       pub span_alone : {r : Found Window} → None ≡ read_end s (byte 32 (drop m.next s)) → r ≡ None → r ≡ span_at s at
       unfolding read_span read_number ◌>>=◌ ◌>>◌ bind
       span_alone v d = number_some s p f (λ z g w. unspan (rw (skip_is s at 32 sp, g, skip_none s m.next 32 v)) d)
@@ -100,7 +100,7 @@ module _ (s : Bytes) (at : ℕ) where
         unfolding read_span read_number ◌>>=◌ ◌>>◌ bind
         span_offsetless h d = number_some s p f (λ z g w. unspan (rw (skip_is s at 32 sp, g, skip_is s m.next 32 sq, number_none s q h)) d)
 
-        module _ {n : NumberAt} (h : Some n ≡ number_found s q) where
+        module _ {n : Number} (h : Some n ≡ number_found s q) where
           pub span_unclosed : {r : Found Window} → None ≡ read_end s (byte 41 (drop n.next s)) → r ≡ None → r ≡ span_at s at
           unfolding read_span read_number ◌>>=◌ ◌>>◌ bind
           span_unclosed x d =

@@ -11,7 +11,7 @@ use Rattle.syntax.specs.Grammar.{Bytes}
 use Rattle.syntax.specs.Readers.{read_name, read_items, read_some, closes}
 use Rattle.syntax.proofs.Leaving.{name_leaves}
 use Rattle.syntax.specs.Limits.{short}
-use Rattle.text.specs.declared.NameAt.{NameAt}
+use Rattle.text.specs.declared.Name.{Name}
 use Rattle.text.specs.Words.{Found, Some, None, name_seen}
 use Rattle.text.proofs.Views.{name_reading}
 use Rattle.items.specs.declared.Names.{Names}
@@ -38,7 +38,7 @@ one_more ws w =
     alike (omega arith) (every_more short ws w)
     (ap (λ n. set (first_of 6 0 (map code_short ws)) n (code_short w)) m ∙ first_more 0 6 (map code_short ws) (code_short w) ∙ ap (first_of 6 0) (map_more code_short ws w))
 
-unfoldable pub names_way : (s : Bytes) → Way Bytes NameAt Names s
+unfoldable pub names_way : (s : Bytes) → Way Bytes Name Names s
 unfolding name_reading name_seen name_step name_more code_short
 names_way s =
     record {

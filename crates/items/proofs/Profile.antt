@@ -11,8 +11,8 @@ use Rattle.lists.proofs.Laws.{not_both}
 use Rattle.syntax.specs.Grammar.{Bytes}
 use Rattle.syntax.specs.Readers.{◌>>=◌, ◌>>◌, bind, give, byte, read_entry}
 use Rattle.syntax.specs.Limits.{short, is_value}
-use Rattle.text.specs.declared.NameAt.{NameAt}
-use Rattle.text.specs.declared.NumberAt.{NumberAt}
+use Rattle.text.specs.declared.Name.{Name}
+use Rattle.text.specs.declared.Number.{Number}
 use Rattle.text.specs.Words.{Found, Some, None, seen, left_at, read_end, name_found, number_found, value_given}
 use Rattle.text.specs.Keywords.{opening_end}
 use Rattle.text.proofs.Views.{skip_none, skip_is, skip_within}
@@ -39,7 +39,7 @@ module _ (s : Bytes) (at : ℕ) where
       unfolding read_entry ◌>>=◌ ◌>>◌ bind
       entry_nameless f = missing (rw (open_some s at self_word o, skip_is s p 32 c, name_none s q f))
 
-      module _ {n : NameAt} (f : Some n ≡ name_found s q) where
+      module _ {n : Name} (f : Some n ≡ name_found s q) where
         pub entry_unparted : None ≡ read_end s (byte 32 (drop n.next s)) → None ≡ entry_found s at
         unfolding read_entry ◌>>=◌ ◌>>◌ bind
         entry_unparted g = name_some s q f (λ w r i j. missing (rw (open_some s at self_word o, skip_is s p 32 c, r, skip_none s n.next 32 g)))
@@ -49,7 +49,7 @@ module _ (s : Bytes) (at : ℕ) where
           unfolding read_entry ◌>>=◌ ◌>>◌ bind
           entry_valueless h = name_some s q f (λ w r i j. missing (rw (open_some s at self_word o, skip_is s p 32 c, r, skip_is s n.next 32 g, number_none s t h)))
 
-          module _ {z : NumberAt} (h : Some z ≡ number_found s t) where
+          module _ {z : Number} (h : Some z ≡ number_found s t) where
             pub entry_unclosed : None ≡ read_end s (byte 41 (drop z.next s)) → None ≡ entry_found s at
             unfolding read_entry ◌>>=◌ ◌>>◌ bind
             entry_unclosed k =

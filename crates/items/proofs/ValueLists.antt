@@ -12,7 +12,7 @@ use Rattle.syntax.specs.Grammar.{Bytes}
 use Rattle.syntax.specs.Readers.{read_int, read_items, read_some, closes}
 use Rattle.syntax.proofs.Leaving.{int_leaves}
 use Rattle.syntax.specs.Limits.{is_value}
-use Rattle.text.specs.declared.NumberAt.{NumberAt}
+use Rattle.text.specs.declared.Number.{Number}
 use Rattle.text.specs.Words.{Found, Some, None, number_seen, value_kept, value_given}
 use Rattle.text.proofs.Ranges.{value_clamp}
 use Rattle.text.proofs.Views.{number_reading}
@@ -42,7 +42,7 @@ one_more zs z =
     (alike (omega arith) (every_more is_value zs z)
     (ap (λ n. set (first_of 6 (pos 0) (map value_kept zs)) n (value_kept z)) m ∙ first_more (pos 0) 6 (map value_kept zs) (value_kept z) ∙ ap (first_of 6 (pos 0)) (map_more value_kept zs z)))
 
-unfoldable pub values_way : (s : Bytes) → Way ℤ NumberAt Values s
+unfoldable pub values_way : (s : Bytes) → Way ℤ Number Values s
 unfolding number_reading number_seen value_step
 values_way s =
     record {

@@ -4,7 +4,7 @@ use Rattle.lists.specs.Lists.{every, distinct, count_from}
 use Rattle.syntax.specs.Grammar.{Bytes, Entry}
 use Rattle.syntax.specs.Readers.{Read, closes, read_name, read_int, read_entry}
 use Rattle.syntax.specs.Limits.{max_columns, max_entries, short, is_value}
-use Rattle.text.specs.declared.NameAt.{NameAt}
+use Rattle.text.specs.declared.Name.{Name}
 use Rattle.text.specs.Words.{Found, seen, left_at, code_of, value_kept}
 use Rattle.text.specs.Readings.{any_items}
 use Rattle.items.specs.declared.Names.{Names}
@@ -36,7 +36,7 @@ unfoldable pub names_found : Bytes → ℕ → Found Names
 names_found s at = seen (names_seen s) (any_items closes read_name (drop at s))
 
 -- what is read so far, with one name more
-unfoldable pub name_more : Names → NameAt → Names
+unfoldable pub name_more : Names → Name → Names
 name_more r n = record { next = r.next; count = min (suc r.count) (suc max_columns); long = r.long || n.long; codes = set r.codes r.count n.code }
 
 -- ---- numbers

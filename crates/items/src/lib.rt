@@ -6,7 +6,7 @@ ghost use Rattle.lists.specs.Lists.{distinct};
 ghost use Rattle.syntax.specs.Limits.{max_columns, max_entries};
 ghost use Rattle.items.specs.Items.{name_more, names_found, value_more, values_found, entry_found, entry_more, entries_found};
 
-use text::{NameAt, Word};
+use text::{Name, Word};
 
 // Names at a place: the place after them, how many, Names::OVER for more than are kept, whether one is too long, and the first of them as numbers.
 #[derive(Clone, Copy)]
@@ -89,7 +89,7 @@ fn keep<T: Copy, const N: usize>(items: &mut [T; N], count: u32, item: T) -> u32
 
 impl Names {
     // Counts one name more, and keeps it where it is among the first.
-    fn add(&mut self, n: NameAt)
+    fn add(&mut self, n: Name)
         ensures { self.new ≡ name_more self.old n }
     {
         self.long |= n.long;

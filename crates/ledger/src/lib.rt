@@ -11,7 +11,7 @@ ghost use Rattle.ledger.specs.Calls.{begun, clocked, clock_call, cleared, clear_
 
 use refusal::{Checks, Refusal};
 use schema::Stream;
-use text::{NumberAt, Time};
+use text::{Number, Time};
 
 #[repr(C)]
 #[derive(Clone, Copy)]
@@ -93,7 +93,7 @@ impl Ledger {
     pub fn clock(self, t: i64) -> Result<Ledger, Refusal>
         ensures { result ≡ clock_call self t }
     {
-        let n = NumberAt { value: t, next: 0 };
+        let n = Number { value: t, next: 0 };
         self.clock_with(n.time(), Checks::new())
     }
 

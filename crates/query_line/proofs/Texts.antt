@@ -22,7 +22,7 @@ use Rattle.calls.specs.Names.{form_conds, map_option}
 use Rattle.calls.specs.Tables.{query_checks}
 use Rattle.calls.specs.Replies.{written}
 use Rattle.text.specs.declared.Unread.TheVariants as L
-use Rattle.text.specs.declared.NumberAt.{NumberAt}
+use Rattle.text.specs.declared.Number.{Number}
 use Rattle.text.specs.declared.Unread.{Unread}
 use Rattle.text.specs.declared.Unread.TheVariants.{TooLong}
 use Rattle.text.specs.Words.{Found, Some, None, seen, left_at, read_end, clamp, number_found}
@@ -355,7 +355,7 @@ module _ (ns : List ℕ) (s : Bytes) (ws : List ℕ) where
       unfolding read_body read_number ◌>>◌ ◌>>=◌ bind closed
       line_routeless q d = unsaid refl (λ lent. whole_body ∙ rw (skip_is s at 32 sp, number_none s i q)) d
 
-      module _ {n : NumberAt} (q : Some n ≡ number_found s i) where
+      module _ {n : Number} (q : Some n ≡ number_found s i) where
         pub line_alone : {x : Routed} → None ≡ read_end s (byte 32 (drop n.next s)) → x ≡ unread_routed false → RouteTold ns s ws ws x
         unfolding read_body read_number ◌>>◌ ◌>>=◌ bind closed
         line_alone u d = unsaid refl (λ lent. number_some s i q (λ z e g. whole_body ∙ rw (skip_is s at 32 sp, e, skip_none s n.next 32 u))) d

@@ -12,7 +12,7 @@ use query::{Form, Query};
 use query_read::Reading;
 use refusal::Checks;
 use schema::Stream;
-use text::{Line, NumberAt, Word};
+use text::{Line, Number, Word};
 
 // A query that is passed: its columns as bits, whether it has a join and whether an aggregate.
 #[derive(Clone, Copy)]
@@ -392,7 +392,7 @@ fn unread_route(long: bool) -> Routed
     }
 }
 
-fn routed_of(n: NumberAt, a: Asked) -> Routed
+fn routed_of(n: Number, a: Asked) -> Routed
     ensures { result ≡ routed_of n.value a }
 {
     Routed {

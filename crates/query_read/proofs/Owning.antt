@@ -21,8 +21,8 @@ use Rattle.syntax.proofs.Conditions.{cond_read}
 use Rattle.syntax.proofs.Leaving.{byte_less, items_ended, ref_leaves}
 use Rattle.syntax.proofs.Aggregates.{fn_forth, fn_back, fn_range}
 use Rattle.model.specs.Conditions.{tests}
-use Rattle.text.specs.declared.NameAt.{NameAt}
-use Rattle.text.specs.declared.NumberAt.{NumberAt}
+use Rattle.text.specs.declared.Name.{Name}
+use Rattle.text.specs.declared.Number.{Number}
 use Rattle.text.specs.declared.Word.{Word}
 use Rattle.text.specs.declared.Time.{Time}
 use Rattle.text.specs.declared.Class.TheVariants.{Plain}
@@ -102,7 +102,7 @@ module _ (ns : List ℕ) (s : Bytes) (b n at : ℕ) where
     unfolding read_part ◌>>◌ ◌>>=◌ bind
     rows_unnamed q e = unpart ns s b n at k_in (rw (skip_is s at 32 sp, name_none s p q)) e
 
-    module _ {m : NameAt} (q : Some m ≡ name_found s p) where
+    module _ {m : Name} (q : Some m ≡ name_found s p) where
       pub rows_unclosed : {r : Found Own} → None ≡ read_end s (byte 41 (drop m.next s)) → r ≡ None → r ≡ part_at ns s b n k_in at
       unfolding read_part ◌>>◌ ◌>>=◌ bind
       rows_unclosed u e = name_some s p q (λ x h l k. unpart ns s b n at k_in (rw (skip_is s at 32 sp, h, skip_none s m.next 41 u)) e)
@@ -288,7 +288,7 @@ module _ (ns : List ℕ) (s : Bytes) (f b n at : ℕ) where
         unfolding read_part ◌>>◌ ◌>>=◌ bind
         aggregate_sizeless w e = ref_is s p q (λ x h i j k. unpart ns s b n at by_fn (rw (skip_is s at 32 sp, h, skip_is s m.next 32 sq, number_none s o w)) e)
 
-        module _ {v : NumberAt} (w : Some v ≡ number_found s o) where
+        module _ {v : Number} (w : Some v ≡ number_found s o) where
           pub aggregate_single : {r : Found Own} → None ≡ read_end s (byte 32 (drop v.next s)) → r ≡ None → r ≡ whole
           unfolding read_part ◌>>◌ ◌>>=◌ bind
           aggregate_single y e =
@@ -302,7 +302,7 @@ module _ (ns : List ℕ) (s : Bytes) (f b n at : ℕ) where
                 ref_is s p q (λ x h i j k. number_some s o w (λ x' h' i'.
                 unpart ns s b n at by_fn (rw (skip_is s at 32 sp, h, skip_is s m.next 32 sq, h', skip_is s v.next 32 sr, number_none s g a)) e))
 
-            module _ {t : NumberAt} (a : Some t ≡ number_found s g) where
+            module _ {t : Number} (a : Some t ≡ number_found s g) where
               pub aggregate_formless : {r : Found Own} → None ≡ read_end s (byte 32 (drop t.next s)) → r ≡ None → r ≡ whole
               unfolding read_part ◌>>◌ ◌>>=◌ bind
               aggregate_formless z e =

@@ -13,7 +13,7 @@ use conditions::Seen;
 use query::{Form, Query};
 use schema::Stream;
 use terms::Term;
-use text::{Line, NumberAt, Time, Word};
+use text::{Line, Number, Time, Word};
 
 // One form by itself, up to its closing bracket or to the form inside it. `over`: it is out of bounds. `words` words are stored after it;
 // `lefts` and `rights` are the codes of its condition's terms as bits, and `lefts` those of a keep's columns.
@@ -108,7 +108,7 @@ fn level(n: usize) -> u32
 }
 
 // A SIZE or an OFFSET up to the highest, and else 0; below 0 it counts as 0.
-fn span_of(n: NumberAt) -> Time
+fn span_of(n: Number) -> Time
     ensures { result ≡ span_of n.value }
 {
     let v = n.value;
@@ -118,7 +118,7 @@ fn span_of(n: NumberAt) -> Time
             value: 0,
         };
     }
-    if NumberAt::MOST < v {
+    if Number::MOST < v {
         return Time {
             beyond: true,
             value: 0,

@@ -11,7 +11,7 @@ use Rattle.refusal.specs.declared.Checks.{Checks}
 use Rattle.syntax.specs.Grammar as G
 use Rattle.syntax.specs.Grammar.{Bytes}
 use Rattle.syntax.specs.Readers.{◌>>◌, bind, give, byte, read_number, read_body}
-use Rattle.text.specs.declared.NumberAt.{NumberAt}
+use Rattle.text.specs.declared.Number.{Number}
 use Rattle.text.specs.declared.Unread.{Unread}
 use Rattle.text.specs.Words.{Found, Some, None, seen, read_end, number_found, time_given}
 use Rattle.text.specs.Keywords.{Ok, Err, line_after, too_long, closes_at}
@@ -39,7 +39,7 @@ module _ (s : Bytes) (at : ℕ) where
     unfolding clock_after read_body read_number ◌>>◌ bind closed seen
     clock_numberless e = rw (skip_is s at 32 q, number_none s p e)
 
-    module _ {n : NumberAt} (m : Some n ≡ number_found s p) {c : Bool} (g : c ≡ closes_at s n.next) where
+    module _ {n : Number} (m : Some n ≡ number_found s p) {c : Bool} (g : c ≡ closes_at s n.next) where
       pub clock_unclosed : c ≡ false → None ≡ clock_after s at
       unfolding clock_after read_body read_number ◌>>◌ bind seen
       clock_unclosed k = number_some s p m (λ z y w. rw (skip_is s at 32 q, y, closed_not s n.next z g (ap not k)))

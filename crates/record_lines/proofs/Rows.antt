@@ -19,7 +19,7 @@ use Rattle.syntax.specs.Grammar.{Bytes}
 use Rattle.syntax.specs.Limits.{max_columns, is_value, short}
 use Rattle.syntax.specs.Readers.{◌>>◌, ◌>>=◌, bind, give, byte, read_body}
 use Rattle.calls.specs.Bounds.{row_bounded}
-use Rattle.text.specs.declared.NameAt.{NameAt}
+use Rattle.text.specs.declared.Name.{Name}
 use Rattle.text.specs.declared.Unread.{Unread}
 use Rattle.text.specs.Words.{Some, None, seen, read_end, name_found}
 use Rattle.text.specs.Keywords.{Ok, Err, line_after, too_long, closes_at}
@@ -39,7 +39,7 @@ row_blank e = rw e
 
 -- ---- the line of a name and values, as the code makes it
 
-pub row_made : (n : NameAt) (vs : Values) {b : Bool} {c : Checks} → b ≡ (n.long || vs.wide) → c ≡ shown b false false (leb 7 vs.count) false
+pub row_made : (n : Name) (vs : Values) {b : Bool} {c : Checks} → b ≡ (n.long || vs.wide) → c ≡ shown b false false (leb 7 vs.count) false
     → record { checks = c; name = n.code; count = vs.count; values = vs.values } ≡ row_read n vs
 unfolding row_read
 row_made n vs e d = rw (d, e)
@@ -52,7 +52,7 @@ more_than_six n = go (ltb 6 n) refl
     go false e = let h = ltb-false 6 n e in lt-leb 7 (min n 7) (omega arith)
 
 -- it is the line that was read
-row_same : (s w : Bytes) (xs : List ℤ) (left : Bytes) (n : NameAt) {vs : Values} → n.long ≡ not (short w) → n.code ≡ code_short w → vs ≡ values_seen s (record { what = xs; left = left })
+row_same : (s w : Bytes) (xs : List ℤ) (left : Bytes) (n : Name) {vs : Values} → n.long ≡ not (short w) → n.code ≡ code_short w → vs ≡ values_seen s (record { what = xs; left = left })
     → row_read n vs ≡ row_given (record { name = w; values = xs })
 unfolding row_read row_given values_seen row_bounded
 row_same s w xs left n l c e = rw (l, c, e, more_than_six (length xs), not_both (short w) (every is_value xs))
@@ -69,7 +69,7 @@ module _ (s : Bytes) (at : ℕ) where
     unfolding row_after read_body ◌>>◌ ◌>>=◌ bind closed seen
     row_nameless e = rw (skip_is s at 32 q, name_none s p e)
 
-    module _ {n : NameAt} (m : Some n ≡ name_found s p) where
+    module _ {n : Name} (m : Some n ≡ name_found s p) where
       pub row_listless : None ≡ values_found s n.next → None ≡ row_after s at
       unfolding row_after read_body ◌>>◌ ◌>>=◌ bind closed seen
       row_listless e = name_some s p m (λ w y l c. rw (skip_is s at 32 q, y, some_values_none s n.next e))

@@ -10,7 +10,7 @@ use Rattle.syntax.specs.Readers.{read_body, parse_as}
 use Rattle.calls.specs.Bounds.{row_bounded}
 use Rattle.text.specs.Words.{Found, None, seen, value_kept, time_given}
 use Rattle.text.specs.Readings.{closed}
-use Rattle.text.specs.declared.NameAt.{NameAt}
+use Rattle.text.specs.declared.Name.{Name}
 use Rattle.items.specs.Items.{code_short, first_of}
 use Rattle.items.specs.declared.Values.{Values}
 use Rattle.record_lines.specs.declared.ClockLine.{ClockLine}
@@ -71,5 +71,5 @@ unfoldable pub row_line : Bytes → RowLine
 row_line bs = cond (ltb max_line (length bs)) (unread_row true) (row_of (parse_as G.row bs))
 
 -- the same by a name and values as the code reads them
-unfoldable pub row_read : NameAt → Values → RowLine
+unfoldable pub row_read : Name → Values → RowLine
 row_read n vs = record { checks = shown (n.long || vs.wide) false false (leb (suc max_columns) vs.count) false; name = n.code; count = vs.count; values = vs.values }

@@ -9,7 +9,7 @@ ghost use Rattle.record_lines.specs.Calls.{clock_line_call, clear_line_call, Row
 use items::{Names, Values};
 use ledger::Ledger;
 use refusal::{Checks, Refusal};
-use text::{Line, NameAt, Word};
+use text::{Line, Name, Word};
 
 // What is read of a clock line; its time is None where its number is none.
 #[derive(Clone, Copy)]
@@ -88,7 +88,7 @@ fn unread_row(long: bool) -> RowLine
 }
 
 // The row line of a name and values.
-fn row_of(n: NameAt, vs: Values) -> RowLine
+fn row_of(n: Name, vs: Values) -> RowLine
     ensures { result ≡ row_read n vs }
 {
     let over = text::either(n.long, vs.wide);

@@ -16,7 +16,7 @@ use Rattle.syntax.specs.Grammar.{Bytes, Stream}
 use Rattle.syntax.specs.Limits.{short}
 use Rattle.syntax.specs.Readers.{◌>>=◌, ◌>>◌, bind, give, byte, read_body}
 use Rattle.calls.specs.Bounds.{stream_bounded}
-use Rattle.text.specs.declared.NameAt.{NameAt}
+use Rattle.text.specs.declared.Name.{Name}
 use Rattle.text.specs.declared.Unread.{Unread}
 use Rattle.text.specs.Words.{Some, None, seen, read_end, code_of, name_found}
 use Rattle.text.specs.Keywords.{Ok, Err, closes_at, too_long}
@@ -38,14 +38,14 @@ use Rattle.stream_line.proofs.Flags.{few_columns}
 -- ---- the line of a name and columns
 
 -- by its parts
-pub line_made : (n : NameAt) (cs : Names) {long over o f : Bool} {m : ℕ} {c : Checks} → length cs.codes ≡ 6 → long ≡ (n.long || cs.long) → over ≡ (long || leb 7 cs.count) → m ≡ min cs.count 6
+pub line_made : (n : Name) (cs : Names) {long over o f : Bool} {m : ℕ} {c : Checks} → length cs.codes ≡ 6 → long ≡ (n.long || cs.long) → over ≡ (long || leb 7 cs.count) → m ≡ min cs.count 6
     → o ≡ distinct eqb (take m cs.codes) → f ≡ (code_free n.code && every code_free (take cs.count cs.codes)) → c ≡ shown over false (not o) (not f) false
     → record { checks = c; stream = record { name = n.code; count = cs.count; columns = cs.codes } } ≡ line_read n cs
 unfolding line_read
 line_made n cs l p q t r s e = rw (e, q, p, once_is cs.codes cs.count l t r, s)
 
 -- by what the text says
-line_said : (s w : Bytes) (xs : List Bytes) (l : Bytes) (n : NameAt) (cs : Names) → n.long ≡ not (short w) → n.code ≡ cond (short w) (code_of w) 0 → cs ≡ names_seen s (record { what = xs; left = l })
+line_said : (s w : Bytes) (xs : List Bytes) (l : Bytes) (n : Name) (cs : Names) → n.long ≡ not (short w) → n.code ≡ cond (short w) (code_of w) 0 → cs ≡ names_seen s (record { what = xs; left = l })
     → line_read n cs ≡ read_line (record { name = w; columns = xs })
 unfolding line_read read_line stream_made stream_bounded names_seen code_short every
 line_said s w xs l n cs a b c =
@@ -63,7 +63,7 @@ module _ (s : Bytes) (at : ℕ) where
     unfolding line_after read_body ◌>>=◌ ◌>>◌ bind closed seen
     line_nameless e = rw (skip_is s at 32 q, name_none s p e)
 
-    module _ {n : NameAt} (m : Some n ≡ name_found s p) where
+    module _ {n : Name} (m : Some n ≡ name_found s p) where
       pub line_listless : None ≡ names_found s n.next → None ≡ line_after s at
       unfolding line_after read_body ◌>>=◌ ◌>>◌ bind closed seen
       line_listless e = name_some s p m (λ v r i j. rw (skip_is s at 32 q, r, some_names_none s n.next e))

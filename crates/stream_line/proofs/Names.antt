@@ -3,11 +3,11 @@ use mathlib.Core.Path.{◌≡◌, sym, ◌∙◌}
 use mathlib.Core.Bool.{Bool, true, false, ◌&&◌}
 use lib.ListN.{take}
 use Rattle.lists.specs.Lists.{every}
-use Rattle.text.specs.declared.NameAt.{NameAt}
+use Rattle.text.specs.declared.Name.{Name}
 use Rattle.items.specs.declared.Names.{Names}
 use Rattle.schema.specs.Schemas.{code_free}
 
-module _ (n : NameAt) (cs : Names) {x : Bool} (e : x ≡ code_free n.code) where
+module _ (n : Name) (cs : Names) {x : Bool} (e : x ≡ code_free n.code) where
   pub name_taken : x ≡ false → false ≡ (code_free n.code && every code_free (take cs.count cs.codes))
   name_taken h = rw (sym e ∙ h)
 

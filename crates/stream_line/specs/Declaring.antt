@@ -14,7 +14,7 @@ use Rattle.calls.specs.Replies.{written}
 use Rattle.calls.specs.Tables.{stream_checks}
 use Rattle.text.specs.Words.{Found, seen, code_of}
 use Rattle.text.specs.Readings.{closed}
-use Rattle.text.specs.declared.NameAt.{NameAt}
+use Rattle.text.specs.declared.Name.{Name}
 use Rattle.items.specs.declared.Names.{Names}
 use Rattle.items.specs.Items.{code_short, first_of, once}
 use Rattle.schema.specs.declared.Stream as M
@@ -41,7 +41,7 @@ read_line s =
     }
 
 -- the same by a name and columns as the code reads them
-unfoldable pub line_read : NameAt → Names → StreamLine
+unfoldable pub line_read : Name → Names → StreamLine
 line_read n cs =
     record {
       checks = shown ((n.long || cs.long) || leb (suc max_columns) cs.count) false (not (once cs.codes cs.count)) (not (code_free n.code && every code_free (take cs.count cs.codes))) false;

@@ -9,7 +9,7 @@ ghost use Rattle.stream_line.specs.Declaring.{unread_line, line_read, line_after
 use items::Names;
 use refusal::{Checks, Refusal};
 use schema::Stream;
-use text::{Line, NameAt, Word};
+use text::{Line, Name, Word};
 
 // What is read of a stream line: what is wrong with it by itself, and its stream.
 #[derive(Clone, Copy)]
@@ -45,7 +45,7 @@ fn all_free(codes: [u64; Names::MOST], n: usize) -> bool
 }
 
 // Whether the stream and its columns have names that they may have.
-fn free(n: NameAt, cs: Names) -> bool
+fn free(n: Name, cs: Names) -> bool
     ensures { result ≡ (code_free n.code && every code_free (take cs.count cs.codes)) }
 {
     if !schema::free_name(n.code) {
@@ -56,7 +56,7 @@ fn free(n: NameAt, cs: Names) -> bool
 }
 
 // The line of a name and columns.
-fn line_of(n: NameAt, cs: Names) -> StreamLine
+fn line_of(n: Name, cs: Names) -> StreamLine
     ensures { result ≡ line_read n cs }
 {
     let codes = cs.codes;

@@ -16,7 +16,7 @@ use Rattle.syntax.specs.Grammar.{Bytes, Ref, Operand, ref, number, letter}
 use Rattle.syntax.specs.Limits.{is_value}
 use Rattle.syntax.specs.Readers.{Read, bind, read_int, read_ref, read_operand}
 use Rattle.syntax.proofs.Leaving.{operand_leaves}
-use Rattle.text.specs.declared.NumberAt.{NumberAt}
+use Rattle.text.specs.declared.Number.{Number}
 use Rattle.text.specs.Words.{Found, Some, None, seen, left_at, number_seen, number_found, value_kept, value_given}
 use Rattle.text.proofs.Runs.{first_byte}
 use Rattle.text.proofs.Views.{Reading, read_none, read_some, number_reading}
@@ -55,7 +55,7 @@ module _ (s : Bytes) (at : ℕ) where
   unfolding number_term_at seen
   number_term_none p d = d ∙ sym (rw (number_none s at p))
 
-  pub number_term_some : {z : NumberAt} {k : Found ℤ} {y : ℤ} {o : Bool} {v : ℕ} → Some z ≡ number_found s at → k ≡ value_given z.value → y ≡ unwrap_or k (pos 0) → SFits w32 y → v ≡ biased (to_z w32 (of_z w32 y)) → is_some k ≡ not o
+  pub number_term_some : {z : Number} {k : Found ℤ} {y : ℤ} {o : Bool} {v : ℕ} → Some z ≡ number_found s at → k ≡ value_given z.value → y ≡ unwrap_or k (pos 0) → SFits w32 y → v ≡ biased (to_z w32 (of_z w32 y)) → is_some k ≡ not o
       → Some (record { over = o; code = 26; value = v; next = z.next }) ≡ number_term_at s at
   unfolding number_term_at number_term number_found number_reading number_seen left_at seen
   number_term_some {z} {k} {y} {o} {v} p e u i32 f g =

@@ -15,7 +15,7 @@ use Rattle.syntax.specs.Readers.{Read, bind, ensure, byte, lone, read_dotted, af
 use Rattle.syntax.proofs.Lexical as X
 use Rattle.syntax.proofs.Steps.{done}
 use Rattle.syntax.proofs.Leaving.{ref_leaves}
-use Rattle.text.specs.declared.NameAt.{NameAt}
+use Rattle.text.specs.declared.Name.{Name}
 use Rattle.text.specs.Words.{Found, Some, None, seen, left_at, read_end, code_from, code_of, name_seen, name_found}
 use Rattle.text.proofs.Codes.{names_same}
 use Rattle.text.proofs.Views.{Reading, read_here, skip_none, skip_is, name_reading}
@@ -100,7 +100,7 @@ module _ (s : Bytes) (at : ℕ) where
   unfolding read_ref bind
   ref_nameless p d = d ∙ missing (rw (name_none s at p))
 
-  module _ {n : NameAt} (p : Some n ≡ name_found s at) where
+  module _ {n : Name} (p : Some n ≡ name_found s at) where
     ref_after : {X : Type 0} → ((a : Read Bytes) → T (name? a.what) → n ≡ name_seen s a → drop n.next s ≡ a.left → read_ref (drop at s) ≡ after_name a.what (drop n.next s) → X) → X
     unfolding read_ref bind name_found name_reading
     ref_after f = read_here (name_reading s) at p (λ x z m. let a : Read Bytes = record { what = x; left = drop n.next s } in f a ((X.name_read).taken (drop at s) a z).0 m refl (rw z))
@@ -113,7 +113,7 @@ module _ (s : Bytes) (at : ℕ) where
       unfolding read_dotted bind
       ref_undotted v d = ref_second (λ a i h. d ∙ missing (h ∙ rw (name_none s q v)))
 
-      pub ref_dotted : {m : NameAt} {x : Reference} → Some m ≡ name_found s q → x ≡ dotted_of n m → Some x ≡ ref_at s at
+      pub ref_dotted : {m : Name} {x : Reference} → Some m ≡ name_found s q → x ≡ dotted_of n m → Some x ≡ ref_at s at
       unfolding read_dotted bind name_found name_reading
       ref_dotted {m} v d =
           ref_second (λ a i h. read_here (name_reading s) q v (λ w z j. let b : Read Bytes = record { what = w; left = drop m.next s } in

@@ -6,7 +6,7 @@ use Rattle.syntax.specs.Grammar.{Bytes, bytes, eq, Ref, Operand, Test, Cond, tes
 use Rattle.syntax.specs.Readers.{Read, read_int, read_ref, read_operand, read_test}
 use Rattle.syntax.specs.Limits.{max_streams, max_columns, short_ref, is_value}
 use Rattle.text.specs.Words.{Found, Some, None, seen, left_at, code_of, value_kept}
-use Rattle.text.specs.declared.NameAt.{NameAt}
+use Rattle.text.specs.declared.Name.{Name}
 use Rattle.items.specs.Items.{code_short}
 use Rattle.schema.specs.Schemas.{column_place}
 use Rattle.terms.specs.declared.Reference.{Reference}
@@ -67,10 +67,10 @@ unfoldable pub ref_at : Bytes → ℕ → Found Reference
 ref_at s at = seen (ref_seen s) (read_ref (drop at s))
 
 -- what the code makes of it: two names with a dot between them, a name that stands alone
-unfoldable pub dotted_of : NameAt → NameAt → Reference
+unfoldable pub dotted_of : Name → Name → Reference
 dotted_of n m = record { over = n.long || m.long; first = n.code; second = m.code; next = m.next }
 
-unfoldable pub alone_of : NameAt → Reference
+unfoldable pub alone_of : Name → Reference
 alone_of n = record { over = false; first = n.code; second = 0; next = n.next }
 
 -- the code of a term by the numbers of its names

@@ -6,7 +6,7 @@ ghost use Rattle.schema.specs.Schemas.{schema_size};
 ghost use Rattle.terms.specs.Terms.{entry_code, found, stream_found, place_in, dotted_of, alone_of, ref_at, code_in, biased, ref_term_at, number_term_at, operand_at, compared, comparison_at};
 
 use schema::Stream;
-use text::{NameAt, Word};
+use text::{Name, Word};
 
 // What stands where a column may: the numbers of its two names, the second 0 where it stands alone.
 #[derive(Clone, Copy)]
@@ -50,7 +50,7 @@ pub struct Comparison {
 }
 
 // Two names with a dot between them.
-fn dotted_of(n: NameAt, m: NameAt) -> Reference
+fn dotted_of(n: Name, m: Name) -> Reference
     ensures { result ≡ dotted_of n m }
 {
     let over = text::either(n.long, m.long);
@@ -63,7 +63,7 @@ fn dotted_of(n: NameAt, m: NameAt) -> Reference
 }
 
 // A name that stands alone.
-fn alone_of(n: NameAt) -> Reference
+fn alone_of(n: Name) -> Reference
     ensures { result ≡ alone_of n }
 {
     Reference {

@@ -15,8 +15,8 @@ use Rattle.syntax.specs.Limits.{max_line, short, is_value, is_time, natural}
 use Rattle.syntax.specs.Readers.{Read, Reader, bind, ensure, ◌>>=◌, ◌>>◌, give, byte, read_word, read_open, read_name, read_int, head_word, heads, kind_word, kinds, rights, word_opens, part_opens, read_part, read_body, read_as, parse, parse_as}
 use Rattle.syntax.proofs.Leaving.{open_leaves}
 use Rattle.syntax.proofs.Steps.{done}
-use Rattle.text.specs.declared.NameAt.{NameAt}
-use Rattle.text.specs.declared.NumberAt.{NumberAt}
+use Rattle.text.specs.declared.Name.{Name}
+use Rattle.text.specs.declared.Number.{Number}
 use Rattle.text.specs.declared.Word.{Word}
 use Rattle.text.specs.declared.Unread.{Unread}
 use Rattle.text.specs.declared.Unread.TheVariants.{TooLong, Malformed}
@@ -36,7 +36,7 @@ module _ (s : Bytes) (p : ℕ) where
   unfolding name_found name_reading
   name_none e = read_none (name_reading s) p e
 
-  module _ {n : NameAt} (e : Some n ≡ name_found s p) where
+  module _ {n : Name} (e : Some n ≡ name_found s p) where
     pub name_some : {X : Type 0}
         → ((w : Bytes) → read_name (drop p s) ≡ some (record { what = w; left = drop n.next s }) → n.long ≡ not (short w) → n.code ≡ cond (short w) (code_of w) 0 → X) → X
     unfolding name_found name_reading name_seen
@@ -56,7 +56,7 @@ module _ (s : Bytes) (p : ℕ) where
   unfolding number_found number_reading
   number_none e = read_none (number_reading s) p e
 
-  module _ {n : NumberAt} (e : Some n ≡ number_found s p) where
+  module _ {n : Number} (e : Some n ≡ number_found s p) where
     pub number_some : {X : Type 0} → ((z : ℤ) → read_int (drop p s) ≡ some (record { what = z; left = drop n.next s }) → n.value ≡ clamp z → X) → X
     unfolding number_found number_reading number_seen
     number_some f = read_here (number_reading s) p e (λ z r m. f z r (ap (λ x. x.value) m))

@@ -18,7 +18,7 @@ use Rattle.syntax.specs.Grammar.{Bytes, digit}
 use Rattle.syntax.specs.Readers.{Read, bind, ensure, byte, run, past, numeral, value_from, read_nat, negated, read_negative, read_natural, read_int}
 use Rattle.syntax.proofs.Steps.{done, run_past}
 use Rattle.text.specs.declared.Class.TheVariants.{Digit}
-use Rattle.text.specs.declared.NumberAt.{NumberAt}
+use Rattle.text.specs.declared.Number.{Number}
 use Rattle.text.specs.Words.{Found, Some, None, seen, left_at, read_end, class_of, run_end, far, clamp, number_seen, number_found, natural_found, numeral_end}
 use Rattle.text.proofs.Runs.{first_byte, run_head, run_from, run_word, run_place, run_within}
 use Rattle.text.proofs.Views.{no_some, skip_none, skip_is}
@@ -171,7 +171,7 @@ minus_small (suc n) k = record { sfits = omega arith }
 
 -- a number that begins with no minus, and one with a minus
 module _ (s : Bytes) (at : ℕ) where
-  pub number_natural : {r : Found NumberAt} → None ≡ read_end s (byte 45 (drop at s)) → r ≡ natural_found s at → r ≡ number_found s at
+  pub number_natural : {r : Found Number} → None ≡ read_end s (byte 45 (drop at s)) → r ≡ natural_found s at → r ≡ number_found s at
   unfolding number_found natural_found read_int byte ensure read_natural read_nat bind run numeral read_end seen
   number_natural {r} p f = f ∙ go (drop at s) (skip_none s at 45 p)
     where
@@ -205,7 +205,7 @@ module _ (s : Bytes) (at : ℕ) where
         go none e = refl
         go (some r) e = absurd (no_some e)
 
-    module _ {n : NumberAt} (e : Some n ≡ natural_found s p) where
+    module _ {n : Number} (e : Some n ≡ natural_found s p) where
       -- the digits after the minus
       digits_are : {X : Type 0} → ((m : ℕ) → n.value ≡ pos (min m far) → number_found s at ≡ seen (λ z. record { value = clamp z; next = n.next }) (negated m) → X) → X
       unfolding natural_found read_natural read_negative bind seen number_seen left_at clamp negated
@@ -226,7 +226,7 @@ module _ (s : Bytes) (at : ℕ) where
       unfolding far
       back = digits_are (λ m v d. to_z-of_z w64 n.value (rw v (record { sfits = omega arith })))
 
-      minus_signed : ℕ → Found NumberAt
+      minus_signed : ℕ → Found Number
       minus_signed m = seen (λ z. record { value = clamp z; next = n.next }) (negated m)
 
       pub number_zero : of_z w64 n.value ≡ 0 → None ≡ number_found s at

@@ -11,8 +11,8 @@ use borrow.Author.Tests.{eq-eqb, ne_eqb}
 use Rattle.syntax.specs.Grammar.{Bytes}
 use Rattle.syntax.specs.Readers.{Read, Reader, byte, ensure, read_name, read_int}
 use Rattle.syntax.proofs.Leaving.{Leaves, left_within, byte_leaves, name_leaves, int_leaves}
-use Rattle.text.specs.declared.NameAt.{NameAt}
-use Rattle.text.specs.declared.NumberAt.{NumberAt}
+use Rattle.text.specs.declared.Name.{Name}
+use Rattle.text.specs.declared.Number.{Number}
 use Rattle.text.specs.Words.{Some, None, seen, left_at, read_end, name_seen, number_seen}
 
 -- ---- what is left
@@ -133,10 +133,10 @@ pub ruleset skip_ends = (skip_over, skip_other, skip_here)
 
 -- ---- names and numbers
 
-unfoldable pub name_reading : (s : Bytes) → Reading Bytes NameAt s
+unfoldable pub name_reading : (s : Bytes) → Reading Bytes Name s
 unfolding name_seen
 name_reading s = record { item = read_name; leaves = name_leaves; made = name_seen s; next = λ n. n.next; next_made = λ a. refl }
 
-unfoldable pub number_reading : (s : Bytes) → Reading ℤ NumberAt s
+unfoldable pub number_reading : (s : Bytes) → Reading ℤ Number s
 unfolding number_seen
 number_reading s = record { item = read_int; leaves = int_leaves; made = number_seen s; next = λ n. n.next; next_made = λ a. refl }

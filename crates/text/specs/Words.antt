@@ -7,8 +7,8 @@ use Rattle.syntax.specs.Readers.{Read, plain, run, numeral, read_name, read_natu
 use Rattle.syntax.specs.Limits.{short, is_value, is_time, natural}
 use Rattle.text.specs.declared.Class.{Class}
 use Rattle.text.specs.declared.Class.TheVariants.{Alnum, Digit, Plain}
-use Rattle.text.specs.declared.NameAt.{NameAt}
-use Rattle.text.specs.declared.NumberAt.{NumberAt}
+use Rattle.text.specs.declared.Name.{Name}
+use Rattle.text.specs.declared.Number.{Number}
 
 -- ---- what readers read, as the code has it
 
@@ -55,10 +55,10 @@ unfoldable pub name_of : ℕ → Bytes
 name_of n = bytes_from 8 n []
 
 -- the name at a place: whether it is longer than a name may be, its number (0 where it is longer), and the place after it
-unfoldable pub name_seen : Bytes → Read Bytes → NameAt
+unfoldable pub name_seen : Bytes → Read Bytes → Name
 name_seen s r = record { long = not (short r.what); code = cond (short r.what) (code_of r.what) 0; next = left_at s r }
 
-unfoldable pub name_found : Bytes → ℕ → Found NameAt
+unfoldable pub name_found : Bytes → ℕ → Found Name
 name_found s at = seen (name_seen s) (read_name (drop at s))
 
 -- ---- numbers
@@ -72,14 +72,14 @@ clamp (pos n) = pos (min n far)
 clamp (negsuc n) = neg_ℤ (pos (min (suc n) far))
 
 -- the number at a place, clamped, and the place after it
-unfoldable pub number_seen : Bytes → Read ℤ → NumberAt
+unfoldable pub number_seen : Bytes → Read ℤ → Number
 number_seen s r = record { value = clamp r.what; next = left_at s r }
 
-unfoldable pub number_found : Bytes → ℕ → Found NumberAt
+unfoldable pub number_found : Bytes → ℕ → Found Number
 number_found s at = seen (number_seen s) (read_int (drop at s))
 
 -- one with no minus
-unfoldable pub natural_found : Bytes → ℕ → Found NumberAt
+unfoldable pub natural_found : Bytes → ℕ → Found Number
 natural_found s at = seen (number_seen s) (read_natural (drop at s))
 
 -- where digits with no needless zero end that begin at a place

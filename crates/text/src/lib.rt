@@ -18,7 +18,7 @@ pub enum Class {
 
 // A name at a place: one of at most eight bytes fits a number, so that two names are compared as numbers; a longer one has 0.
 #[derive(Clone, Copy)]
-pub struct NameAt {
+pub struct Name {
     pub long: bool,
     pub code: u64,
     pub next: usize,
@@ -26,7 +26,7 @@ pub struct NameAt {
 
 // A number at a place, clamped where it is beyond every range.
 #[derive(Clone, Copy)]
-pub struct NumberAt {
+pub struct Number {
     pub value: i64,
     pub next: usize,
 }
@@ -55,15 +55,15 @@ pub struct Word {
 // A written line.
 pub struct Line {}
 
-impl NameAt {
+impl Name {
     // How many bytes a name may have.
     pub const BYTES: usize = 8;
 
-    // Returns NameAt::BYTES, which is the bound of the definitions.
+    // Returns Name::BYTES, which is the bound of the definitions.
     pub fn bytes() -> usize
         ensures { result ≡ max_name }
     {
-        NameAt::BYTES
+        Name::BYTES
     }
 }
 
@@ -299,21 +299,21 @@ fn packed(word: &[u8]) -> u64
 }
 
 // Returns the name at a place.
-pub fn read_name(s: &[u8], at: usize) -> Option<NameAt>
+pub fn read_name(s: &[u8], at: usize) -> Option<Name>
     ensures { result ≡ name_found s.now at }
 {
     if !is_letter(byte(s, at) as u64) {
         return None;
     }
     let end = run_end(s, at, Class::Alnum);
-    if end - at <= NameAt::BYTES {
-        return Some(NameAt {
+    if end - at <= Name::BYTES {
+        return Some(Name {
             long: false,
             code: packed(&s[at..end]),
             next: end,
         });
     }
-    Some(NameAt {
+    Some(Name {
         long: true,
         code: 0,
         next: end,
@@ -357,18 +357,18 @@ fn numeral_end(s: &[u8], at: usize) -> Option<usize>
 }
 
 // The number of the digits at a place, with no needless zero.
-fn natural(s: &[u8], at: usize) -> Option<NumberAt>
+fn natural(s: &[u8], at: usize) -> Option<Number>
     ensures { result ≡ natural_found s.now at }
 {
     let end = numeral_end(s, at)?;
-    Some(NumberAt {
+    Some(Number {
         value: value(&s[at..end]) as i64,
         next: end,
     })
 }
 
 // Returns the number at a place: `-0` is none.
-pub fn read_number(s: &[u8], at: usize) -> Option<NumberAt>
+pub fn read_number(s: &[u8], at: usize) -> Option<Number>
     ensures { result ≡ number_found s.now at }
 {
     let Some(digits) = skip(s, at, b'-') else {
@@ -378,13 +378,13 @@ pub fn read_number(s: &[u8], at: usize) -> Option<NumberAt>
     if n.value == 0 {
         return None;
     }
-    Some(NumberAt {
+    Some(Number {
         value: 0 - n.value,
         next: n.next,
     })
 }
 
-impl NumberAt {
+impl Number {
     // The numbers of 32 bits.
     pub const LEAST: i64 = -2147483648;
 
@@ -395,10 +395,10 @@ impl NumberAt {
         ensures { result ≡ value_given self.value }
     {
         let v = self.value;
-        if v < NumberAt::LEAST {
+        if v < Number::LEAST {
             return None;
         }
-        if NumberAt::MOST < v {
+        if Number::MOST < v {
             return None;
         }
         Some(v as i32)
@@ -412,7 +412,7 @@ impl NumberAt {
         if v < 0 {
             return None;
         }
-        if NumberAt::MOST < v {
+        if Number::MOST < v {
             return None;
         }
         Some(v as u32)
@@ -430,7 +430,7 @@ pub fn read_word(s: &[u8], at: usize) -> Option<Word>
     if end == at {
         return None;
     }
-    if NameAt::BYTES < end - at {
+    if Name::BYTES < end - at {
         return None;
     }
     Some(Word {

@@ -1,6 +1,6 @@
--- `NumberAt::kept`: by the bounds of 32 bits.
+-- `Number::kept`: by the bounds of 32 bits.
 use Rattle.text.proofs.Ranges.{kept_ends}
-use Rattle.text.proofs.NumberAt.kept.Goals as goal
+use Rattle.text.proofs.Number.kept.Goals as goal
 
 pub returns-then-v-lt-LEAST : goal.returns-then-v-lt-LEAST
 returns-then-v-lt-LEAST c = search kept_ends

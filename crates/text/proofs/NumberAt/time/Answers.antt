@@ -1,6 +1,6 @@
--- `NumberAt::time`: by the bounds of a time.
+-- `Number::time`: by the bounds of a time.
 use Rattle.text.proofs.Ranges.{time_ends}
-use Rattle.text.proofs.NumberAt.time.Goals as goal
+use Rattle.text.proofs.Number.time.Goals as goal
 
 pub returns-then-v-lt0 : goal.returns-then-v-lt0
 returns-then-v-lt0 c = search time_ends
