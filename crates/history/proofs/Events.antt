@@ -7,11 +7,11 @@ use lib.Dec.{T, leb, le→leb}
 use lib.ListN.{length}
 use Rattle.refusal.specs.Checks.{refuse, first}
 use Rattle.refusal.specs.declared.Refusal.TheVariants.{Lent}
-use Rattle.refusal.specs.declared.Verdict.TheVariants.{Refused}
-use Rattle.std.specs.Prelude.{Err}
-use Rattle.refusal.specs.Results.{held_after}
+use Rattle.std.specs.Prelude.{Result, Err}
+use Rattle.refusal.specs.Results.{said_by, held_after}
+use Rattle.refusal.specs.declared.Refusal.{Refusal}
 use Rattle.refusal.proofs.Results.{result_some}
-use Rattle.refusal.proofs.Verdicts.{verdict_some, never_first}
+use Rattle.refusal.proofs.Verdicts.{never_first}
 use Rattle.lists.specs.Lists.{every}
 use Rattle.lists.proofs.Laws.{and_both}
 use Rattle.syntax.specs.Grammar as G
@@ -31,7 +31,7 @@ use Rattle.caller.specs.Lines.{identified}
 use Rattle.caller.proofs.Identifying.{left_means, left_sound, new_nobody}
 use Rattle.grant.specs.Catalogues.{catalogue_words, grants_from, sound_from, catalogue_of, catalogue_sound}
 use Rattle.grant.proofs.Later.{catalogue_kept, catalogue_later}
-use Rattle.grant_line.specs.declared.Granted.{Granted}
+use Rattle.grant.specs.declared.Grant.{Grant}
 use Rattle.grant_line.specs.Granting.{grants_after, Grants}
 use Rattle.grant_line.proofs.Steps.{next_sound, next_is, here_said}
 use Rattle.history.specs.States.{State, Promise, said_in}
@@ -55,8 +55,8 @@ module _ (s : Store) (ok : Sound s) where
         record { memory = k.sound; grants = catalogue_later l s.grants s.words ok.grants; caller = ok.caller },
       )
 
-  after_grant : (bs : Bytes) (ws : List ℕ) (r : Granted) → Grants s.memory.names (length s.grants) bs s.words ws r
-      → (fixture_of (with_grants s (grants_after r.verdict s.grants r.grant) ws) ≡ happen (fixture_of s) (grant bs)) × Sound (with_grants s (grants_after r.verdict s.grants r.grant) ws)
+  after_grant : (bs : Bytes) (ws : List ℕ) (r : Result Grant Refusal) → Grants s.memory.names (length s.grants) bs s.words ws r
+      → (fixture_of (with_grants s (grants_after r s.grants) ws) ≡ happen (fixture_of s) (grant bs)) × Sound (with_grants s (grants_after r s.grants) ws)
   unfolding fixture_of with_grants happen record_of
   after_grant bs ws r g =
       let names = (sound_parts s.memory ok.memory.lent).names in (
@@ -129,12 +129,12 @@ module _ {s t : Store} {es : List Event} (f : Fresh s) (r : Trace s es t) where
       let x = record_of t.memory in
       never_first 12 (call_checks x c) Lent (call_never x c) (result_some (first (call_checks x c)) Lent (sym k.said ∙ e)) refl
 
-  pub never_lent_grant : {bs : Bytes} {ws : List ℕ} {g : Granted} → Grants t.memory.names (length t.grants) bs t.words ws g → g.verdict ≡ Refused Lent → ⊥
-  unfolding grant_checks refuse every
+  pub never_lent_grant : {bs : Bytes} {ws : List ℕ} {g : Result Grant Refusal} → Grants t.memory.names (length t.grants) bs t.words ws g → g ≡ Err Lent → ⊥
+  unfolding grant_checks refuse every said_by
   never_lent_grant {bs} {ws} {g} p e =
       let names = (sound_parts t.memory sound_then.memory.lent).names in
       let said = here_said t.memory.names (length t.grants) bs t.words ws g p t.grants refl sound_then.grants names in
       let d = schema_of t.memory.names in
       let gs = catalogue_of t.memory.names t.grants t.words in
       never_first 12 (written 0 bs (parse_as G.grant bs) (grant_checks d gs)) Lent (never_written 12 0 bs (parse_as G.grant bs) (grant_checks d gs) tt tt (λ a. tt))
-      (verdict_some (first (written 0 bs (parse_as G.grant bs) (grant_checks d gs))) Lent (sym said ∙ e)) refl
+      (result_some (first (written 0 bs (parse_as G.grant bs) (grant_checks d gs))) Lent (sym said ∙ ap said_by e)) refl

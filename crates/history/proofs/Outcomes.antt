@@ -7,12 +7,12 @@ use Prim.Native.Nat.{ℕ}
 use lib.IntN.{pos}
 use lib.Dec.{lit≤}
 use lib.ListN.{length, replicate, length-replicate}
-use Rattle.refusal.specs.Numbers.{verdict_of}
-use Rattle.refusal.specs.Results.{held_after, settled}
+use Rattle.std.specs.Prelude.{Result}
+use Rattle.refusal.specs.Results.{Said, result_of, giving, held_after, settled}
+use Rattle.refusal.proofs.Results.{said_giving}
 use Rattle.refusal.specs.Checks.{refuse, first}
+use Rattle.refusal.specs.declared.Refusal.{Refusal}
 use Rattle.refusal.specs.declared.Refusal.TheVariants.{Lent}
-use Rattle.refusal.specs.declared.Verdict.{Verdict}
-use Rattle.refusal.specs.declared.Verdict.TheVariants.{Accepted, Refused}
 use Rattle.lists.specs.Lists.{every}
 use Rattle.syntax.specs.Grammar as G
 use Rattle.syntax.specs.Grammar.{Bytes}
@@ -31,10 +31,8 @@ use Rattle.caller.specs.Callers.{no_caller}
 use Rattle.grant.specs.declared.Grant.{Grant}
 use Rattle.grant.specs.Grants.{grant_of}
 use Rattle.grant.specs.Catalogues.{catalogue_words}
-use Rattle.grant_line.specs.declared.Granted.{Granted}
 use Rattle.grant_line.specs.Lines.{no_grant}
-use Rattle.grant_line.specs.Granting as L
-use Rattle.grant_line.specs.Granting.{lent_sound, grant_table, grant_made, with_words, words_after, grants_after, Grants}
+use Rattle.grant_line.specs.Granting.{lent_sound, grant_table, grant_made, with_words, grants_after, Grants}
 use Rattle.history.specs.States.{State, Promise, declared, clocked, rowed, cleared, clock_lined, row_lined, clear_lined}
 use Rattle.history.specs.Fixtures.{Store, with_memory, with_grants, with_caller, Happens, called, granted, named, asked, Trace, stop, then, Fresh}
 
@@ -77,32 +75,27 @@ module _ (ns : List ℕ) (count : ℕ) (bs : Bytes) (ws : List ℕ) where
   abbrev as_many : List M.Grant
   as_many = replicate count (grant_of ns no_grant [])
 
-  abbrev said_granted : Verdict
-  said_granted = verdict_of (first (grant_table ns as_many ws bs))
+  abbrev said_granted : Said
+  said_granted = result_of (first (grant_table ns as_many ws bs))
 
-  granted_verdict : (v : Verdict) (g : Grant) → (L.granted v g).verdict ≡ v
-  unfolding L.granted
-  granted_verdict Accepted g = refl
-  granted_verdict (Refused f) g = refl
-
-  some_grant : (us : List ℕ) × (r : Granted) × Grants ns count bs ws us r
+  some_grant : (us : List ℕ) × (r : Result Grant Refusal) × Grants ns count bs ws us r
   some_grant =
       let g = grant_made ns (parse_as G.grant bs) in
-      let v = granted_verdict said_granted g in (
-        words_after said_granted ws (with_words ns count (parse_as G.grant bs) ws),
-        L.granted said_granted g,
+      let v = said_giving said_granted g in (
+        settled said_granted ws (with_words ns count (parse_as G.grant bs) ws),
+        giving said_granted g,
         record {
-          said = λ gs e. v ∙ ap (λ cs. verdict_of (first cs)) (table_many ns as_many gs ws bs (length-replicate count (grant_of ns no_grant []) ∙ sym e));
-          given = ap (λ u. L.granted u g) (sym v);
-          left = ap (λ u. words_after u ws (with_words ns count (parse_as G.grant bs) ws)) (sym v);
+          said = λ gs e. v ∙ ap (λ cs. result_of (first cs)) (table_many ns as_many gs ws bs (length-replicate count (grant_of ns no_grant []) ∙ sym e));
+          given = ap (λ u. giving u g) (sym v);
+          left = ap (λ u. settled u ws (with_words ns count (parse_as G.grant bs) ws)) (sym v);
         },
       )
 
-  one_grant : {us ts : List ℕ} {r q : Granted} → Grants ns count bs ws us r → Grants ns count bs ws ts q → (r ≡ q) × (us ≡ ts)
+  one_grant : {us ts : List ℕ} {r q : Result Grant Refusal} → Grants ns count bs ws us r → Grants ns count bs ws ts q → (r ≡ q) × (us ≡ ts)
   one_grant g h =
       let e = g.said as_many (length-replicate count (grant_of ns no_grant [])) ∙ sym (h.said as_many (length-replicate count (grant_of ns no_grant []))) in (
-        g.given ∙ ap (λ v. L.granted v (grant_made ns (parse_as G.grant bs))) e ∙ sym h.given,
-        g.left ∙ ap (λ v. words_after v ws (with_words ns count (parse_as G.grant bs) ws)) e ∙ sym h.left,
+        g.given ∙ ap (λ v. giving v (grant_made ns (parse_as G.grant bs))) e ∙ sym h.given,
+        g.left ∙ ap (λ v. settled v ws (with_words ns count (parse_as G.grant bs) ws)) e ∙ sym h.left,
       )
 
 -- ---- calls and lines of every kind
@@ -124,7 +117,7 @@ pub one_outcome : {e : Event} {s t u : Store} → Happens e s t → Happens e s 
 one_outcome (called {s} p) (called q) = ap (with_memory s) (one_left p q)
 one_outcome (granted {s} {bs} g) (granted h) =
     let (e, k) = one_grant s.memory.names (length s.grants) bs s.words g h in
-    ap₂ (λ r ws. with_grants s (grants_after r.verdict s.grants r.grant) ws) e k
+    ap₂ (λ r ws. with_grants s (grants_after r s.grants) ws) e k
 one_outcome (named {s} d) (named k) = ap (λ r. with_caller s (held_after r s.caller)) (d ∙ sym k)
 one_outcome asked asked = refl
 

@@ -11,7 +11,6 @@ use Rattle.caller.specs.Callers.{caller_of, caller_sound, no_caller}
 use Rattle.caller.specs.Lines.{identified}
 use Rattle.grant.specs.declared.Grant.{Grant}
 use Rattle.grant.specs.Catalogues.{catalogue_words, catalogue_of, catalogue_sound}
-use Rattle.grant_line.specs.declared.Granted.{Granted}
 use Rattle.grant_line.specs.Granting.{grants_after, Grants}
 use Rattle.history.specs.States as States
 use Rattle.history.specs.States.{State, Promise}
@@ -42,8 +41,8 @@ with_caller s w = record { memory = s.memory; grants = s.grants; words = s.words
 -- An accepted grant is kept behind the others; so many as there are go in with the call.
 pub data Happens : Event → Store → Store → Type 0 where
   called : {s : Store} {c : Call} {m : State} → Promise c s.memory m → Happens (call c) s (with_memory s m)
-  granted : {s : Store} {bs : Bytes} {ws : List ℕ} {r : Granted} → Grants s.memory.names (length s.grants) bs s.words ws r
-      → Happens (grant bs) s (with_grants s (grants_after r.verdict s.grants r.grant) ws)
+  granted : {s : Store} {bs : Bytes} {ws : List ℕ} {r : Result Grant Refusal} → Grants s.memory.names (length s.grants) bs s.words ws r
+      → Happens (grant bs) s (with_grants s (grants_after r s.grants) ws)
   named : {s : Store} {bs : Bytes} {r : Result Caller Refusal} → r ≡ identified s.caller bs → Happens (caller bs) s (with_caller s (held_after r s.caller))
   asked : {s : Store} → Happens query s s
 
