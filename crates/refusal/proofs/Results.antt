@@ -5,12 +5,10 @@ use mathlib.Core.Bool.{false}
 use mathlib.Core.Option.{Option, none, some}
 use lib.Dec.{T}
 use Rattle.std.specs.Prelude.{Result, Ok, Err}
-use Rattle.refusal.specs.Numbers.{verdict_of}
 use Rattle.refusal.specs.Results.{Said, result_of, giving, said_by, held_after, settled}
 use Rattle.refusal.specs.Checks.{Check, first, passes, table, no_fault}
 use Rattle.refusal.specs.declared.Checks.{Checks}
 use Rattle.refusal.specs.declared.Refusal.{Refusal}
-use Rattle.refusal.specs.declared.Verdict.TheVariants.{Accepted, Refused}
 use Rattle.refusal.proofs.Passing.{passes_first}
 use Rattle.refusal.proofs.Passed.{passed}
 use Rattle.refusal.proofs.Verdicts.{stops}
@@ -39,17 +37,7 @@ result_some (some g) f e = cc
 
 -- of a call that is accepted all thirteen checks hold off
 pub result_passed : (c : Checks) → result_of (first (table c)) ≡ Ok tt → c ≡ no_fault
-result_passed c e = passed c (ap verdict_of (result_none (first (table c)) e))
-
--- ---- as a verdict
-
-pub verdict_ok : (o : Option Refusal) {v : Said} → v ≡ result_of o → v ≡ Ok tt → Accepted ≡ verdict_of o
-verdict_ok o e a = sym (ap verdict_of (result_none o (sym e ∙ a)))
-
-pub verdict_err : (o : Option Refusal) {v : Said} {f : Refusal} → v ≡ result_of o → v ≡ Err f → Refused f ≡ verdict_of o
-verdict_err o {v} {f} e a = sym (ap verdict_of (result_some o f (sym e ∙ a)))
-
-pub ruleset verdict_ends = (verdict_ok, verdict_err)
+result_passed c e = passed c (result_none (first (table c)) e)
 
 -- ---- what is held after a result
 

@@ -6,12 +6,13 @@ use mathlib.Core.Option.{none, some}
 use Prim.Native.Nat.{ℕ}
 use lib.Dec.{leb}
 use lib.ListN.{replicate}
-use Rattle.refusal.specs.Numbers.{number_of, verdict_of}
+use Rattle.std.specs.Prelude.{Ok, Err}
+use Rattle.refusal.specs.Numbers.{number_of}
+use Rattle.refusal.specs.Results.{Said, result_of}
 use Rattle.refusal.specs.Checks.{Check, refuse, first, passes, table, no_fault, unread, shown, in_order, checks_compute}
 use Rattle.refusal.specs.declared.Checks.{Checks}
 use Rattle.refusal.specs.declared.Refusal.{Refusal}
 use Rattle.refusal.specs.declared.Refusal.TheVariants.{Lent, Malformed, Bound, Undeclared, Repeated, Misplaced, WindowSize, ClockBack, StreamFull, NoRoute, ManyRoutes, NoRoom}
-use Rattle.refusal.specs.declared.Verdict.TheVariants.{Accepted, Refused}
 
 -- the order in which refusals are tried, 3 for a line's length aside
 abbrev tried : List Refusal
@@ -20,7 +21,7 @@ tried = Lent ∷ Malformed ∷ Bound ∷ Undeclared ∷ Repeated ∷ Misplaced �
 pub numbers : map number_of tried ≡ 12 ∷ 1 ∷ 3 ∷ 2 ∷ 6 ∷ 4 ∷ 5 ∷ 7 ∷ 8 ∷ 9 ∷ 10 ∷ 11 ∷ []
 numbers = refl
 
-pub verdicts : verdict_of none ∷ map (λ r. verdict_of (some r)) tried ≡ Accepted ∷ map (λ r. Refused r) tried
+pub verdicts : ◌≡◌ {A = List Said} (result_of none ∷ map (λ r. result_of (some r)) tried) (Ok tt ∷ map (λ r. Err r) tried)
 verdicts = refl
 
 -- ---- the first that fails

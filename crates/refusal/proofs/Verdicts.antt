@@ -1,26 +1,15 @@
--- Verdicts: a call is accepted where its checks pass, and refused where they do not; and which refusal a table gives.
+-- Which refusal a table gives, and that it gives none where its checks pass.
 use mathlib.Core.Path.{◌≡◌, refl, sym, ap, ◌∙◌, subst}
 use mathlib.Core.List.{List, [], ◌∷◌, ◌++◌}
 use mathlib.Core.Bool.{Bool, true, false, not, cond}
-use mathlib.Core.Option.{Option, none, some, some-injective, none-ne-some}
+use mathlib.Core.Option.{none, some, some-injective, none-ne-some}
 use Prim.Native.Nat.{ℕ}
-use native.Mathlib.Omega.{arith}
 use lib.Dec.{T, eqb, eqb_refl, T_not}
 use Rattle.lists.specs.Lists.{every}
 use Rattle.lists.proofs.Laws.{parts, T_false, cond_cases}
-use Rattle.refusal.specs.Numbers.{number_of, verdict_of}
+use Rattle.refusal.specs.Numbers.{number_of}
 use Rattle.refusal.specs.Checks.{Check, first, passes}
-use Rattle.refusal.specs.declared.Verdict.{Verdict}
-use Rattle.refusal.specs.declared.Verdict.TheVariants.{Accepted, Refused}
 use Rattle.refusal.specs.declared.Refusal.{Refusal}
-use Rattle.refusal.proofs.Passing.{passes_first}
-
-pub not_accepted : (why : Refusal) → Refused why ≡ Accepted → ⊥
-not_accepted why e = let z : ◌≡◌ {A = ℕ} 0 1 = cc in omega arith
-
-pub data Told (v : Verdict) (cs : List Check) : Type 0 where
-  accepted : v ≡ Accepted → T (passes cs) → Told v cs
-  refused : (v ≡ Accepted → ⊥) → passes cs ≡ false → Told v cs
 
 pub stops : (cs : List Check) (r : Refusal) → first cs ≡ some r → passes cs ≡ false
 unfolding first passes
@@ -30,21 +19,6 @@ stops (c ∷ cs) r e = go c.fails e (stops cs r)
     go : (b : Bool) → cond b (some c.refusal) (first cs) ≡ some r → (first cs ≡ some r → passes cs ≡ false) → cond b false (passes cs) ≡ false
     go true e f = refl
     go false e f = f e
-
-pub told : (v : Verdict) (cs : List Check) → v ≡ verdict_of (first cs) → Told v cs
-told v cs e = go (first cs) refl
-  where
-    go : (o : Option Refusal) → first cs ≡ o → Told v cs
-    go none h = accepted (e ∙ ap verdict_of h) (passes_first cs h)
-    go (some r) h = refused (λ a. not_accepted r (sym (ap verdict_of h) ∙ sym e ∙ a)) (stops cs r h)
-
-pub verdict_none : (o : Option Refusal) → verdict_of o ≡ Accepted → o ≡ none
-verdict_none none e = refl
-verdict_none (some f) e = absurd (not_accepted f e)
-
-pub verdict_some : (o : Option Refusal) (f : Refusal) → verdict_of o ≡ Refused f → o ≡ some f
-verdict_some none f e = absurd (not_accepted f (sym e))
-verdict_some (some g) f e = cc
 
 -- where a check of the table is reached and its condition holds
 pub data Reached (r : Refusal) : List Check → Type 0 where

@@ -2,7 +2,7 @@
 #![tactic(auto)]
 
 ghost use Rattle.std.specs.Prelude.{◌≡◌};
-ghost use Rattle.refusal.specs.Numbers.{number_of, verdict_of};
+ghost use Rattle.refusal.specs.Numbers.{number_of};
 ghost use Rattle.refusal.specs.Results.{result_of};
 ghost use Rattle.refusal.specs.Checks.{first, no_fault, unread, shown, table};
 
@@ -20,13 +20,6 @@ pub enum Refusal {
     NoRoute,
     ManyRoutes,
     NoRoom,
-}
-
-// What a call says: it did what it is for, or the refusal.
-#[derive(Clone, Copy)]
-pub enum Verdict {
-    Accepted,
-    Refused(Refusal),
 }
 
 // What is wrong with a call, check by check, in the order of the refusal table. `long` is a line over its bytes.
@@ -164,15 +157,5 @@ impl Checks {
             return Err(Refusal::NoRoom);
         }
         Ok(())
-    }
-
-    // Returns the same as a verdict.
-    pub fn verdict(self) -> Verdict
-        ensures { result ≡ verdict_of (first (table self)) }
-    {
-        match self.result() {
-            Ok(()) => Verdict::Accepted,
-            Err(f) => Verdict::Refused(f),
-        }
     }
 }
