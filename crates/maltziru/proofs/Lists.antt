@@ -4,8 +4,8 @@ use mathlib.Core.List.{List}
 use mathlib.Core.Bool.{false}
 use Prim.Native.Nat.{ℕ}
 use lib.Dec.{eqb}
-use Rattle.refusal.specs.declared.Verdict.{Verdict}
-use Rattle.refusal.specs.declared.Verdict.TheVariants.{Accepted, Refused}
+use Rattle.std.specs.Prelude.{Result, Ok, Err}
+use Rattle.refusal.specs.Results.{said_by, held_after}
 use Rattle.refusal.specs.declared.Refusal.{Refusal}
 use Rattle.refusal.specs.declared.Refusal.TheVariants.{Lent, Malformed, Bound, Undeclared, Repeated, Misplaced, WindowSize, ClockBack, StreamFull, NoRoute, ManyRoutes, NoRoom}
 use Rattle.refusal.specs.Numbers.{number_of}
@@ -22,7 +22,7 @@ use Rattle.history.specs.Fixtures.{Store, with_grants, with_caller, Happens, cal
 use Rattle.demands.specs.Recording as D
 use Rattle.maltziru.specs.declared.GrantReply.{GrantReply}
 use Rattle.maltziru.specs.declared.CallerReply.{CallerReply}
-use Rattle.maltziru.specs.Calls.{verdict_said, caller_said}
+use Rattle.maltziru.specs.Calls.{grant_said, caller_said}
 use Rattle.maltziru.specs.Lists as C
 use Rattle.maltziru.specs.Lists.{OnRecord, Recorded, grants_kept, Called, Calls}
 use Rattle.maltziru.proofs.Said.{same_ledger}
@@ -42,11 +42,11 @@ some_number NoRoute = refl
 some_number ManyRoutes = refl
 some_number NoRoom = refl
 
--- a grant is kept where the verdict says so
-pub kept_after : (v : Verdict) (gs : List Grant) (g : Grant) → grants_kept (verdict_said v) gs g ≡ grants_after v gs g
-unfolding grants_kept grants_after
-kept_after Accepted gs g = refl
-kept_after (Refused f) gs g = rw (some_number f) refl
+-- a grant is kept where it is accepted
+pub kept_after : (r : Result Grant Refusal) (gs : List Grant) → grants_kept (grant_said r).refusal gs (grant_said r).grant ≡ grants_after r gs
+unfolding grants_kept grants_after grant_said said_by held_after
+kept_after (Ok g) gs = refl
+kept_after (Err f) gs = rw (some_number f) refl
 
 -- what a call on the record leaves, by its ledger
 relaid : {c : Call} (m : Memory) {l k : Ledger} → l ≡ k → Promise c m (with_ledger m l) → Promise c m (with_ledger m k)
@@ -73,9 +73,8 @@ pub happens : {e : Event} {s t : Store} {n : ℕ} → Called e s t n → Happens
 unfolding caller_said
 happens (C.record_called c) = called (promised c)
 happens (C.grant_called {s} {bs} {ws} {r} c) =
-    let v = c.granted.verdict in
-    let k : grants_after v s.grants c.granted.grant ≡ grants_kept r.refusal s.grants r.grant =
-    sym (kept_after v s.grants c.granted.grant) ∙ sym (ap (λ (x : GrantReply). grants_kept x.refusal s.grants x.grant) c.says) in
+    let k : grants_after c.granted s.grants ≡ grants_kept r.refusal s.grants r.grant =
+    sym (kept_after c.granted s.grants) ∙ sym (ap (λ (x : GrantReply). grants_kept x.refusal s.grants x.grant) c.says) in
     subst (λ gs. Happens (grant bs) s (with_grants s gs ws)) k (granted c.call)
 happens (C.caller_called {s} {bs} {r} h) = subst (λ w. Happens (caller bs) s (with_caller s w)) (sym (ap (λ (x : CallerReply). x.caller) h)) (named refl)
 happens (C.ask_called gs ws w bs cells h) = asked

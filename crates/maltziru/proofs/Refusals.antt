@@ -4,12 +4,10 @@ use mathlib.Core.List.{List}
 use mathlib.Core.Option.{Option, none, some}
 use Prim.Native.Nat.{ℕ}
 use Rattle.refusal.specs.declared.Refusal.{Refusal}
-use Rattle.refusal.specs.Numbers.{verdict_of}
-use Rattle.refusal.specs.Results.{Said, result_of, settled}
+use Rattle.std.specs.Prelude.{Result, Ok, Err}
+use Rattle.refusal.specs.Results.{Said, result_of, said_by, settled}
 use Rattle.refusal.proofs.Results.{said_giving, held_giving, settled_old}
 use Rattle.refusal.specs.Checks.{Check, first, Ordered, checks_compute}
-use Rattle.refusal.specs.declared.Verdict.{Verdict}
-use Rattle.refusal.specs.declared.Verdict.TheVariants.{Accepted, Refused}
 use Rattle.calls.specs.Events.{Event, call, grant, caller, query}
 use Rattle.calls.specs.Calls.{Call, stream, clock, row, clear, clock_line, row_line, clear_line}
 use Rattle.ledger.specs.Records.{Memory, with_ledger, with_names}
@@ -19,13 +17,13 @@ use Rattle.caller.specs.Lines.{identified}
 use Rattle.grant.specs.declared.Grant.{Grant}
 use Rattle.grant.specs.Catalogues.{catalogue_of}
 use Rattle.grant.proofs.Catalogues.{catalogue_length}
-use Rattle.grant_line.specs.Granting.{grant_table, words_after, grants_after}
+use Rattle.grant_line.specs.Granting.{grants_after}
 use Rattle.history.specs.Fixtures.{Store, with_memory, with_grants, with_caller}
 use Rattle.history.proofs.Order as O
 use Rattle.demands.specs.Refusing.{refused_number, first_number}
 use Rattle.maltziru.specs.declared.GrantReply.{GrantReply}
 use Rattle.maltziru.specs.declared.CallerReply.{CallerReply}
-use Rattle.maltziru.specs.Calls.{said, verdict_said, caller_said}
+use Rattle.maltziru.specs.Calls.{said, grant_said, caller_said}
 use Rattle.maltziru.specs.Lists as C
 use Rattle.maltziru.specs.Lists.{OnRecord, grants_kept, Called, record_table, table_of}
 use Rattle.maltziru.proofs.Said.{same_ledger, same_number}
@@ -37,10 +35,6 @@ use Rattle.maltziru.proofs.Lists.{kept_after}
 by_result : (o : Option Refusal) → said (result_of o) ≡ refused_number o
 by_result none = refl
 by_result (some f) = refl
-
-by_verdict : (o : Option Refusal) → verdict_said (verdict_of o) ≡ said (result_of o)
-by_verdict none = refl
-by_verdict (some f) = refl
 
 said_first : (cs : List Check) → said (result_of (first cs)) ≡ first_number cs
 unfolding first_number
@@ -57,9 +51,9 @@ record_said (C.row_line_called c) = c.says ∙ ap said c.call.said
 record_said (C.clear_line_called {m} {bs} {r} h) = same_number m.ledger (clear_line_call m.ledger bs) h ∙ ap said (said_giving _ _)
 
 says : {e : Event} {s t : Store} {n : ℕ} → Called e s t n → (e ≡ query → ⊥) → n ≡ said (result_of (first (table_of e s)))
-unfolding table_of identified caller_said
+unfolding table_of identified grant_said caller_said
 says (C.record_called c) o = record_said c
-says (C.grant_called {s} {bs} {ws} {r} c) o = ap (λ (x : GrantReply). x.refusal) c.says ∙ ap verdict_said (c.call.said _ (catalogue_length s.memory.names s.grants s.words)) ∙ by_verdict (first (grant_table s.memory.names (catalogue_of s.memory.names s.grants s.words) s.words bs))
+says (C.grant_called {s} {bs} {ws} {r} c) o = ap (λ (x : GrantReply). x.refusal) c.says ∙ ap said (c.call.said _ (catalogue_length s.memory.names s.grants s.words))
 says (C.caller_called {s} {bs} {r} h) o = ap (λ (x : CallerReply). x.refusal) h ∙ ap said (said_giving _ _)
 says (C.ask_called gs ws w bs cells h) o = absurd (o refl)
 says (C.line_called gs ws w n bs out h) o = absurd (o refl)
@@ -72,15 +66,10 @@ says_first {e} {s} c o = says c o ∙ said_first (table_of e s)
 same : {A : Type 0} (v : Said) (old new : A) → (said v ≡ 0 → ⊥) → settled v old new ≡ old
 same v old new ne = settled_old v old new (λ a. ne (ap said a))
 
-same_words : (v : Verdict) (old new : List ℕ) → (verdict_said v ≡ 0 → ⊥) → words_after v old new ≡ old
-unfolding words_after
-same_words Accepted old new ne = absurd (ne refl)
-same_words (Refused f) old new ne = refl
-
-same_grants : (v : Verdict) (gs : List Grant) (g : Grant) → (verdict_said v ≡ 0 → ⊥) → grants_after v gs g ≡ gs
-unfolding grants_after
-same_grants Accepted gs g ne = absurd (ne refl)
-same_grants (Refused f) gs g ne = refl
+same_grants : (r : Result Grant Refusal) (gs : List Grant) → (said (said_by r) ≡ 0 → ⊥) → grants_after r gs ≡ gs
+unfolding said_by grants_after
+same_grants (Ok g) gs ne = absurd (ne refl)
+same_grants (Err f) gs ne = refl
 
 -- of a number that is not 0
 other : {n m : ℕ} → n ≡ m → (n ≡ 0 → ⊥) → m ≡ 0 → ⊥
@@ -105,14 +94,13 @@ record_stays (C.clear_line_called {m} {bs} {r} h) ne =
     ap (with_ledger m) (sym (same_ledger m.ledger e h) ∙ held_giving _ _ m.ledger ∙ same _ _ _ (other (same_number m.ledger e h ∙ ap said (said_giving _ _)) ne))
 
 pub refused_stays : {e : Event} {s t : Store} {n : ℕ} → Called e s t n → (n ≡ 0 → ⊥) → t ≡ s
-unfolding with_memory with_grants with_caller identified caller_said
+unfolding with_memory with_grants with_caller identified grant_said caller_said
 refused_stays (C.record_called {s} c) ne = ap (with_memory s) (record_stays c ne)
 refused_stays (C.grant_called {s} {bs} {ws} {r} c) ne =
-    let v = c.granted.verdict in
-    let ne' : verdict_said v ≡ 0 → ⊥ = other (ap (λ (x : GrantReply). x.refusal) c.says) ne in
-    let k : grants_kept r.refusal s.grants r.grant ≡ s.grants =
-    ap (λ (x : GrantReply). grants_kept x.refusal s.grants x.grant) c.says ∙ kept_after v s.grants c.granted.grant ∙ same_grants v s.grants _ ne' in
-    ap (λ gs. with_grants s gs ws) k ∙ ap (λ l. with_grants s s.grants l) (c.call.left ∙ same_words v _ _ ne')
+    let g = c.granted in
+    let ne' : said (said_by g) ≡ 0 → ⊥ = other (ap (λ (x : GrantReply). x.refusal) c.says) ne in
+    let k : grants_kept r.refusal s.grants r.grant ≡ s.grants = ap (λ (x : GrantReply). grants_kept x.refusal s.grants x.grant) c.says ∙ kept_after g s.grants ∙ same_grants g s.grants ne' in
+    ap (λ gs. with_grants s gs ws) k ∙ ap (λ l. with_grants s s.grants l) (c.call.left ∙ same (said_by g) _ _ ne')
 refused_stays (C.caller_called {s} {bs} {r} h) ne =
     ap (λ w. with_caller s w) (ap (λ (x : CallerReply). x.caller) h ∙ held_giving _ _ s.caller ∙ same _ _ _ (other (ap (λ (x : CallerReply). x.refusal) h ∙ ap said (said_giving _ _)) ne))
 refused_stays (C.ask_called gs ws w bs cells h) ne = refl

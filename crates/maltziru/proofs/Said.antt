@@ -17,11 +17,13 @@ use Rattle.ledger.specs.Records.{Memory}
 use Rattle.ledger.specs.Calls.{clock_call, RowCall}
 use Rattle.record_lines.specs.Calls.{RowLineCall}
 use Rattle.caller.specs.declared.Caller.{Caller}
-use Rattle.grant_line.specs.declared.Granted.{Granted}
+use Rattle.grant.specs.declared.Grant.{Grant}
+use Rattle.grant_line.specs.Lines.{no_grant}
 use Rattle.grant_line.specs.Granting.{Grants}
 use Rattle.maltziru.specs.declared.LedgerReply.{LedgerReply}
+use Rattle.maltziru.specs.declared.GrantReply.{GrantReply}
 use Rattle.maltziru.specs.declared.CallerReply.{CallerReply}
-use Rattle.maltziru.specs.Calls.{said, verdict_said, ledger_said, caller_said, StreamCall, RowCalled, RowLineCalled, GrantCall}
+use Rattle.maltziru.specs.Calls.{said, ledger_said, grant_said, caller_said, StreamCall, RowCalled, RowLineCalled, GrantCall}
 
 module _ (old : Ledger) {r : Result Ledger Refusal} where
   pub ledger_ok : {l : Ledger} → r ≡ Ok l → record { refusal = 0; ledger = l } ≡ ledger_said old r
@@ -31,6 +33,15 @@ module _ (old : Ledger) {r : Result Ledger Refusal} where
   pub ledger_err : {f : Refusal} {n : ℕ} → r ≡ Err f → n ≡ number_of f → record { refusal = n; ledger = old } ≡ ledger_said old r
   unfolding ledger_said said_by held_after
   ledger_err e h = rw (e, h)
+
+module _ {r : Result Grant Refusal} where
+  pub grant_ok : {g : Grant} → r ≡ Ok g → record { refusal = 0; grant = g } ≡ grant_said r
+  unfolding grant_said said_by held_after
+  grant_ok e = rw e
+
+  pub grant_err : {f : Refusal} {n : ℕ} {g : Grant} → r ≡ Err f → n ≡ number_of f → g ≡ no_grant → record { refusal = n; grant = g } ≡ grant_said r
+  unfolding grant_said said_by held_after
+  grant_err e h k = rw (e, h, k)
 
 module _ (old : Caller) {r : Result Caller Refusal} where
   pub caller_ok : {c : Caller} → r ≡ Ok c → record { refusal = 0; caller = c } ≡ caller_said old r
@@ -81,6 +92,6 @@ module _ {m : Memory} {names times : List ℕ} {values : List ℤ} (e : Result L
         says = same_number m.ledger e h;
       }
 
-pub grant_called : {names : List ℕ} {count : ℕ} {line : Bytes} {words words' : List ℕ} (g : Granted) {n : ℕ} → Grants names count line words words' g → n ≡ verdict_said g.verdict
-    → GrantCall names count line words words' (record { refusal = n; grant = g.grant })
-grant_called g c e = record { granted = g; call = c; says = ap (λ k. record { refusal = k; grant = g.grant }) e }
+pub grant_called : {names : List ℕ} {count : ℕ} {line : Bytes} {words words' : List ℕ} {g : Result Grant Refusal} {r : GrantReply} → Grants names count line words words' g → r ≡ grant_said g
+    → GrantCall names count line words words' r
+grant_called c e = record { granted = _; call = c; says = e }

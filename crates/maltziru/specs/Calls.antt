@@ -2,8 +2,6 @@
 use Rattle.std.specs.Prelude.{◌≡◌, List, ℕ, ℤ, Result, Ok, Err}
 use Rattle.refusal.specs.Results.{Said, said_by, held_after}
 use Rattle.refusal.specs.declared.Refusal.{Refusal}
-use Rattle.refusal.specs.declared.Verdict.{Verdict}
-use Rattle.refusal.specs.declared.Verdict.TheVariants.{Accepted, Refused}
 use Rattle.refusal.specs.Numbers.{number_of}
 use Rattle.syntax.specs.Grammar.{Bytes}
 use Rattle.stream_line.specs.Declaring.{Declares}
@@ -12,7 +10,8 @@ use Rattle.ledger.specs.Records.{Memory}
 use Rattle.ledger.specs.Calls.{RowCall}
 use Rattle.record_lines.specs.Calls.{RowLineCall}
 use Rattle.caller.specs.declared.Caller.{Caller}
-use Rattle.grant_line.specs.declared.Granted.{Granted}
+use Rattle.grant.specs.declared.Grant.{Grant}
+use Rattle.grant_line.specs.Lines.{no_grant}
 use Rattle.grant_line.specs.Granting.{Grants}
 use Rattle.maltziru.specs.declared.LedgerReply.{LedgerReply}
 use Rattle.maltziru.specs.declared.GrantReply.{GrantReply}
@@ -23,14 +22,13 @@ abbrev pub said : Said → ℕ
 said (Ok u) = 0
 said (Err f) = number_of f
 
--- the same of a grant line's verdict
-abbrev pub verdict_said : Verdict → ℕ
-verdict_said Accepted = 0
-verdict_said (Refused f) = number_of f
-
 -- the ledger that a call gives, or where it is refused the one that was
 unfoldable pub ledger_said : Ledger → Result Ledger Refusal → LedgerReply
 ledger_said old r = record { refusal = said (said_by r); ledger = held_after r old }
+
+-- the grant, which is of zeros where it is refused
+unfoldable pub grant_said : Result Grant Refusal → GrantReply
+grant_said r = record { refusal = said (said_by r); grant = held_after r no_grant }
 
 unfoldable pub caller_said : Caller → Result Caller Refusal → CallerReply
 caller_said old r = record { refusal = said (said_by r); caller = held_after r old }
@@ -54,6 +52,6 @@ pub record RowLineCalled (m : Memory) (line : Bytes) (m' : Memory) (refusal : �
 
 -- the grant line: the grant, and what it leaves of the words
 pub record GrantCall (names : List ℕ) (count : ℕ) (line : Bytes) (words words' : List ℕ) (r : GrantReply) : Type 0 where
-  pub granted : Granted
+  pub granted : Result Grant Refusal
   pub call : Grants names count line words words' granted
-  pub says : r ≡ record { refusal = verdict_said granted.verdict; grant = granted.grant }
+  pub says : r ≡ grant_said granted

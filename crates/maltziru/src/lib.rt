@@ -12,14 +12,13 @@ ghost use Rattle.syntax.specs.Readers.{parse_query};
 ghost use Rattle.calls.specs.Asking.{with_route};
 ghost use Rattle.ask.specs.Replies.{Replies};
 ghost use Rattle.ask.specs.Asking.{asked, LineReplies};
-ghost use Rattle.maltziru.specs.Calls.{said, verdict_said, ledger_said, caller_said, StreamCall, RowCalled, RowLineCalled, GrantCall};
+ghost use Rattle.maltziru.specs.Calls.{said, ledger_said, grant_said, caller_said, StreamCall, RowCalled, RowLineCalled, GrantCall};
 
 use ask::Reply;
 use caller::Caller;
 use grant::Grant;
-use grant_line::Granted;
 use ledger::Ledger;
-use refusal::{Refusal, Verdict};
+use refusal::Refusal;
 
 // What a call on the record says, and the ledger that it leaves.
 #[repr(C)]
@@ -56,16 +55,6 @@ fn number(r: Result<(), Refusal>) -> u32
     }
 }
 
-// The verdict of a grant line.
-fn verdict_number(v: Verdict) -> u32
-    ensures { result ≡ verdict_said v }
-{
-    match v {
-        Verdict::Accepted => 0,
-        Verdict::Refused(f) => f.number(),
-    }
-}
-
 // A ledger and what a call with it gave.
 fn ledger_reply(ledger: Ledger, r: Result<Ledger, Refusal>) -> LedgerReply
     ensures { result ≡ ledger_said ledger r }
@@ -78,6 +67,22 @@ fn ledger_reply(ledger: Ledger, r: Result<Ledger, Refusal>) -> LedgerReply
         Err(f) => LedgerReply {
             refusal: f.number(),
             ledger: ledger,
+        },
+    }
+}
+
+// A grant, which is of zeros where it is refused.
+fn grant_reply(r: Result<Grant, Refusal>) -> GrantReply
+    ensures { result ≡ grant_said r }
+{
+    match r {
+        Ok(g) => GrantReply {
+            refusal: 0,
+            grant: g,
+        },
+        Err(f) => GrantReply {
+            refusal: f.number(),
+            grant: grant_line::no_grant(),
         },
     }
 }
@@ -196,12 +201,7 @@ pub extern "C" fn maltziru_grant(
     ensures { GrantCall names.now count line.now words.old words.new result }
 {
     let g = grant_line::grant(names, count, line, words);
-    let h = g.grant;
-    let v = g.verdict;
-    GrantReply {
-        refusal: verdict_number(v),
-        grant: h,
-    }
+    grant_reply(g)
 }
 
 // Returns the caller of no role and no profile entry.

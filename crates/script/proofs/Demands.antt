@@ -7,8 +7,8 @@ use Prim.Native.Nat.{ℕ}
 use lib.IntN.{ℤ}
 use lib.Dec.{eqb}
 use borrow.Author.Tests.{eqb-true, eqb-false}
-use Rattle.refusal.specs.declared.Verdict.{Verdict}
-use Rattle.refusal.specs.declared.Verdict.TheVariants.{Accepted, Refused}
+use Rattle.std.specs.Prelude.{Result, Ok, Err}
+use Rattle.refusal.specs.Results.{Said, said_by, held_after, settled}
 use Rattle.refusal.specs.declared.Refusal.{Refusal}
 use Rattle.refusal.specs.Checks.{Ordered}
 use Rattle.lists.specs.Lists.{gather}
@@ -17,17 +17,11 @@ use Rattle.syntax.specs.Grammar.{Bytes, Verb}
 use Rattle.syntax.specs.Readers.{parse_as}
 use Rattle.model.specs.Alike.{Alike}
 use Rattle.calls.specs.Calls.{Call, after}
-use Rattle.stream_line.specs.Declaring.{names_after}
-use Rattle.ledger.specs.declared.Ledger.{Ledger}
-use Rattle.ledger.specs.Records.{Memory, with_ledger, with_names}
-use Rattle.ledger.specs.Calls.{entered, memory_after}
-use Rattle.record_lines.specs.Calls.{clock_line_call, clear_line_call}
-use Rattle.caller.specs.declared.Caller.{Caller}
+use Rattle.ledger.specs.Records.{with_ledger, with_names}
 use Rattle.caller.specs.Callers.{caller_of}
-use Rattle.caller.specs.Lines.{outcome, identified}
 use Rattle.grant.specs.declared.Grant.{Grant}
 use Rattle.grant.specs.Catalogues.{catalogue_of}
-use Rattle.grant_line.specs.Granting.{words_after, grants_after}
+use Rattle.grant_line.specs.Granting.{grants_after}
 use Rattle.history.specs.States as M
 use Rattle.history.specs.States.{declared, clock_lined, row_lined, clear_lined}
 use Rattle.history.specs.Fixtures.{Store, with_memory, with_grants, with_caller}
@@ -72,54 +66,36 @@ module _ (r : Reply) where
 
 -- ---- demand 1: a refusal changes nothing; the number that an `ask` or a `line` line says is that of the first check that fails
 
-refused_verdict : (v : Verdict) {n : ℕ} → verdict_said v ≡ Say.Refusal n → (f : Refusal) × (v ≡ Refused f)
-refused_verdict Accepted e = absurd (cc)
-refused_verdict (Refused f) e = (f, refl)
+module _ {A : Type 0} where
+  stays : (v : Said) (old new : A) → {n : ℕ} → verdict_said v ≡ Say.Refusal n → settled v old new ≡ old
+  unfolding settled
+  stays (Ok u) old new e = absurd (cc)
+  stays (Err f) old new e = refl
 
-entered_stays : (v : Verdict) (new old : Ledger) → {n : ℕ} → verdict_said (entered v new old).verdict ≡ Say.Refusal n → (entered v new old).ledger ≡ old
-unfolding entered
-entered_stays Accepted new old e = absurd (cc)
-entered_stays (Refused f) new old e = refl
+  held_stays : (r : Result A Refusal) (old : A) → {n : ℕ} → verdict_said (said_by r) ≡ Say.Refusal n → held_after r old ≡ old
+  unfolding said_by held_after
+  held_stays (Ok x) old e = absurd (cc)
+  held_stays (Err f) old e = refl
 
-outcome_stays : (v : Verdict) (new old : Caller) → {n : ℕ} → verdict_said (outcome v new old).verdict ≡ Say.Refusal n → (outcome v new old).caller ≡ old
-unfolding outcome
-outcome_stays Accepted new old e = absurd (cc)
-outcome_stays (Refused f) new old e = refl
-
-memory_stays : (v : Verdict) (old new : Memory) → {n : ℕ} → verdict_said v ≡ Say.Refusal n → memory_after v old new ≡ old
-unfolding memory_after
-memory_stays Accepted old new e = absurd (cc)
-memory_stays (Refused f) old new e = refl
-
-names_stay : (v : Verdict) (ns : List ℕ) (o : _) → {n : ℕ} → verdict_said v ≡ Say.Refusal n → names_after v ns o ≡ ns
-unfolding names_after
-names_stay Accepted ns o e = absurd (cc)
-names_stay (Refused f) ns o e = refl
-
-words_stay : (v : Verdict) (old new : List ℕ) → {n : ℕ} → verdict_said v ≡ Say.Refusal n → words_after v old new ≡ old
-unfolding words_after
-words_stay Accepted old new e = absurd (cc)
-words_stay (Refused f) old new e = refl
-
-grants_stay : (v : Verdict) (gs : List Grant) (g : Grant) → {n : ℕ} → verdict_said v ≡ Say.Refusal n → grants_after v gs g ≡ gs
-unfolding grants_after
-grants_stay Accepted gs g e = absurd (cc)
-grants_stay (Refused f) gs g e = refl
+grants_stay : (r : Result Grant Refusal) (gs : List Grant) → {n : ℕ} → verdict_said (said_by r) ≡ Say.Refusal n → grants_after r gs ≡ gs
+unfolding said_by grants_after
+grants_stay (Ok g) gs e = absurd (cc)
+grants_stay (Err f) gs e = refl
 
 -- over any memory, a line that is refused leaves the store, the cells and the bytes
 pub refused_stays : {bs : Bytes} {zs zs' : List ℤ} {ys ys' : Bytes} {v : Option Verb} {s t : Store} {y : Message} → Does bs zs ys v s t zs' ys' y → {n : ℕ} → y ≡ Say.Refusal n → (t ≡ s) × (zs' ≡ zs) × (ys' ≡ ys)
-unfolding with_memory with_grants with_caller clock_line_call clear_line_call identified
+unfolding with_memory with_grants with_caller
 refused_stays unread_does k = (refl, refl, refl)
-refused_stays (stream_does {s = s} {v = v} d) k = (ap (λ ns. with_memory s (with_names s.memory ns)) (d.left ∙ names_stay v _ _ k), refl, refl)
+refused_stays (stream_does {s = s} {v = v} d) k = (ap (λ ns. with_memory s (with_names s.memory ns)) (d.left ∙ stays v _ _ k), refl, refl)
 refused_stays (grant_does {s = s} {ws} {r} g) k =
-    (ap (λ gs. with_grants s gs ws) (grants_stay r.verdict _ _ k) ∙ ap (λ l. with_grants s s.grants l) (g.left ∙ words_stay r.verdict _ _ k), refl, refl)
+    (ap (λ gs. with_grants s gs ws) (grants_stay r _ k) ∙ ap (λ l. with_grants s s.grants l) (g.left ∙ stays (said_by r) _ _ k), refl, refl)
 refused_stays (clock_does {s = s} {r} e) k =
-    (ap (λ l. with_memory s (with_ledger s.memory l)) (ap (λ x. x.ledger) e ∙ entered_stays _ _ _ (sym (ap (λ x. verdict_said x.verdict) e) ∙ k)), refl, refl)
-refused_stays (row_does {s = s} {v = v} d) k = (ap (with_memory s) (d.left ∙ memory_stays v _ _ k), refl, refl)
+    (ap (λ l. with_memory s (with_ledger s.memory l)) (held_stays r _ k), refl, refl)
+refused_stays (row_does {s = s} {v = v} d) k = (ap (with_memory s) (d.left ∙ stays v _ _ k), refl, refl)
 refused_stays (clear_does {s = s} {r} e) k =
-    (ap (λ l. with_memory s (with_ledger s.memory l)) (ap (λ x. x.ledger) e ∙ entered_stays _ _ _ (sym (ap (λ x. verdict_said x.verdict) e) ∙ k)), refl, refl)
+    (ap (λ l. with_memory s (with_ledger s.memory l)) (held_stays r _ k), refl, refl)
 refused_stays (caller_does {s = s} {r} e) k =
-    (ap (λ w. with_caller s w) (ap (λ x. x.caller) e ∙ outcome_stays _ _ _ (sym (ap (λ x. verdict_said x.verdict) e) ∙ k)), refl, refl)
+    (ap (λ w. with_caller s w) (held_stays r _ k), refl, refl)
 refused_stays {bs} {zs} (ask_does {s = s} {r = r} h l) k =
     (refl, (R.asked_refusal (lending s) 1 (parse_as G.ask bs) bs zs h).1 (said_refused r (λ e. cc) k).0, refl)
 refused_stays {bs} {ys = ys} (line_does {s = s} {r = r} h l) k =

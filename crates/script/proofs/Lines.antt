@@ -5,15 +5,17 @@ use mathlib.Core.Option.{some}
 use Prim.Native.Nat.{ℕ, min}
 use lib.IntN.{ℤ}
 use lib.ListN.{length, take}
-use Rattle.refusal.specs.declared.Verdict.{Verdict}
+use Rattle.std.specs.Prelude.{Result}
+use Rattle.refusal.specs.Results.{Said, said_by, held_after}
+use Rattle.refusal.specs.declared.Refusal.{Refusal}
 use Rattle.syntax.specs.Grammar as G
 use Rattle.syntax.specs.Grammar.{Bytes}
 use Rattle.syntax.specs.Limits.{max_grants}
 use Rattle.syntax.specs.Readers.{parse_as, verb_of}
 use Rattle.stream_line.specs.Declaring.{Declares}
-use Rattle.ledger.specs.declared.Entered.{Entered}
+use Rattle.ledger.specs.declared.Ledger.{Ledger}
 use Rattle.record_lines.specs.Calls.{clock_line_call, clear_line_call, RowLineCall}
-use Rattle.caller.specs.declared.Identified.{Identified}
+use Rattle.caller.specs.declared.Caller as W
 use Rattle.caller.specs.Lines.{identified}
 use Rattle.grant.specs.declared.Grant as T
 use Rattle.history.specs.Fixtures.{Store, with_memory, with_grants, with_caller}
@@ -41,7 +43,7 @@ module _ (bs : Bytes) (zs : List ℤ) (ys : Bytes) (s : State) (ns ts : List ℕ
       subst (λ (z : Stepped). Does bs zs ys (verb_of bs) here (store_of z.state ns' ts' vs' ws') zs' ys' z.says) (sym e)
       (subst (λ o. Does bs zs ys o here (store_of x ns' ts' vs' ws') zs' ys' y) (sym (ap verb_in k) ∙ h) d)
 
-  pub stream_ends : v ≡ Stream → {ns' : List ℕ} {d : Verdict} → Declares ns bs ns' d → {r : Stepped} → r ≡ stepped_with s (verdict_said d)
+  pub stream_ends : v ≡ Stream → {ns' : List ℕ} {d : Said} → Declares ns bs ns' d → {r : Stepped} → r ≡ stepped_with s (verdict_said d)
       → Does bs zs ys (verb_of bs) here (store_of r.state ns' ts vs ws) zs ys r.says
   unfolding verb_in with_memory
   stream_ends k d e = ends k e (stream_does d)
@@ -50,27 +52,27 @@ module _ (bs : Bytes) (zs : List ℤ) (ys : Bytes) (s : State) (ns ts : List ℕ
   unfolding verb_in with_grants
   grant_ends k {ws'} {r} g =
       ends k g.says
-      (subst (λ (gs : List T.Grant). Does bs zs ys (some G.grant) here (record { memory = record { ledger = r.state.ledger; names = ns; times = ts; values = vs }; grants = gs; words = ws'; caller = r.state.caller }) zs ys (verdict_said g.granted.verdict)) (sym g.grants)
+      (subst (λ (gs : List T.Grant). Does bs zs ys (some G.grant) here (record { memory = record { ledger = r.state.ledger; names = ns; times = ts; values = vs }; grants = gs; words = ws'; caller = r.state.caller }) zs ys (verdict_said (said_by g.granted))) (sym g.grants)
       (rw (g.ledger, g.caller) (grant_does g.call)))
 
-  pub clock_ends : v ≡ Clock → {e : Entered} → e ≡ clock_line_call s.ledger bs → {r : Stepped} → r ≡ stepped_with (with_ledger_in s e.ledger) (verdict_said e.verdict)
+  pub clock_ends : v ≡ Clock → {e : Result Ledger Refusal} → e ≡ clock_line_call s.ledger bs → {r : Stepped} → r ≡ stepped_with (with_ledger_in s (held_after e s.ledger)) (verdict_said (said_by e))
       → Does bs zs ys (verb_of bs) here (store_of r.state ns ts vs ws) zs ys r.says
   unfolding verb_in with_memory
   clock_ends k d e = ends k e (clock_does d)
 
-  pub row_ends : v ≡ Row → {e : Entered} {ts' : List ℕ} {vs' : List ℤ}
-      → RowLineCall (record { ledger = s.ledger; names = ns; times = ts; values = vs }) bs (record { ledger = e.ledger; names = ns; times = ts'; values = vs' }) e.verdict
-      → {r : Stepped} → r ≡ stepped_with (with_ledger_in s e.ledger) (verdict_said e.verdict)
+  pub row_ends : v ≡ Row → {e : Result Ledger Refusal} {ts' : List ℕ} {vs' : List ℤ}
+      → RowLineCall (record { ledger = s.ledger; names = ns; times = ts; values = vs }) bs (record { ledger = held_after e s.ledger; names = ns; times = ts'; values = vs' }) (said_by e)
+      → {r : Stepped} → r ≡ stepped_with (with_ledger_in s (held_after e s.ledger)) (verdict_said (said_by e))
       → Does bs zs ys (verb_of bs) here (store_of r.state ns ts' vs' ws) zs ys r.says
   unfolding verb_in with_memory
   row_ends k d e = ends k e (row_does d)
 
-  pub clear_ends : v ≡ Clear → {e : Entered} → e ≡ clear_line_call s.ledger bs → {r : Stepped} → r ≡ stepped_with (with_ledger_in s e.ledger) (verdict_said e.verdict)
+  pub clear_ends : v ≡ Clear → {e : Result Ledger Refusal} → e ≡ clear_line_call s.ledger bs → {r : Stepped} → r ≡ stepped_with (with_ledger_in s (held_after e s.ledger)) (verdict_said (said_by e))
       → Does bs zs ys (verb_of bs) here (store_of r.state ns ts vs ws) zs ys r.says
   unfolding verb_in with_memory
   clear_ends k d e = ends k e (clear_does d)
 
-  pub caller_ends : v ≡ Caller → {i : Identified} → i ≡ identified s.caller bs → {r : Stepped} → r ≡ stepped_with (with_caller_in s i.caller) (verdict_said i.verdict)
+  pub caller_ends : v ≡ Caller → {i : Result W.Caller Refusal} → i ≡ identified s.caller bs → {r : Stepped} → r ≡ stepped_with (with_caller_in s (held_after i s.caller)) (verdict_said (said_by i))
       → Does bs zs ys (verb_of bs) here (store_of r.state ns ts vs ws) zs ys r.says
   unfolding verb_in with_caller
   caller_ends k d e = ends k e (caller_does d)

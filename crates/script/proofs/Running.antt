@@ -7,12 +7,13 @@ use Prim.Native.Nat.{ℕ, ◌≤◌}
 use lib.IntN.{ℤ}
 use lib.Dec.{T, eqb, ltb}
 use lib.ListN.{length, take, drop}
-use Rattle.refusal.specs.Numbers.{number_of, verdict_of}
+use Rattle.std.specs.Prelude.{Result, Err}
+use Rattle.refusal.specs.Numbers.{number_of}
+use Rattle.refusal.specs.Results.{Said, result_of, said_by}
+use Rattle.refusal.proofs.Results.{said_giving}
 use Rattle.refusal.specs.Checks.{refuse, first}
 use Rattle.refusal.specs.declared.Refusal.{Refusal}
 use Rattle.refusal.specs.declared.Refusal.TheVariants.{Lent, Malformed, Bound, Undeclared, Repeated, Misplaced, WindowSize, ClockBack, StreamFull, NoRoute, ManyRoutes, NoRoom}
-use Rattle.refusal.specs.declared.Verdict.{Verdict}
-use Rattle.refusal.specs.declared.Verdict.TheVariants.{Accepted, Refused}
 use Rattle.refusal.proofs.Passing.{first_skip}
 use Rattle.lists.specs.Lists.{empty?}
 use Rattle.lists.proofs.Laws.{true_T, and_both}
@@ -38,17 +39,15 @@ use Rattle.schema.proofs.Valid as N
 use Rattle.ledger.specs.Records.{record_of, memory_sound}
 use Rattle.ledger.proofs.Soundness.{sound_parts}
 use Rattle.caller.specs.declared.Caller.{Caller}
-use Rattle.caller.specs.declared.Identified.{Identified}
 use Rattle.caller.specs.Callers.{caller_sound}
-use Rattle.caller.specs.Lines as W
 use Rattle.caller.specs.Lines.{identified}
 use Rattle.grant.specs.Catalogues.{catalogue_words, catalogue_of, catalogue_sound}
 use Rattle.grant.proofs.Catalogues.{catalogue_valid}
-use Rattle.grant_line.specs.declared.Granted.{Granted}
+use Rattle.grant.specs.declared.Grant.{Grant}
 use Rattle.grant_line.specs.Granting.{Grants}
 use Rattle.grant_line.proofs.Steps.{here_said}
 use Rattle.history.specs.States as States
-use Rattle.history.specs.States.{Promise, declared, clock_lined, row_lined, clear_lined, verdict_in}
+use Rattle.history.specs.States.{Promise, declared, clock_lined, row_lined, clear_lined, said_in}
 use Rattle.history.specs.Fixtures.{Store, fixture_of, called, granted, named, Sound, Fresh}
 use Rattle.history.proofs.Steps.{step_call}
 use Rattle.history.proofs.Events as E
@@ -97,7 +96,7 @@ abbrev prints : Message → List ℤ → Bytes → Outcome
 prints y zs ys = outcome_of y zs ys
 
 -- a change, by the first check of its table
-changed_said : (f g : Fixture) (o : Option Refusal) (zs : List ℤ) (ys : Bytes) → prints (verdict_said (verdict_of o)) zs ys ≡ (changed f o g).outcome
+changed_said : (f g : Fixture) (o : Option Refusal) (zs : List ℤ) (ys : Bytes) → prints (verdict_said (result_of o)) zs ys ≡ (changed f o g).outcome
 unfolding changed outcome_of
 changed_said f g none zs ys = refl
 changed_said f g (some r) zs ys = refl
@@ -132,14 +131,9 @@ unread_prints : (f : Fixture) (n : ℕ) (zs : List ℤ) (ys : Bytes) → prints 
 unfolding unread_said first refuse changed outcome_of
 unread_prints f n zs ys = go (ltb max_line n)
   where
-    go : (b : Bool) → prints (verdict_said (Refused (cond b Bound Malformed))) zs ys ≡ (changed f (cond b (some Bound) (some Malformed)) f).outcome
+    go : (b : Bool) → prints (verdict_said (Err (cond b Bound Malformed))) zs ys ≡ (changed f (cond b (some Bound) (some Malformed)) f).outcome
     go true = refl
     go false = refl
-
-identified_said : (v : Verdict) (new old : Caller) → (W.outcome v new old).verdict ≡ v
-unfolding W.outcome
-identified_said Accepted new old = refl
-identified_said (Refused f) new old = refl
 
 module _ (s : Store) (ok : Sound s) (zs : List ℤ) (ys : Bytes) where
   abbrev f : Fixture
@@ -152,32 +146,32 @@ module _ (s : Store) (ok : Sound s) (zs : List ℤ) (ys : Bytes) where
   unfolding lent_sound
   may_lend = and_both (memory_sound s.memory && catalogue_sound s.memory.names s.grants s.words) (caller_sound s.caller) (and_both (memory_sound s.memory) _ ok.memory.lent ok.grants) (true_T (caller_sound s.caller) ok.caller)
 
-  call_said : (c : Call) {t : States.State} (p : Promise c s.memory t) → prints (verdict_said (verdict_in p)) zs ys ≡ (perform f (on_record f c)).outcome
+  call_said : (c : Call) {t : States.State} (p : Promise c s.memory t) → prints (verdict_said (said_in p)) zs ys ≡ (perform f (on_record f c)).outcome
   unfolding perform on_record call_table fixture_of
   call_said c p =
-      ap (λ (v : Verdict). prints (verdict_said v) zs ys) ((step_call p ok.memory).said ∙ ap verdict_of (sym (first_skip Lent (valid_record (record_of s.memory)) _ valid_kept)))
+      ap (λ (v : Said). prints (verdict_said v) zs ys) ((step_call p ok.memory).said ∙ ap result_of (sym (first_skip Lent (valid_record (record_of s.memory)) _ valid_kept)))
       ∙ changed_said f _ (first (call_table (record_of s.memory) c)) zs ys
 
-  grant_said : (bs : Bytes) {ws : List ℕ} {r : Granted} → Grants s.memory.names (length s.grants) bs s.words ws r → prints (verdict_said r.verdict) zs ys ≡ (perform f (act zs ys f bs (some G.grant))).outcome
+  grant_said : (bs : Bytes) {ws : List ℕ} {r : Result Grant Refusal} → Grants s.memory.names (length s.grants) bs s.words ws r → prints (verdict_said (said_by r)) zs ys ≡ (perform f (act zs ys f bs (some G.grant))).outcome
   unfolding perform act K.grant_table fixture_of record_of
   grant_said bs {ws} {r} g =
       let names = (sound_parts s.memory ok.memory.lent).names in
       let d = schema_of s.memory.names in
       let gs = catalogue_of s.memory.names s.grants s.words in
-      ap (λ (v : Verdict). prints (verdict_said v) zs ys)
+      ap (λ (v : Said). prints (verdict_said v) zs ys)
       (here_said s.memory.names (length s.grants) bs s.words ws r g s.grants refl ok.grants names
-      ∙ ap verdict_of (sym (first_skip Lent (valid_schema d) _ (N.sound_valid s.memory.names names) ∙ first_skip Lent (valid_catalogue d gs) _ (catalogue_valid s.memory.names s.grants s.words ok.grants))))
+      ∙ ap result_of (sym (first_skip Lent (valid_schema d) _ (N.sound_valid s.memory.names names) ∙ first_skip Lent (valid_catalogue d gs) _ (catalogue_valid s.memory.names s.grants s.words ok.grants))))
       ∙ changed_said f _ (first (K.grant_table d gs bs)) zs ys
 
-  caller_said : (bs : Bytes) {r : Identified} → r ≡ identified s.caller bs → prints (verdict_said r.verdict) zs ys ≡ (perform f (act zs ys f bs (some G.caller))).outcome
+  caller_said : (bs : Bytes) {r : Result Caller Refusal} → r ≡ identified s.caller bs → prints (verdict_said (said_by r)) zs ys ≡ (perform f (act zs ys f bs (some G.caller))).outcome
   unfolding perform act identified
   caller_said bs e =
-      ap (λ (v : Verdict). prints (verdict_said v) zs ys) (ap (λ (x : Identified). x.verdict) e ∙ identified_said (verdict_of (first (caller_table bs))) _ s.caller)
+      ap (λ (v : Said). prints (verdict_said v) zs ys) (ap said_by e ∙ said_giving (result_of (first (caller_table bs))) _)
       ∙ changed_said f _ (first (caller_table bs)) zs ys
 
 -- a line prints what the definitions' line prints
 does_said : {bs : Bytes} {zs zs' : List ℤ} {ys ys' : Bytes} {v : Option G.Verb} {s t : Store} {y : Message} → Does bs zs ys v s t zs' ys' y → Sound s → prints y zs' ys' ≡ (perform (fixture_of s) (act zs ys (fixture_of s) bs v)).outcome
-unfolding act perform written verdict_in Q.asked Q.lined fixture_of
+unfolding act perform written said_in Q.asked Q.lined fixture_of
 does_said {bs} {zs} {ys = ys} (unread_does {s = s}) ok = unread_prints (fixture_of s) (length bs) zs ys
 does_said {bs} {zs} {ys = ys} (stream_does {s = s} d) ok = call_said s ok zs ys (stream bs) (declared d)
 does_said {bs} {zs} {ys = ys} (grant_does {s = s} g) ok = grant_said s ok zs ys bs g

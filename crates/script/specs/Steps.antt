@@ -1,23 +1,23 @@
 -- One line: what it says, and what it leaves of the store and of lent cells and bytes, by the contract of its verb's call.
-use Rattle.std.specs.Prelude.{◌≡◌, List, cond, ℕ, ℤ, eqb, ltb, length, take}
+use Rattle.std.specs.Prelude.{◌≡◌, List, cond, ℕ, ℤ, eqb, ltb, length, take, Result, Ok, Err}
 use Rattle.std.proofs.Math.Option.{Option, none, some}
 use Rattle.refusal.specs.Numbers.{number_of}
-use Rattle.refusal.specs.declared.Verdict.{Verdict}
-use Rattle.refusal.specs.declared.Verdict.TheVariants.{Accepted, Refused}
+use Rattle.refusal.specs.Results.{Said, said_by, held_after}
+use Rattle.refusal.specs.declared.Refusal.{Refusal}
 use Rattle.refusal.specs.declared.Refusal.TheVariants.{Malformed, Bound}
 use Rattle.syntax.specs.Grammar as G
 use Rattle.syntax.specs.Grammar.{Bytes}
 use Rattle.syntax.specs.Limits.{max_line}
 use Rattle.syntax.specs.Readers.{parse_as}
 use Rattle.report.specs.declared.Message.{Message}
-use Rattle.report.specs.declared.Message.TheVariants.{Quiet, Refusal, Cells, Text}
+use Rattle.report.specs.declared.Message.TheVariants as Say
 use Rattle.stream_line.specs.Declaring.{Declares}
-use Rattle.ledger.specs.declared.Entered.{Entered}
+use Rattle.ledger.specs.declared.Ledger.{Ledger}
 use Rattle.ledger.specs.Records.{Memory, with_ledger, with_names}
 use Rattle.record_lines.specs.Calls.{clock_line_call, clear_line_call, RowLineCall}
-use Rattle.caller.specs.declared.Identified.{Identified}
+use Rattle.caller.specs.declared.Caller as W
 use Rattle.caller.specs.Lines.{identified}
-use Rattle.grant_line.specs.declared.Granted.{Granted}
+use Rattle.grant.specs.declared.Grant as T
 use Rattle.grant_line.specs.Granting.{grants_after, Grants}
 use Rattle.history.specs.Fixtures.{Store, with_memory, with_grants, with_caller}
 use Rattle.ask.specs.declared.Reply.{Reply}
@@ -43,17 +43,17 @@ verb_in Other = none
 
 -- ---- what a line says
 
-abbrev pub verdict_said : Verdict → Message
-verdict_said Accepted = Quiet
-verdict_said (Refused f) = Refusal (number_of f)
+abbrev pub verdict_said : Said → Message
+verdict_said (Ok u) = Say.Quiet
+verdict_said (Err f) = Say.Refusal (number_of f)
 
 -- of a query: its refusal, or what is said where there is none
 unfoldable pub reply_said : Reply → Message → Message
-reply_said r y = cond (eqb r.refusal 0) y (Refusal r.refusal)
+reply_said r y = cond (eqb r.refusal 0) y (Say.Refusal r.refusal)
 
 -- a text of no verb, by its length
 unfoldable pub unread_said : ℕ → Message
-unread_said n = verdict_said (Refused (cond (ltb max_line n) Bound Malformed))
+unread_said n = verdict_said (Err (cond (ltb max_line n) Bound Malformed))
 
 -- ---- what it leaves
 
@@ -63,22 +63,22 @@ lending s = record { memory = s.memory; grants = s.grants; granted = s.words; ca
 
 -- the grant line, by the state
 pub record Granting (s : State) (ns : List ℕ) (bs : Bytes) (ws ws' : List ℕ) (r : Stepped) : Type 0 where
-  pub granted : Granted
+  pub granted : Result T.Grant Refusal
   pub call : Grants ns (length (take s.count s.grants)) bs ws ws' granted
   pub ledger : r.state.ledger ≡ s.ledger
-  pub grants : take r.state.count r.state.grants ≡ grants_after granted.verdict (take s.count s.grants) granted.grant
+  pub grants : take r.state.count r.state.grants ≡ grants_after granted (take s.count s.grants)
   pub caller : r.state.caller ≡ s.caller
-  pub says : r ≡ stepped_with r.state (verdict_said granted.verdict)
+  pub says : r ≡ stepped_with r.state (verdict_said (said_by granted))
 
 -- By the text, the cells and bytes that are lent, and the verb: the stores before and after, the cells and bytes after, and what is said.
 pub data Does (bs : Bytes) (zs : List ℤ) (ys : Bytes) : Option G.Verb → Store → Store → List ℤ → Bytes → Message → Type 0 where
   unread_does : {s : Store} → Does bs zs ys none s s zs ys (unread_said (length bs))
-  stream_does : {s : Store} {ns : List ℕ} {v : Verdict} → Declares s.memory.names bs ns v → Does bs zs ys (some G.stream) s (with_memory s (with_names s.memory ns)) zs ys (verdict_said v)
-  grant_does : {s : Store} {ws : List ℕ} {r : Granted} → Grants s.memory.names (length s.grants) bs s.words ws r
-      → Does bs zs ys (some G.grant) s (with_grants s (grants_after r.verdict s.grants r.grant) ws) zs ys (verdict_said r.verdict)
-  clock_does : {s : Store} {r : Entered} → r ≡ clock_line_call s.memory.ledger bs → Does bs zs ys (some G.clock) s (with_memory s (with_ledger s.memory r.ledger)) zs ys (verdict_said r.verdict)
-  row_does : {s : Store} {m : Memory} {v : Verdict} → RowLineCall s.memory bs m v → Does bs zs ys (some G.row) s (with_memory s m) zs ys (verdict_said v)
-  clear_does : {s : Store} {r : Entered} → r ≡ clear_line_call s.memory.ledger bs → Does bs zs ys (some G.clear) s (with_memory s (with_ledger s.memory r.ledger)) zs ys (verdict_said r.verdict)
-  caller_does : {s : Store} {r : Identified} → r ≡ identified s.caller bs → Does bs zs ys (some G.caller) s (with_caller s r.caller) zs ys (verdict_said r.verdict)
-  ask_does : {s : Store} {zs' : List ℤ} {r : Reply} → Replies (asked 1 (parse_as G.ask bs) (lending s) bs zs) zs zs' r → length zs' ≡ length zs → Does bs zs ys (some G.ask) s s zs' ys (reply_said r (Cells r.count))
-  line_does : {s : Store} {ys' : Bytes} {r : Reply} → LineReplies 1 (parse_as G.line bs) (lending s) bs ys ys' r → length ys' ≡ length ys → Does bs zs ys (some G.line) s s zs ys' (reply_said r (Text r.count))
+  stream_does : {s : Store} {ns : List ℕ} {v : Said} → Declares s.memory.names bs ns v → Does bs zs ys (some G.stream) s (with_memory s (with_names s.memory ns)) zs ys (verdict_said v)
+  grant_does : {s : Store} {ws : List ℕ} {r : Result T.Grant Refusal} → Grants s.memory.names (length s.grants) bs s.words ws r
+      → Does bs zs ys (some G.grant) s (with_grants s (grants_after r s.grants) ws) zs ys (verdict_said (said_by r))
+  clock_does : {s : Store} {r : Result Ledger Refusal} → r ≡ clock_line_call s.memory.ledger bs → Does bs zs ys (some G.clock) s (with_memory s (with_ledger s.memory (held_after r s.memory.ledger))) zs ys (verdict_said (said_by r))
+  row_does : {s : Store} {m : Memory} {v : Said} → RowLineCall s.memory bs m v → Does bs zs ys (some G.row) s (with_memory s m) zs ys (verdict_said v)
+  clear_does : {s : Store} {r : Result Ledger Refusal} → r ≡ clear_line_call s.memory.ledger bs → Does bs zs ys (some G.clear) s (with_memory s (with_ledger s.memory (held_after r s.memory.ledger))) zs ys (verdict_said (said_by r))
+  caller_does : {s : Store} {r : Result W.Caller Refusal} → r ≡ identified s.caller bs → Does bs zs ys (some G.caller) s (with_caller s (held_after r s.caller)) zs ys (verdict_said (said_by r))
+  ask_does : {s : Store} {zs' : List ℤ} {r : Reply} → Replies (asked 1 (parse_as G.ask bs) (lending s) bs zs) zs zs' r → length zs' ≡ length zs → Does bs zs ys (some G.ask) s s zs' ys (reply_said r (Say.Cells r.count))
+  line_does : {s : Store} {ys' : Bytes} {r : Reply} → LineReplies 1 (parse_as G.line bs) (lending s) bs ys ys' r → length ys' ≡ length ys → Does bs zs ys (some G.line) s s zs ys' (reply_said r (Say.Text r.count))

@@ -5,7 +5,7 @@ ghost use Rattle.std.specs.Prelude.{◌≡◌, ◌≤◌, ◌<◌, min, take};
 ghost use Rattle.syntax.specs.Grammar as G;
 ghost use Rattle.syntax.specs.Limits.{max_grants};
 ghost use Rattle.syntax.specs.Readers.{parse_as, verb_of};
-ghost use Rattle.grant_line.specs.Lines.{no_grant};
+ghost use Rattle.refusal.specs.Results.{said_by, held_after};
 ghost use Rattle.catalogue.specs.Callers.{roles_of, profile_of};
 ghost use Rattle.catalogue.specs.Opened.{opened_in};
 ghost use Rattle.ask.specs.Replies.{Replies};
@@ -14,14 +14,13 @@ ghost use Rattle.script.specs.States.{new_state, with_ledger_in, with_grant_in, 
 ghost use Rattle.script.specs.Steps.{verb_in, verdict_said, reply_said, unread_said, Granting, Does};
 
 use ask::Reply;
-use caller::{Caller, Identified};
+use caller::Caller;
 use catalogue::Opened;
 use grant::Grant;
-use ledger::{Entered, Ledger};
+use ledger::Ledger;
 use needs::Needs;
-use refusal::{Refusal, Verdict};
+use refusal::Refusal;
 use report::Message;
-use schema::Stream;
 use text::{Line, Word};
 
 // What goes from line to line beside lent memory: the ledger, the grants with how many were accepted, and the caller.
@@ -56,30 +55,12 @@ pub enum Verb {
 
 // ---- states
 
-fn no_grant() -> Grant
-    ensures { result ≡ no_grant }
-{
-    let streams: [u32; Stream::MOST] = [0; Stream::MOST];
-    Grant {
-        role: 0,
-        right: 0,
-        count: 0,
-        streams: streams,
-        shown: 0,
-        words: 0,
-        from: 0,
-        to: 0,
-        size: 0,
-        offset: 0,
-    }
-}
-
 impl State {
     // Returns the state before the first line: clock 0 and no rows, no grant, and the caller of no role and no entry.
     pub fn new() -> Self
         ensures { result ≡ new_state }
     {
-        let g = no_grant();
+        let g = grant_line::no_grant();
         let grants: [Grant; Grant::GRANTS] = [g; Grant::GRANTS];
         let l = Ledger::new();
         let who = Caller::new();
@@ -144,15 +125,15 @@ impl State {
 
 // ---- what is said
 
-fn said(s: State, v: Verdict) -> Stepped
-    ensures { result ≡ stepped_with s (verdict_said v) }
+fn said(s: State, r: Result<(), Refusal>) -> Stepped
+    ensures { result ≡ stepped_with s (verdict_said r) }
 {
-    match v {
-        Verdict::Accepted => Stepped {
+    match r {
+        Ok(()) => Stepped {
             state: s,
             says: Message::Quiet,
         },
-        Verdict::Refused(f) => Stepped {
+        Err(f) => Stepped {
             state: s,
             says: Message::Refusal(f.number()),
         },
@@ -180,27 +161,29 @@ fn unread(s: State, bytes: usize) -> Stepped
     ensures { result ≡ stepped_with s (unread_said bytes) }
 {
     if Line::BYTES < bytes {
-        let f = Refusal::Bound;
-        return said(s, Verdict::Refused(f));
+        return said(s, Err(Refusal::Bound));
     }
-    let f = Refusal::Malformed;
-    said(s, Verdict::Refused(f))
+    said(s, Err(Refusal::Malformed))
 }
 
-fn entered(s: State, e: Entered) -> Stepped
-    ensures { result ≡ stepped_with (with_ledger_in s e.ledger) (verdict_said e.verdict) }
+// The ledger that a line gives; where it is refused, the state is as it was.
+fn entered(s: State, r: Result<Ledger, Refusal>) -> Stepped
+    ensures { result ≡ stepped_with (with_ledger_in s (held_after r s.ledger)) (verdict_said (said_by r)) }
 {
-    let l = e.ledger;
-    let v = e.verdict;
-    said(s.with_ledger(l), v)
+    match r {
+        Ok(l) => said(s.with_ledger(l), Ok(())),
+        Err(f) => said(s, Err(f)),
+    }
 }
 
-fn identified(s: State, i: Identified) -> Stepped
-    ensures { result ≡ stepped_with (with_caller_in s i.caller) (verdict_said i.verdict) }
+// The same of a caller.
+fn identified(s: State, r: Result<Caller, Refusal>) -> Stepped
+    ensures { result ≡ stepped_with (with_caller_in s (held_after r s.caller)) (verdict_said (said_by r)) }
 {
-    let who = i.caller;
-    let v = i.verdict;
-    said(s.with_caller(who), v)
+    match r {
+        Ok(who) => said(s.with_caller(who), Ok(())),
+        Err(f) => said(s, Err(f)),
+    }
 }
 
 // ---- lines
@@ -232,14 +215,9 @@ fn granted(s: State, names: &[u64], line: &[u8], words: &mut [u32]) -> Stepped
     ensures { Granting s names.now line.now words.old words.new result }
 {
     let n = s.held();
-    let g = grant_line::grant(names, n, line, words);
-    let v = g.verdict;
-    match v {
-        Verdict::Refused(f) => said(s, Verdict::Refused(f)),
-        Verdict::Accepted => {
-            let h = g.grant;
-            said(s.with_grant(n, h), Verdict::Accepted)
-        }
+    match grant_line::grant(names, n, line, words) {
+        Ok(g) => said(s.with_grant(n, g), Ok(())),
+        Err(f) => said(s, Err(f)),
     }
 }
 

@@ -2,4 +2,4 @@ use Rattle.maltziru.proofs.Said.{grant_called}
 use Rattle.maltziru.proofs.maltziru_grant.Goals as goal
 
 pub returns : goal.returns
-returns c = grant_called _ c.grant-g.ensures c.verdict_number.ensures
+returns c = grant_called c.grant-g.ensures c.grant_reply.ensures

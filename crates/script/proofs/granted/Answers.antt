@@ -12,8 +12,8 @@ full c = c.well_formed.0.1.1.1.0.1.0.1
 pub with_grant-requires : goal.with_grant-requires
 with_grant-requires c = search (grant_placed, rules)
 
-pub returns-in-Refused : goal.returns-in-Refused
-returns-in-Refused c = let f = full (goal.at.returns-in-Refused c).Start in search (granting_refused, rules)
+pub returns-in-Err : goal.returns-in-Err
+returns-in-Err c = let f = full (goal.at.returns-in-Err c).Start in search (granting_refused, rules)
 
-pub returns-in-Accepted : goal.returns-in-Accepted
-returns-in-Accepted c = let f = full (goal.at.returns-in-Accepted c).Start in search (granting_accepted, rules)
+pub returns-in-Ok : goal.returns-in-Ok
+returns-in-Ok c = let f = full (goal.at.returns-in-Ok c).Start in search (granting_accepted, rules)
