@@ -97,7 +97,8 @@ impl Names {
     }
 }
 
-// Returns the names at a place up to a closing bracket, and the place of that.
+// Returns the names at a place up to a closing bracket, and the place of that. (Numbers and entries are read alike: what one
+// function for all three would take of each, with its contracts, is longer than the loop.)
 pub fn read_names(s: &[u8], at: usize) -> Option<Names>
     ensures { result ≡ names_found s.now at }
 {
