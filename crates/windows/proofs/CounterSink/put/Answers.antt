@@ -1,5 +1,4 @@
 use Prim.Native.Nat.{◌≤◌}
-use native.Mathlib.Omega.{arith}
 use borrow.Author.Tests.{ltb-false}
 use Rattle.windows.proofs.Picks.{count_kept, count_left}
 use Rattle.windows.proofs.CounterSink.put.Goals as goal
