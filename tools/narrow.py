@@ -46,6 +46,10 @@ def parts(lines):
     """The module with each pair that holds a pointer read part by part, from where the module keeps its parts: a narrower machine would look for the second elsewhere."""
     out = []
     for line in lines:
+        m = re.match(r'  (%\w+) = ptrtoaddr ptr (%\w+) to i64', line)
+        if m:
+            out += ['  %sx = ptrtoaddr ptr %s to i32' % m.groups(), '  %s = zext i32 %sx to i64' % (m.group(1), m.group(1))]
+            continue
         m = re.match(r'  (%\w+) = load (\{ (?:ptr, (\w+)|(\w+), ptr) \}), ptr (%\w+)', line)
         if not m:
             out.append(line)
@@ -80,6 +84,10 @@ def slices(lines):
             if m:
                 said.append(((name, m.group(1)), 'room' if m.group(2) == '[16 x i8], align 8' else 'other'))
                 continue
+            m = re.match(r'  (%\w+) = ', line)
+            if m:
+                # A place that is found by a pointer may be part of something wider.
+                said.append(((name, m.group(1)), 'other'))
             m = copy.match(line)
             if m:
                 for k in 1, 2:
