@@ -17,7 +17,7 @@ use Rattle.syntax.specs.Grammar.{Bytes, Verb}
 use Rattle.syntax.specs.Readers.{parse_as}
 use Rattle.model.specs.Alike.{Alike}
 use Rattle.calls.specs.Calls.{Call, after}
-use Rattle.ledger.specs.Records.{with_ledger, with_names}
+use Rattle.ledger.specs.Records.{Memory, with_ledger, with_names}
 use Rattle.caller.specs.Callers.{caller_of}
 use Rattle.grant.specs.declared.Grant.{Grant}
 use Rattle.grant.specs.Catalogues.{catalogue_of}

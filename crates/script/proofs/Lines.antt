@@ -60,12 +60,12 @@ module _ (bs : Bytes) (zs : List ℤ) (ys : Bytes) (s : State) (ns ts : List ℕ
   unfolding verb_in with_memory
   clock_ends k d e = ends k e (clock_does d)
 
-  pub row_ends : v ≡ Row → {e : Result Ledger Refusal} {ts' : List ℕ} {vs' : List ℤ}
+  pub row_ends : v ≡ Row → (e : Result Ledger Refusal) {ts' : List ℕ} {vs' : List ℤ}
       → RowLineCall (record { ledger = s.ledger; names = ns; times = ts; values = vs }) bs (record { ledger = held_after e s.ledger; names = ns; times = ts'; values = vs' }) (said_by e)
       → {r : Stepped} → r ≡ stepped_with (with_ledger_in s (held_after e s.ledger)) (verdict_said (said_by e))
       → Does bs zs ys (verb_of bs) here (store_of r.state ns ts' vs' ws) zs ys r.says
   unfolding verb_in with_memory
-  row_ends k d e = ends k e (row_does d)
+  row_ends k _ d e = ends k e (row_does d)
 
   pub clear_ends : v ≡ Clear → {e : Result Ledger Refusal} → e ≡ clear_line_call s.ledger bs → {r : Stepped} → r ≡ stepped_with (with_ledger_in s (held_after e s.ledger)) (verdict_said (said_by e))
       → Does bs zs ys (verb_of bs) here (store_of r.state ns ts vs ws) zs ys r.says

@@ -3,13 +3,13 @@ use mathlib.Core.Path.{◌≡◌, refl, sym, ap, ◌∙◌}
 use mathlib.Core.List.{List, [], ◌∷◌}
 use Prim.Native.Nat.{ℕ, zero, suc, ◌+◌, ◌≤◌, ◌<◌}
 use native.Mathlib.Omega.{arith}
-use lib.ListN.{length, take, get_or}
+use lib.ListN.{length, take, get_or, length-take}
 use Rattle.syntax.specs.Limits.{max_grants}
 use Rattle.grant.specs.declared.Grant.{Grant}
 use Rattle.needs.specs.declared.Needs.{Needs}
 use Rattle.catalogue.specs.declared.Opened.{Opened}
 use Rattle.catalogue.specs.Opened.{blank, none_opened, opened_with, opened_in}
-use Rattle.catalogue.proofs.Taken.{taken, taken_none, taken_more, taken_all}
+use Rattle.catalogue.proofs.Taken.{taken, taken_none, taken_all}
 use mathlib.Core.Option.{Option}
 use lib.IntN.{ℤ}
 use Rattle.syntax.specs.Grammar.{Bytes, Form, RouteLine}
@@ -32,18 +32,22 @@ take_at (suc n) (z ∷ xs) (suc i) x y h k = take_at n xs i x y (omega arith) (o
 
 module _ (n : Needs) (ns : List ℕ) (gs : List Grant) (ws roles profile : List ℕ) (count : ℕ) (e : length gs ≡ max_grants) (h : count ≤ max_grants) where
   pub opening_none : {o : Opened} → o ≡ none_opened count (length ws) → o ≡ taken n ns (take count gs) ws roles profile 0
-  opening_none f = f ∙ ap (λ k. none_opened k (length ws)) (sym (take_few count gs e h)) ∙ taken_none n ns (take count gs) ws roles profile
+  opening_none f = taken_none n ns (take count gs) ws roles profile (f ∙ ap (λ k. none_opened k (length ws)) (sym (take_few count gs e h)))
 
   pub opening_more : (i : ℕ) {o r : Opened} (g : Grant) → i < count → o ≡ taken n ns (take count gs) ws roles profile i → r ≡ opened_with o n i (get_or gs i g) ns ws roles profile
       → r ≡ taken n ns (take count gs) ws roles profile (i + 1)
+  unfolding taken
   opening_more i {o} g l f k =
       let z : i + 1 ≡ suc i = omega arith in
       k ∙ ap (λ (x : Opened). opened_with x n i (get_or gs i g) ns ws roles profile) f
       ∙ ap (λ (x : Grant). opened_with (taken n ns (take count gs) ws roles profile i) n i x ns ws roles profile) (sym (take_at count gs i blank g l (omega arith)))
-      ∙ taken_more n ns (take count gs) ws roles profile i ∙ ap (taken n ns (take count gs) ws roles profile) (sym z)
+      ∙ ap (taken n ns (take count gs) ws roles profile) (sym z)
 
   pub opening_all : (i : ℕ) → i ≡ count → {o : Opened} → o ≡ taken n ns (take count gs) ws roles profile i → o ≡ opened_in n ns (take count gs) ws roles profile
-  opening_all i z f = let l = take_few count gs e h in f ∙ taken_all n ns (take count gs) ws roles profile i (omega arith)
+  opening_all i z f =
+      let l = take_few count gs e h in
+      let m = length-take count (take count gs) in
+      taken_all n ns (take count gs) ws roles profile count i (omega arith) (omega arith) (omega arith) f
 
 -- ---- a text that was read, and what was opened for what it asks
 

@@ -54,30 +54,31 @@ pub said_refused : (s : State) {v : Said} {f : Refusal} → v ≡ Err f → {n :
 said_refused s e h = rw (e, h)
 
 -- what a result gives, and on a refusal the state as it was
+module _ (s : State) where
+  abbrev with_new : Result Ledger Refusal → Stepped
+  with_new y = stepped_with (with_ledger_in s (held_after y s.ledger)) (verdict_said (said_by y))
+
+  abbrev with_named : Result Caller Refusal → Stepped
+  with_named y = stepped_with (with_caller_in s (held_after y s.caller)) (verdict_said (said_by y))
+
 module _ (s : State) {r : Stepped} where
   module _ {v : Result Ledger Refusal} where
-    abbrev with_new : Result Ledger Refusal → Stepped
-    with_new y = stepped_with (with_ledger_in s (held_after y s.ledger)) (verdict_said (said_by y))
-
-    pub entered_ok : {l : Ledger} → v ≡ Ok l → {x : State} → x ≡ with_ledger_in s l → r ≡ stepped_with x (verdict_said (Ok tt)) → r ≡ with_new v
+    pub entered_ok : {l : Ledger} → v ≡ Ok l → {x : State} → x ≡ with_ledger_in s l → r ≡ stepped_with x (verdict_said (Ok tt)) → r ≡ with_new s v
     unfolding said_by held_after
-    entered_ok e k h = h ∙ ap (λ (y : State). stepped_with y Say.Quiet) k ∙ ap with_new (sym e)
+    entered_ok e k h = h ∙ ap (λ (y : State). stepped_with y Say.Quiet) k ∙ ap (with_new s) (sym e)
 
-    pub entered_err : {f : Refusal} → v ≡ Err f → r ≡ stepped_with s (verdict_said (Err f)) → r ≡ with_new v
+    pub entered_err : {f : Refusal} → v ≡ Err f → r ≡ stepped_with s (verdict_said (Err f)) → r ≡ with_new s v
     unfolding said_by held_after
-    entered_err e h = h ∙ ap with_new (sym e)
+    entered_err e h = h ∙ ap (with_new s) (sym e)
 
   module _ {v : Result Caller Refusal} where
-    abbrev with_named : Result Caller Refusal → Stepped
-    with_named y = stepped_with (with_caller_in s (held_after y s.caller)) (verdict_said (said_by y))
-
-    pub identified_ok : {w : Caller} → v ≡ Ok w → {x : State} → x ≡ with_caller_in s w → r ≡ stepped_with x (verdict_said (Ok tt)) → r ≡ with_named v
+    pub identified_ok : {w : Caller} → v ≡ Ok w → {x : State} → x ≡ with_caller_in s w → r ≡ stepped_with x (verdict_said (Ok tt)) → r ≡ with_named s v
     unfolding said_by held_after
-    identified_ok e k h = h ∙ ap (λ (y : State). stepped_with y Say.Quiet) k ∙ ap with_named (sym e)
+    identified_ok e k h = h ∙ ap (λ (y : State). stepped_with y Say.Quiet) k ∙ ap (with_named s) (sym e)
 
-    pub identified_err : {f : Refusal} → v ≡ Err f → r ≡ stepped_with s (verdict_said (Err f)) → r ≡ with_named v
+    pub identified_err : {f : Refusal} → v ≡ Err f → r ≡ stepped_with s (verdict_said (Err f)) → r ≡ with_named s v
     unfolding said_by held_after
-    identified_err e h = h ∙ ap with_named (sym e)
+    identified_err e h = h ∙ ap (with_named s) (sym e)
 
 pub replied_refused : (s : State) (r : Reply) (y : Message) → (r.refusal ≡ 0 → ⊥) → ◌≡◌ {A = Stepped} (record { state = s; says = Say.Refusal r.refusal }) (stepped_with s (reply_said r y))
 unfolding reply_said
