@@ -6,9 +6,8 @@ use Prim.Native.Nat.{ℕ, zero, suc, ◌+◌, ◌*◌, ◌-◌, ◌≤◌, ◌<�
 use native.Mathlib.Omega.{arith}
 use native.Mathlib.Decide.{dec_lt}
 use lib.Dec.{leb}
-use lib.ListN.{length, get_or, take, drop, length-take, length-drop, drop_of_length-le}
+use lib.ListN.{length, get_or, take, drop, length-drop, drop_of_length-le}
 use native.Mathlib.Numerals.{add-one}
-use Rattle.std.proofs.lemmas.List.{get_or-take, get_or_default}
 use lib.Seq.{take_all, drop-cons}
 use borrow.Author.Tests.{lt-leb, le-leb, le-ltb, not-true, not-false}
 use Rattle.lists.proofs.Laws.{and_true}
@@ -90,11 +89,9 @@ module _ (n : Needs) (ns : List ℕ) (gs : List Grant) (ws roles profile : List 
   unfolding taken
   taken_none e = e
 
-  pub taken_more : (k i : ℕ) (d : Grant) {o p : Opened} → i < length (take k gs) → o ≡ taken i → p ≡ opened_with o n i (get_or (take k gs) i d) ns ws roles profile → p ≡ taken (i + 1)
+  pub taken_more : (i : ℕ) {g : Grant} {o p : Opened} → o ≡ taken i → g ≡ get_or gs i blank → p ≡ opened_with o n i g ns ws roles profile → p ≡ taken (i + 1)
   unfolding taken
-  taken_more k i d h e f =
-      let l = length-take k gs in
-      f ∙ rw (add-one i) (ap₂ (λ o g. opened_with o n i g ns ws roles profile) e (get_or-take k gs i d (omega arith) ∙ get_or_default gs i d blank (omega arith)))
+  taken_more i e h f = f ∙ rw (add-one i) (ap₂ (λ o g. opened_with o n i g ns ws roles profile) e h)
 
   and_next : (o : Opened) (i : ℕ) (g : Grant) (hs : List Grant) → and_then (opened_with o n i g ns ws roles profile) (suc i) hs ≡ and_then o i (g ∷ hs)
   unfolding opened_with with_bits open_from sound_from
@@ -133,7 +130,7 @@ module _ (n : Needs) (ns : List ℕ) (gs : List Grant) (ws roles profile : List 
           (too_many k h ∙ ap (λ (s : Bool). s && sound_from ns ws k (drop k gs)) (sym (too_many k h)))
       go (no h) = none_after (taken k) k ∙ ap (and_then (taken k) k) (sym (drop_of_length-le gs {i = k} (omega arith)))
 
-  pub taken_all : (k i : ℕ) {o : Opened} → k ≡ min (length gs) max_grants → i ≤ length (take k gs) → length (take k gs) ≤ i → o ≡ taken i → o ≡ opened_in n ns gs ws roles profile
-  taken_all k i h a b e = let l = length-take k gs in e ∙ all_placed i (omega arith)
+  pub taken_all : (k i : ℕ) {o : Opened} → k ≡ min (length gs) max_grants → i ≤ k → k ≤ i → o ≡ taken i → o ≡ opened_in n ns gs ws roles profile
+  taken_all k i h a b e = e ∙ all_placed i (omega arith)
 
 pub ruleset taken_ends = (taken_none, taken_more, taken_all)

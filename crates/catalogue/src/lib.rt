@@ -8,12 +8,13 @@ ghost use Rattle.grant.specs.Grants.{grant_sound};
 ghost use Rattle.grant.specs.Catalogues.{words_in};
 ghost use Rattle.routes.specs.Listing.{caller_bits};
 ghost use Rattle.catalogue.specs.Callers.{roles_of, numbers_of, profile_of};
-ghost use Rattle.catalogue.specs.Opened.{none_opened, with_bits, opened_with, opened_in};
+ghost use Rattle.catalogue.specs.Opened.{blank, none_opened, with_bits, opened_with, opened_in};
 
 use caller::Caller;
 use grant::Grant;
 use needs::Needs;
 use routes::Open;
+use schema::Stream;
 
 // How many numbers a profile takes: a name and a value an entry.
 pub const PROFILE: usize = 2 * Caller::ENTRIES;
@@ -134,14 +135,37 @@ impl Opened {
 
 // ---- the lent slice
 
+// Returns the grant in a place, a grant of zeros past the last.
+pub fn grant_at(grants: &[Grant], i: usize) -> Grant
+    ensures { result ≡ get_or grants.now i blank }
+{
+    if i < grants.len() {
+        grants[i]
+    } else {
+        Grant {
+            role: 0,
+            right: 0,
+            count: 0,
+            streams: [0; Stream::MOST],
+            shown: 0,
+            words: 0,
+            from: 0,
+            to: 0,
+            size: 0,
+            offset: 0,
+        }
+    }
+}
+
 // Returns what the grants of a catalogue open for a caller and a query, and whether the catalogue may be lent (refusal 12).
 pub fn open_all(grants: &[Grant], n: Needs, names: &[u64], granted: &[u32], who: Caller) -> Opened
     ensures { result ≡ opened_in n names.now grants.now granted.now (roles_of who) (profile_of who) }
 {
     let k = grants.len().min(Grant::GRANTS);
     let mut o = Opened::none(grants.len(), granted.len());
-    for (i, g) in grants[..k].iter().enumerate() {
-        o = o.with_caller(n, i as u32, *g, names, granted, who);
+    for i in 0..k {
+        let g = grant_at(grants, i);
+        o = o.with_caller(n, i as u32, g, names, granted, who);
     }
     o
 }

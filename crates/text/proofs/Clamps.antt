@@ -68,3 +68,9 @@ pub time_same : (z : ℤ) → T (is_time z) → clamp z ≡ z
 unfolding is_time far
 time_same (pos n) t = let h = leb→le n top t in clamp_near (pos n) (omega arith)
 time_same (negsuc n) t = absurd t
+
+-- SIZE and OFFSET have no lower bound: they are kept where they are not below the clamp's own
+pub above_same : (z : ℤ) → T (not_above z) → ((n : ℕ) → z ≡ negsuc n → n < far) → clamp z ≡ z
+unfolding not_above far
+above_same (pos n) t l = let h = leb→le n top t in clamp_near (pos n) (omega arith)
+above_same (negsuc n) t l = let h = l n refl in clamp_near (negsuc n) (omega arith)

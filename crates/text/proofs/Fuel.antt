@@ -9,7 +9,7 @@ use lib.ListN.{length, drop, length-drop}
 use Rattle.lists.specs.Lists.{empty?}
 use Rattle.syntax.specs.Grammar.{Bytes, bytes, Test, Cond, Conds, Ref, Form}
 use Rattle.syntax.specs.Readers.{Reader, bind, ensure, ◌>>=◌, ◌>>◌, byte, read_head, read_name, read_ref, read_items, read_some, closes, form_next, Head, compare, and, or, not_of, head_word, heads, read_headed, read_more, read_cond, read_conds, Kind, k_in, k_pick, k_keep, k_join, k_fn, kind_word, kinds, read_rest, read_form, read_part, read_optional, read_show, read_when, read_grant}
-use Rattle.syntax.proofs.Leaving.{Leaves, left_within, byte_less, head_less, word_leaves, open_leaves, name_leaves, int_leaves, ref_leaves, items_leaves, some_leaves, cond_leaves, conds_leaves, form_leaves, part_leaves, show_leaves, limit_leaves, window_leaves, when_leaves}
+use Rattle.syntax.proofs.Leaving.{Leaves, left_within, byte_less, head_less, word_leaves, open_leaves, name_leaves, int_leaves, ref_leaves, items_leaves, some_leaves, cond_leaves, conds_leaves, form_leaves, part_leaves, show_leaves, limit_leaves, window_leaves, when_leaves, grant_leaves}
 use Rattle.text.specs.Readings.{any_items, any_some, any_cond, any_conds, any_form, any_show, any_grant}
 
 -- two readers read alike what has at most some bytes
@@ -269,6 +269,10 @@ fuel_grant k j bs x y = (grant_agree (length bs) k j x y).same bs (omega arith)
 pub grant_any : (k : ℕ) (bs : Bytes) → length bs ≤ k → read_grant k bs ≡ any_grant bs
 unfolding any_grant
 grant_any k bs h = fuel_grant k (length bs) bs h (omega arith)
+
+pub any_grant_leaves : Leaves any_grant
+unfolding any_grant
+any_grant_leaves = record { front = λ bs r e. (grant_leaves (length bs)).front bs r e }
 
 -- ---- with the bound of a line, at a place of it
 

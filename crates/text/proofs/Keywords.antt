@@ -54,6 +54,10 @@ unfolding every among coded
 among_coded word [] w k o = refl
 among_coded word (h ∷ hs) w k o = rw (same_word (word h) w (search parts) o, among_coded word hs w (search parts) o)
 
+-- a number's bytes are a word where the number is the word's code
+pub named_word : (c : ℕ) (w : Bytes) → 0 < c → c < 18446744073709551616 → T (every octet w) → same_list (name_of c) w ≡ eqb c (word_code w)
+named_word c w p h o = same_word (name_of c) w (code_keyword c p h) o ∙ ap (λ n. eqb n (word_code w)) (code_back c h)
+
 -- ---- numbers of heads, rights and forms, by the arms of a `match`
 
 -- x is none of the numbers: what the last arm knows

@@ -147,6 +147,10 @@ module _ (s : Bytes) (e : ℕ) where
       go true h = absurd (let k : ◌≡◌ {A = ℕ} 0 1 = cc in omega arith)
       go false h = refl
 
+pub whole_none : {A : Type 0} → whole {A = A} none ≡ none
+unfolding whole bind
+whole_none = refl
+
 pub closed_none : {A : Type 0} → closed {A = A} none ≡ none
 unfolding closed bind
 closed_none = refl

@@ -53,6 +53,7 @@ pub struct Word {
 }
 
 // A written line.
+#[derive(Clone, Copy)]
 pub struct Line {}
 
 impl Name {
