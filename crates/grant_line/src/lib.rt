@@ -454,8 +454,8 @@ fn copy(words: &mut [u32], at: usize, from: &[u32], n: usize)
     words[at..at + n].copy_from_slice(&from[..n]);
 }
 
-// The grant line, where `count` grants were accepted before. Returns the grant, or the refusal with a grant of zeros. Leaves the words of its conditions in its place, and all others as they were;
-// refused, all words as they were.
+// The grant line, where `count` grants were accepted before. Returns the grant, or the refusal with a grant of zeros.
+// Leaves the words of its conditions in its place, and all others as they were; refused, all words as they were.
 pub fn grant(
     names: &[u64],
     count: usize,

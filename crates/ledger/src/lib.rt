@@ -320,8 +320,8 @@ impl Ledger {
         Ok(self.with_row(s))
     }
 
-    // The row call: one row more of the stream of a number. Returns the ledger with one row more, or the refusal with the ledger as it was. Leaves the clock in its time and the values in its places,
-    // and all else as it was; refused, all places as they were.
+    // The row call: one row more of the stream of a number. Returns the ledger with one row more, or the refusal with the ledger as it was.
+    // Leaves the clock in its time and the values in its places, and all else as it was; refused, all places as they were.
     pub fn row(
         self,
         names: &[u64],
