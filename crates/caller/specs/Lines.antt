@@ -3,7 +3,7 @@ use Rattle.std.specs.Prelude.{map, Bool, true, false, ◌&&◌, ◌||◌, not, c
 use Rattle.std.proofs.Math.Option.{Option, none, some}
 use Rattle.refusal.specs.Results.{result_of, giving}
 use Rattle.refusal.specs.Checks.{first, unread, shown}
-use Rattle.refusal.specs.declared.Refusal.{Refusal}
+use Rattle.refusal.specs.declared.Refused.{Refused}
 use Rattle.syntax.specs.Grammar as G
 use Rattle.syntax.specs.Grammar.{Bytes}
 use Rattle.syntax.specs.Limits.{max_line, max_columns, max_roles, max_entries}
@@ -67,12 +67,12 @@ line_read rs es =
       caller = caller_read rs es;
     }
 
--- ---- what it says
+-- ---- what it says and leaves
 
 unfoldable pub with_caller : Caller → Option G.Caller → Caller
 with_caller w none = w
 with_caller w (some m) = caller_made m
 
--- the first check that fails; or the caller of the line
-unfoldable pub identified : Caller → Bytes → Result Caller Refusal
-identified w bs = giving (result_of (first (caller_table bs))) (with_caller w (parse_as G.caller bs))
+-- the first check that fails, and the caller as it was; or the caller of the line
+unfoldable pub identified : Caller → Bytes → Result Caller (Refused Caller)
+identified w bs = giving (result_of (first (caller_table bs))) (with_caller w (parse_as G.caller bs)) w

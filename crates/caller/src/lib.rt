@@ -9,7 +9,7 @@ ghost use Rattle.caller.specs.Callers.{caller_sound, no_caller, code_valid, name
 ghost use Rattle.caller.specs.Lines.{caller_line, line_after, unread_line, line_read, caller_read, identified};
 
 use items::{Entries, Names};
-use refusal::{Checks, Refusal};
+use refusal::{Checks, Refused};
 use text::{Line, Word};
 
 // Names are numbers, as `text` reads them.
@@ -215,12 +215,12 @@ impl Caller {
         all_sound(name, self.entries as usize)
     }
 
-    // The caller line. Returns the caller that the line names, or the refusal, after which the caller is who it was.
-    pub fn with_line(self, line: &[u8]) -> Result<Caller, Refusal>
+    // The caller line. Returns the caller that the line names, or the refusal with the caller as it was.
+    pub fn with_line(self, line: &[u8]) -> Result<Caller, Refused<Caller>>
         ensures { result ≡ identified self line.now }
     {
         let l = read(line);
-        l.checks.result()?;
+        l.checks.result_holding(self)?;
         Ok(l.caller)
     }
 }

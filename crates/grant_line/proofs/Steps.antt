@@ -11,10 +11,10 @@ use lib.Seq.{paste}
 use Rattle.std.specs.Prelude.{Result, Ok, Err}
 use Rattle.refusal.specs.Results.{result_of, giving, said_by, held_after, settled}
 use Rattle.refusal.specs.Checks.{Check, first, passes, Ordered, checks_compute}
-use Rattle.refusal.specs.declared.Refusal.{Refusal}
+use Rattle.refusal.specs.declared.Refused.{Refused}
 use Rattle.refusal.specs.declared.Refusal.TheVariants.{Lent}
 use Rattle.refusal.proofs.Verdicts.{stops}
-use Rattle.refusal.proofs.Results.{result_none, result_some}
+use Rattle.refusal.proofs.Results.{not_ok, result_none, result_some, held_giving, settled_old}
 use Rattle.refusal.proofs.Passing.{pass_rest, pass_test, passes_first, first_skip}
 use Rattle.lists.specs.Lists.{every, empty?, gather}
 use Rattle.lists.proofs.Laws.{and_l, and_r, and_both, parts, true_T, T_true, every_map, every_both}
@@ -100,11 +100,14 @@ module _ (ns : List ℕ) (gs : List M.Grant) (ws : List ℕ) (bs : Bytes) (t : f
 
 -- ---- the call
 
-module _ (ns : List ℕ) (count : ℕ) (bs : Bytes) (ws ws' : List ℕ) (r : Result Grant Refusal) (call : Grants ns count bs ws ws' r) where
-  -- a refusal leaves the words as they were
-  pub refused_kept : {f : Refusal} → r ≡ Err f → ws' ≡ ws
-  unfolding said_by settled
-  refused_kept e = call.left ∙ ap (λ x. settled (said_by x) ws (with_words ns count (parse_as G.grant bs) ws)) e
+module _ (ns : List ℕ) (count : ℕ) (bs : Bytes) (ws ws' : List ℕ) (r : Result Grant (Refused Grant)) (call : Grants ns count bs ws ws' r) where
+  -- a refusal gives no grant, and leaves the words as they were
+  pub refused_kept : (said_by r ≡ Ok tt → ⊥) → (ws' ≡ ws) × (held_after r ≡ no_grant)
+  refused_kept n = (call.left ∙ settled_old _ _ _ n, ap held_after call.given ∙ held_giving _ _ _ ∙ settled_old _ _ _ n)
+
+  kept : {f : Refused Grant} → r ≡ Err f → ws' ≡ ws
+  unfolding said_by
+  kept {f} e = (refused_kept (λ a. not_ok f.refusal (sym (ap said_by e) ∙ a))).0
 
   module _ {made : Grant} (a : r ≡ Ok made) where
     said_ok : said_by r ≡ Ok tt
@@ -164,7 +167,7 @@ module _ (ns : List ℕ) (count : ℕ) (bs : Bytes) (ws ws' : List ℕ) (r : Res
 
       struct_is : made ≡ (read_line ns g).grant
       unfolding giving held_after grant_made
-      struct_is = ap (λ x. held_after x no_grant) (sym a ∙ call.given ∙ ap (λ v. giving v (grant_made ns (parse_as G.grant bs))) said_ok) ∙ ap (grant_made ns) parsed
+      struct_is = ap held_after (sym a ∙ call.given ∙ ap (λ v. giving v (grant_made ns (parse_as G.grant bs)) no_grant) said_ok) ∙ ap (grant_made ns) parsed
 
       -- the words of its conditions
       abbrev stored : List ℕ
@@ -377,9 +380,9 @@ module _ (ns : List ℕ) (count : ℕ) (bs : Bytes) (ws ws' : List ℕ) (r : Res
     unfolding grants_after
     next_sound = go r refl
       where
-        go : (x : Result Grant Refusal) → r ≡ x → T (catalogue_sound ns (grants_after x gs) ws')
+        go : (x : Result Grant (Refused Grant)) → r ≡ x → T (catalogue_sound ns (grants_after x gs) ws')
         go (Ok made) e = added_sound e
-        go (Err f) e = subst (λ us. T (catalogue_sound ns gs us)) (sym (refused_kept e)) held
+        go (Err f) e = subst (λ us. T (catalogue_sound ns gs us)) (sym (kept e)) held
 
     -- ---- and is the next catalogue of the definitions
 
@@ -410,11 +413,11 @@ module _ (ns : List ℕ) (count : ℕ) (bs : Bytes) (ws ws' : List ℕ) (r : Res
           taken : T (passes (D.grant_table (schema_of ns) catalogue bs)) → (g : G.GrantLine) → parse_as G.grant bs ≡ some g → next_catalogue (schema_of ns) catalogue bs ≡ catalogue ++ (resolve_grant (schema_of ns) g ∷ [])
           taken t g p = rw (T_true (passes (D.grant_table (schema_of ns) catalogue bs)) t, p)
 
-          go : (x : Result Grant Refusal) → r ≡ x → catalogue_of ns (grants_after x gs) ws' ≡ next_catalogue (schema_of ns) catalogue bs
+          go : (x : Result Grant (Refused Grant)) → r ≡ x → catalogue_of ns (grants_after x gs) ws' ≡ next_catalogue (schema_of ns) catalogue bs
           go (Ok made) e =
               let v = result_none (first line_checks) (sym here_said ∙ ap said_by e) in
               accepted_read e (λ g p. added e g p ∙ sym (taken (passes_first (D.grant_table (schema_of ns) catalogue bs) (there_said ∙ v)) g p))
           go (Err f) e =
-              let v = result_some (first line_checks) f (sym here_said ∙ ap said_by e) in
-              let k : passes (D.grant_table (schema_of ns) catalogue bs) ≡ false = stops (D.grant_table (schema_of ns) catalogue bs) f (there_said ∙ v) in
-              ap (catalogue_of ns gs) (refused_kept e) ∙ sym (rw k)
+              let v = result_some (first line_checks) f.refusal (sym here_said ∙ ap said_by e) in
+              let k : passes (D.grant_table (schema_of ns) catalogue bs) ≡ false = stops (D.grant_table (schema_of ns) catalogue bs) f.refusal (there_said ∙ v) in
+              ap (catalogue_of ns gs) (kept e) ∙ sym (rw k)

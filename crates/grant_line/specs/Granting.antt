@@ -4,7 +4,7 @@ use Rattle.std.proofs.Math.Option.{Option, none, some}
 use Rattle.std.proofs.Math.Seq.{paste}
 use Rattle.refusal.specs.Results.{result_of, giving, said_by, settled}
 use Rattle.refusal.specs.Checks.{Check, refuse, first}
-use Rattle.refusal.specs.declared.Refusal.{Refusal}
+use Rattle.refusal.specs.declared.Refused.{Refused}
 use Rattle.refusal.specs.declared.Refusal.TheVariants.{Lent}
 use Rattle.syntax.specs.Grammar as G
 use Rattle.syntax.specs.Grammar.{Bytes}
@@ -44,12 +44,12 @@ unfoldable pub with_words : List ℕ → ℕ → Option G.GrantLine → List ℕ
 with_words ns count o ws = paste ws (count * grant_words) (stored_of ns o (replicate grant_words 0)) (words_made ns o)
 
 -- the grants that are kept after the call: an accepted one behind the others
-unfoldable pub grants_after : Result Grant Refusal → List Grant → List Grant
+unfoldable pub grants_after : Result Grant (Refused Grant) → List Grant → List Grant
 grants_after (Ok g) gs = gs ++ (g ∷ [])
 grants_after (Err f) gs = gs
 
--- the first check that fails, and the words as they were; or the grant of the line, and the words with its conditions in the place of that number
-pub record Grants (ns : List ℕ) (count : ℕ) (bs : Bytes) (ws ws' : List ℕ) (r : Result Grant Refusal) : Type 0 where
+-- the first check that fails, no grant, and the words as they were; or the grant of the line, and the words with its conditions in the place of that number
+pub record Grants (ns : List ℕ) (count : ℕ) (bs : Bytes) (ws ws' : List ℕ) (r : Result Grant (Refused Grant)) : Type 0 where
   pub said : (gs : List M.Grant) → length gs ≡ count → said_by r ≡ result_of (first (grant_table ns gs ws bs))
-  pub given : r ≡ giving (said_by r) (grant_made ns (parse_as G.grant bs))
+  pub given : r ≡ giving (said_by r) (grant_made ns (parse_as G.grant bs)) no_grant
   pub left : ws' ≡ settled (said_by r) ws (with_words ns count (parse_as G.grant bs) ws)

@@ -15,7 +15,7 @@ use columns::{Columns, Streams};
 use conditions::Seen;
 use grant::Grant;
 use nodes::Node;
-use refusal::{Checks, Refusal};
+use refusal::{Checks, Refused};
 use text::{Line, Word};
 
 // Whose a grant is, and its right by number.
@@ -454,9 +454,14 @@ fn copy(words: &mut [u32], at: usize, from: &[u32], n: usize)
     words[at..at + n].copy_from_slice(&from[..n]);
 }
 
-// The grant line, where `count` grants were accepted before. Returns the grant, or the refusal. Leaves the words of its conditions in its place, and all others as they were;
-// refused, all words as they were.
-pub fn grant(names: &[u64], count: usize, line: &[u8], words: &mut [u32]) -> Result<Grant, Refusal>
+// The grant line, where `count` grants were accepted before. Returns the grant, or the refusal with a grant of zeros.
+// Leaves the words of its conditions in its place, and all others as they were; refused, all words as they were.
+pub fn grant(
+    names: &[u64],
+    count: usize,
+    line: &[u8],
+    words: &mut [u32],
+) -> Result<Grant, Refused<Grant>>
     ensures { Grants names.now count line.now words.old words.new result }
 {
     let mut local = [0u32; Grant::PLACE];
@@ -464,7 +469,7 @@ pub fn grant(names: &[u64], count: usize, line: &[u8], words: &mut [u32]) -> Res
     let mut checks = l.checks;
     checks.lent = !lendable(names, count, words.len());
     checks.bound = text::either(checks.bound, Grant::GRANTS <= count);
-    checks.result()?;
+    checks.result_holding(no_grant())?;
     let g = l.grant;
     copy(words, count * Grant::PLACE, &local, g.words as usize);
     Ok(g)

@@ -9,7 +9,7 @@ use Rattle.refusal.specs.Checks.{refuse, first}
 use Rattle.refusal.specs.declared.Refusal.TheVariants.{Lent}
 use Rattle.std.specs.Prelude.{Result, Err}
 use Rattle.refusal.specs.Results.{said_by, held_after}
-use Rattle.refusal.specs.declared.Refusal.{Refusal}
+use Rattle.refusal.specs.declared.Refused.{Refused}
 use Rattle.refusal.proofs.Results.{result_some}
 use Rattle.refusal.proofs.Verdicts.{never_first}
 use Rattle.lists.specs.Lists.{every}
@@ -55,7 +55,7 @@ module _ (s : Store) (ok : Sound s) where
         record { memory = k.sound; grants = catalogue_later l s.grants s.words ok.grants; caller = ok.caller },
       )
 
-  after_grant : (bs : Bytes) (ws : List ℕ) (r : Result Grant Refusal) → Grants s.memory.names (length s.grants) bs s.words ws r
+  after_grant : (bs : Bytes) (ws : List ℕ) (r : Result Grant (Refused Grant)) → Grants s.memory.names (length s.grants) bs s.words ws r
       → (fixture_of (with_grants s (grants_after r s.grants) ws) ≡ happen (fixture_of s) (grant bs)) × Sound (with_grants s (grants_after r s.grants) ws)
   unfolding fixture_of with_grants happen record_of
   after_grant bs ws r g =
@@ -64,7 +64,7 @@ module _ (s : Store) (ok : Sound s) where
         record { memory = ok.memory; grants = next_sound s.memory.names (length s.grants) bs s.words ws r g s.grants refl ok.grants; caller = ok.caller },
       )
 
-  after_caller : (bs : Bytes) → (fixture_of (with_caller s (held_after (identified s.caller bs) s.caller)) ≡ happen (fixture_of s) (caller bs)) × Sound (with_caller s (held_after (identified s.caller bs) s.caller))
+  after_caller : (bs : Bytes) → (fixture_of (with_caller s (held_after (identified s.caller bs))) ≡ happen (fixture_of s) (caller bs)) × Sound (with_caller s (held_after (identified s.caller bs)))
   unfolding fixture_of with_caller happen
   after_caller bs = (
     ap (λ w. made (record_of s.memory) (catalogue_of s.memory.names s.grants s.words) w) (left_means s.caller bs),
@@ -75,7 +75,7 @@ pub step : {e : Event} {s t : Store} → Happens e s t → Sound s → (fixture_
 step (called {s} {c} {m} p) ok = after_call s ok c m p
 step (granted {s} {bs} {ws} {r} g) ok = after_grant s ok bs ws r g
 step (named {s} {bs} {r} e) ok =
-    subst (λ w. (fixture_of (with_caller s w) ≡ happen (fixture_of s) (caller bs)) × Sound (with_caller s w)) (sym (ap (λ x. held_after x s.caller) e)) (after_caller s ok bs)
+    subst (λ w. (fixture_of (with_caller s w) ≡ happen (fixture_of s) (caller bs)) × Sound (with_caller s w)) (sym (ap held_after e)) (after_caller s ok bs)
 step (asked {s}) ok = (unfold happen in refl, ok)
 
 -- ---- a list of them
@@ -129,12 +129,12 @@ module _ {s t : Store} {es : List Event} (f : Fresh s) (r : Trace s es t) where
       let x = record_of t.memory in
       never_first 12 (call_checks x c) Lent (call_never x c) (result_some (first (call_checks x c)) Lent (sym k.said ∙ e)) refl
 
-  pub never_lent_grant : {bs : Bytes} {ws : List ℕ} {g : Result Grant Refusal} → Grants t.memory.names (length t.grants) bs t.words ws g → g ≡ Err Lent → ⊥
-  unfolding grant_checks refuse every said_by
+  pub never_lent_grant : {bs : Bytes} {ws : List ℕ} {g : Result Grant (Refused Grant)} → Grants t.memory.names (length t.grants) bs t.words ws g → said_by g ≡ Err Lent → ⊥
+  unfolding grant_checks refuse every
   never_lent_grant {bs} {ws} {g} p e =
       let names = (sound_parts t.memory sound_then.memory.lent).names in
       let said = here_said t.memory.names (length t.grants) bs t.words ws g p t.grants refl sound_then.grants names in
       let d = schema_of t.memory.names in
       let gs = catalogue_of t.memory.names t.grants t.words in
       never_first 12 (written 0 bs (parse_as G.grant bs) (grant_checks d gs)) Lent (never_written 12 0 bs (parse_as G.grant bs) (grant_checks d gs) tt tt (λ a. tt))
-      (result_some (first (written 0 bs (parse_as G.grant bs) (grant_checks d gs))) Lent (sym said ∙ ap said_by e)) refl
+      (result_some (first (written 0 bs (parse_as G.grant bs) (grant_checks d gs))) Lent (sym said ∙ e)) refl

@@ -11,7 +11,7 @@ use Rattle.std.specs.Prelude.{Result}
 use Rattle.refusal.specs.Results.{Said, result_of, giving, held_after, settled}
 use Rattle.refusal.proofs.Results.{said_giving}
 use Rattle.refusal.specs.Checks.{refuse, first}
-use Rattle.refusal.specs.declared.Refusal.{Refusal}
+use Rattle.refusal.specs.declared.Refused.{Refused}
 use Rattle.refusal.specs.declared.Refusal.TheVariants.{Lent}
 use Rattle.lists.specs.Lists.{every}
 use Rattle.syntax.specs.Grammar as G
@@ -49,12 +49,12 @@ some_left (clear_line bs) s = (_, clear_lined refl)
 
 one_left : {c : Call} {s t u : State} → Promise c s t → Promise c s u → t ≡ u
 one_left (declared {s} {bs} d) (declared k) = ap (with_names s) (d.left ∙ ap (λ v. settled v s.names (with_stream s.names (parse_as G.stream bs))) (d.said ∙ sym k.said) ∙ sym k.left)
-one_left (clocked {s} d) (clocked k) = ap (λ r. with_ledger s (held_after r s.ledger)) (d ∙ sym k)
+one_left (clocked {s} d) (clocked k) = ap (λ r. with_ledger s (held_after r)) (d ∙ sym k)
 one_left (rowed {s} {t} {n} {vs} d) (rowed k) = d.left ∙ ap (λ v. settled v s (with_row s n vs)) (d.said ∙ sym k.said) ∙ sym k.left
-one_left (cleared {s} d) (cleared k) = ap (λ r. with_ledger s (held_after r s.ledger)) (d ∙ sym k)
-one_left (clock_lined {s} d) (clock_lined k) = ap (λ r. with_ledger s (held_after r s.ledger)) (d ∙ sym k)
+one_left (cleared {s} d) (cleared k) = ap (λ r. with_ledger s (held_after r)) (d ∙ sym k)
+one_left (clock_lined {s} d) (clock_lined k) = ap (λ r. with_ledger s (held_after r)) (d ∙ sym k)
 one_left (row_lined {s} {t} {bs} d) (row_lined k) = d.left ∙ ap (λ v. settled v s (with_row_line s (parse_as G.row bs))) (d.said ∙ sym k.said) ∙ sym k.left
-one_left (clear_lined {s} d) (clear_lined k) = ap (λ r. with_ledger s (held_after r s.ledger)) (d ∙ sym k)
+one_left (clear_lined {s} d) (clear_lined k) = ap (λ r. with_ledger s (held_after r)) (d ∙ sym k)
 
 -- ---- grants
 
@@ -78,23 +78,23 @@ module _ (ns : List ℕ) (count : ℕ) (bs : Bytes) (ws : List ℕ) where
   abbrev said_granted : Said
   said_granted = result_of (first (grant_table ns as_many ws bs))
 
-  some_grant : (us : List ℕ) × (r : Result Grant Refusal) × Grants ns count bs ws us r
+  some_grant : (us : List ℕ) × (r : Result Grant (Refused Grant)) × Grants ns count bs ws us r
   some_grant =
       let g = grant_made ns (parse_as G.grant bs) in
-      let v = said_giving said_granted g in (
+      let v = said_giving said_granted g no_grant in (
         settled said_granted ws (with_words ns count (parse_as G.grant bs) ws),
-        giving said_granted g,
+        giving said_granted g no_grant,
         record {
           said = λ gs e. v ∙ ap (λ cs. result_of (first cs)) (table_many ns as_many gs ws bs (length-replicate count (grant_of ns no_grant []) ∙ sym e));
-          given = ap (λ u. giving u g) (sym v);
+          given = ap (λ u. giving u g no_grant) (sym v);
           left = ap (λ u. settled u ws (with_words ns count (parse_as G.grant bs) ws)) (sym v);
         },
       )
 
-  one_grant : {us ts : List ℕ} {r q : Result Grant Refusal} → Grants ns count bs ws us r → Grants ns count bs ws ts q → (r ≡ q) × (us ≡ ts)
+  one_grant : {us ts : List ℕ} {r q : Result Grant (Refused Grant)} → Grants ns count bs ws us r → Grants ns count bs ws ts q → (r ≡ q) × (us ≡ ts)
   one_grant g h =
       let e = g.said as_many (length-replicate count (grant_of ns no_grant [])) ∙ sym (h.said as_many (length-replicate count (grant_of ns no_grant []))) in (
-        g.given ∙ ap (λ v. giving v (grant_made ns (parse_as G.grant bs))) e ∙ sym h.given,
+        g.given ∙ ap (λ v. giving v (grant_made ns (parse_as G.grant bs)) no_grant) e ∙ sym h.given,
         g.left ∙ ap (λ v. settled v ws (with_words ns count (parse_as G.grant bs) ws)) e ∙ sym h.left,
       )
 
@@ -118,7 +118,7 @@ one_outcome (called {s} p) (called q) = ap (with_memory s) (one_left p q)
 one_outcome (granted {s} {bs} g) (granted h) =
     let (e, k) = one_grant s.memory.names (length s.grants) bs s.words g h in
     ap₂ (λ r ws. with_grants s (grants_after r s.grants) ws) e k
-one_outcome (named {s} d) (named k) = ap (λ r. with_caller s (held_after r s.caller)) (d ∙ sym k)
+one_outcome (named {s} d) (named k) = ap (λ r. with_caller s (held_after r)) (d ∙ sym k)
 one_outcome asked asked = refl
 
 pub one_trace : {es : List Event} {s t u : Store} → Trace s es t → Trace s es u → t ≡ u

@@ -10,7 +10,7 @@ use lib.ListN.{length-set}
 use Rattle.std.specs.Prelude.{Result, Ok}
 use Rattle.refusal.specs.Results.{Said, result_of, giving, said_by, held_after, settled}
 use Rattle.refusal.specs.Checks.{refuse, first, passes}
-use Rattle.refusal.specs.declared.Refusal.{Refusal}
+use Rattle.refusal.specs.declared.Refused.{Refused}
 use Rattle.refusal.specs.declared.Refusal.TheVariants.{Lent}
 use Rattle.refusal.proofs.Passing.{pass_first, pass_rest, pass_test, pass_put, first_skip}
 use Rattle.refusal.proofs.Results.{Told, accepted, refused, told, said_giving, held_giving, settled_old, settled_new}
@@ -77,17 +77,17 @@ made c s t v a ok h e kept done = go (told v (call_checks (record_of s) c) said)
 
 -- ---- calls on the ledger alone
 
-ledger_made : (c : Call) (s : State) (new : Ledger) (r : Result Ledger Refusal) → Sound s
-    → r ≡ giving (result_of (first (refuse Lent (not (ledger_sound s.ledger)) ∷ call_checks (record_of s) c))) new
+ledger_made : (c : Call) (s : State) (new : Ledger) (r : Result Ledger (Refused Ledger)) → Sound s
+    → r ≡ giving (result_of (first (refuse Lent (not (ledger_sound s.ledger)) ∷ call_checks (record_of s) c))) new s.ledger
     → (T (passes (call_checks (record_of s) c)) → (record_of (with_ledger s new) ≡ effect (record_of s) c) × Held (with_ledger s new))
-    → Step c s (with_ledger s (held_after r s.ledger)) (said_by r)
+    → Step c s (with_ledger s (held_after r)) (said_by r)
 ledger_made c s new r ok e done =
     let v : Said = result_of (first (refuse Lent (not (ledger_sound s.ledger)) ∷ call_checks (record_of s) c)) in
-    let said : said_by r ≡ v = ap said_by e ∙ said_giving v new in
-    let left : held_after r s.ledger ≡ settled v s.ledger new = ap (λ x. held_after x s.ledger) e ∙ held_giving v new s.ledger in
-    made c s (with_ledger s (held_after r s.ledger)) (said_by r) (ledger_sound s.ledger) ok (sound_parts s ok.lent).bounds said
+    let said : said_by r ≡ v = ap said_by e ∙ said_giving v new s.ledger in
+    let left : held_after r ≡ settled v s.ledger new = ap held_after e ∙ held_giving v new s.ledger in
+    made c s (with_ledger s (held_after r)) (said_by r) (ledger_sound s.ledger) ok (sound_parts s ok.lent).bounds said
     (λ n. ap (with_ledger s) (left ∙ settled_old v s.ledger new (λ a. n (said ∙ a))))
-    (λ a p. let q : with_ledger s new ≡ with_ledger s (held_after r s.ledger) = ap (with_ledger s) (sym (left ∙ settled_new v s.ledger new (sym said ∙ a))) in
+    (λ a p. let q : with_ledger s new ≡ with_ledger s (held_after r) = ap (with_ledger s) (sym (left ∙ settled_new v s.ledger new (sym said ∙ a))) in
     subst (λ t. (record_of t ≡ effect (record_of s) c) × Held t) q (done p))
 
 -- a later clock
@@ -101,20 +101,20 @@ clock_made s n ok p =
 clear_made : (s : State) → Sound s → Held (emptied s)
 clear_made s ok = record { counts = refl; lent = clear_sound s ok.lent }
 
-after_clock : (s : State) (n : ℤ) (r : Result Ledger Refusal) → Sound s → r ≡ clock_call s.ledger n → Step (clock n) s (with_ledger s (held_after r s.ledger)) (said_by r)
+after_clock : (s : State) (n : ℤ) (r : Result Ledger (Refused Ledger)) → Sound s → r ≡ clock_call s.ledger n → Step (clock n) s (with_ledger s (held_after r)) (said_by r)
 unfolding clock_call clock_table call_checks record_of
 after_clock s n r ok e = ledger_made (clock n) s _ r ok e (λ p. (unfold effect in clock_effect s n, clock_made s n ok p))
 
-after_clear : (s : State) (r : Result Ledger Refusal) → Sound s → r ≡ clear_call s.ledger → Step clear s (with_ledger s (held_after r s.ledger)) (said_by r)
+after_clear : (s : State) (r : Result Ledger (Refused Ledger)) → Sound s → r ≡ clear_call s.ledger → Step clear s (with_ledger s (held_after r)) (said_by r)
 unfolding clear_call clear_table call_checks record_of
 after_clear s r ok e = ledger_made clear s _ r ok e (λ p. (unfold effect in clear_effect s, clear_made s ok))
 
-after_clock_line : (s : State) (bs : Bytes) (r : Result Ledger Refusal) → Sound s → r ≡ clock_line_call s.ledger bs → Step (clock_line bs) s (with_ledger s (held_after r s.ledger)) (said_by r)
+after_clock_line : (s : State) (bs : Bytes) (r : Result Ledger (Refused Ledger)) → Sound s → r ≡ clock_line_call s.ledger bs → Step (clock_line bs) s (with_ledger s (held_after r)) (said_by r)
 unfolding clock_line_call clock_line_table call_checks record_of
 after_clock_line s bs r ok e =
     ledger_made (clock_line bs) s _ r ok e (λ p. written_passes 0 bs (parse_as G.clock bs) _ p (λ n f q. (unfold effect with_clock in rw f (clock_effect s n), unfold with_clock in rw f (clock_made s n ok q))))
 
-after_clear_line : (s : State) (bs : Bytes) (r : Result Ledger Refusal) → Sound s → r ≡ clear_line_call s.ledger bs → Step (clear_line bs) s (with_ledger s (held_after r s.ledger)) (said_by r)
+after_clear_line : (s : State) (bs : Bytes) (r : Result Ledger (Refused Ledger)) → Sound s → r ≡ clear_line_call s.ledger bs → Step (clear_line bs) s (with_ledger s (held_after r)) (said_by r)
 unfolding clear_line_call clear_line_table call_checks record_of
 after_clear_line s bs r ok e = ledger_made (clear_line bs) s _ r ok e (λ p. (unfold effect in clear_effect s, clear_made s ok))
 

@@ -1,7 +1,7 @@
 -- All that goes from call to call, and what calls and lines of every kind leave of it.
 use Rattle.std.specs.Prelude.{◌≡◌, List, [], ◌∷◌, true, ℕ, ◌≤◌, T, length, Result}
 use Rattle.refusal.specs.Results.{held_after}
-use Rattle.refusal.specs.declared.Refusal.{Refusal}
+use Rattle.refusal.specs.declared.Refused.{Refused}
 use Rattle.syntax.specs.Grammar.{Bytes}
 use Rattle.calls.specs.Calls.{Call}
 use Rattle.calls.specs.Events.{Fixture, Event, call, grant, caller, query}
@@ -41,9 +41,9 @@ with_caller s w = record { memory = s.memory; grants = s.grants; words = s.words
 -- An accepted grant is kept behind the others; so many as there are go in with the call.
 pub data Happens : Event → Store → Store → Type 0 where
   called : {s : Store} {c : Call} {m : State} → Promise c s.memory m → Happens (call c) s (with_memory s m)
-  granted : {s : Store} {bs : Bytes} {ws : List ℕ} {r : Result Grant Refusal} → Grants s.memory.names (length s.grants) bs s.words ws r
+  granted : {s : Store} {bs : Bytes} {ws : List ℕ} {r : Result Grant (Refused Grant)} → Grants s.memory.names (length s.grants) bs s.words ws r
       → Happens (grant bs) s (with_grants s (grants_after r s.grants) ws)
-  named : {s : Store} {bs : Bytes} {r : Result Caller Refusal} → r ≡ identified s.caller bs → Happens (caller bs) s (with_caller s (held_after r s.caller))
+  named : {s : Store} {bs : Bytes} {r : Result Caller (Refused Caller)} → r ≡ identified s.caller bs → Happens (caller bs) s (with_caller s (held_after r))
   asked : {s : Store} → Happens query s s
 
 -- each call gets what the last one returned or left

@@ -1,7 +1,7 @@
 -- The calls on the record: what goes from call to call, and what each call promises of it.
 use Rattle.std.specs.Prelude.{◌≡◌, List, ℕ, ◌≤◌, ℤ, T, eqb, length, Result}
 use Rattle.refusal.specs.Results.{Said, said_by, held_after}
-use Rattle.refusal.specs.declared.Refusal.{Refusal}
+use Rattle.refusal.specs.declared.Refused.{Refused}
 use Rattle.lists.specs.Lists.{every}
 use Rattle.syntax.specs.Grammar.{Bytes}
 use Rattle.syntax.specs.Limits.{max_streams}
@@ -21,12 +21,12 @@ State = Memory
 -- The contracts of the calls, as the code has them: any text, any time of 64 bits, any row number and values.
 pub data Promise : Call → State → State → Type 0 where
   declared : {s : State} {bs : Bytes} {ns : List ℕ} {v : Said} → Declares s.names bs ns v → Promise (stream bs) s (with_names s ns)
-  clocked : {s : State} {t : ℤ} {r : Result Ledger Refusal} → r ≡ clock_call s.ledger t → Promise (clock t) s (with_ledger s (held_after r s.ledger))
+  clocked : {s : State} {t : ℤ} {r : Result Ledger (Refused Ledger)} → r ≡ clock_call s.ledger t → Promise (clock t) s (with_ledger s (held_after r))
   rowed : {s t : State} {n : ℕ} {vs : List ℤ} {v : Said} → RowCall s n vs t v → Promise (row n vs) s t
-  cleared : {s : State} {r : Result Ledger Refusal} → r ≡ clear_call s.ledger → Promise clear s (with_ledger s (held_after r s.ledger))
-  clock_lined : {s : State} {bs : Bytes} {r : Result Ledger Refusal} → r ≡ clock_line_call s.ledger bs → Promise (clock_line bs) s (with_ledger s (held_after r s.ledger))
+  cleared : {s : State} {r : Result Ledger (Refused Ledger)} → r ≡ clear_call s.ledger → Promise clear s (with_ledger s (held_after r))
+  clock_lined : {s : State} {bs : Bytes} {r : Result Ledger (Refused Ledger)} → r ≡ clock_line_call s.ledger bs → Promise (clock_line bs) s (with_ledger s (held_after r))
   row_lined : {s t : State} {bs : Bytes} {v : Said} → RowLineCall s bs t v → Promise (row_line bs) s t
-  clear_lined : {s : State} {bs : Bytes} {r : Result Ledger Refusal} → r ≡ clear_line_call s.ledger bs → Promise (clear_line bs) s (with_ledger s (held_after r s.ledger))
+  clear_lined : {s : State} {bs : Bytes} {r : Result Ledger (Refused Ledger)} → r ≡ clear_line_call s.ledger bs → Promise (clear_line bs) s (with_ledger s (held_after r))
 
 -- what a call says
 unfoldable pub said_in : {c : Call} {s t : State} → Promise c s t → Said

@@ -5,7 +5,7 @@ use Rattle.refusal.specs.Results.{Said, result_of, giving, settled}
 use Rattle.refusal.specs.Checks.{Check, refuse, first, table}
 use Rattle.refusal.specs.declared.Checks.{Checks}
 use Rattle.refusal.specs.declared.Refusal.TheVariants.{Lent}
-use Rattle.refusal.specs.declared.Refusal.{Refusal}
+use Rattle.refusal.specs.declared.Refused.{Refused}
 use Rattle.syntax.specs.Limits.{max_streams, max_columns, max_rows, natural}
 use Rattle.calls.specs.Tables.{clock_checks, row_checks}
 use Rattle.text.specs.Words.{Found}
@@ -38,15 +38,15 @@ clock_shown l t c =
       room = c.room;
     }
 
-unfoldable pub clocked : Ledger → Found ℕ → Checks → Result Ledger Refusal
-clocked l t c = giving (result_of (first (table (clock_shown l t c)))) (record { clock = unwrap_or t 0; rows = l.rows })
+unfoldable pub clocked : Ledger → Found ℕ → Checks → Result Ledger (Refused Ledger)
+clocked l t c = giving (result_of (first (table (clock_shown l t c)))) (record { clock = unwrap_or t 0; rows = l.rows }) l
 
 -- the call
 unfoldable pub clock_table : Ledger → ℤ → List Check
 clock_table l t = refuse Lent (not (ledger_sound l)) ∷ clock_checks l.clock t
 
-unfoldable pub clock_call : Ledger → ℤ → Result Ledger Refusal
-clock_call l t = giving (result_of (first (clock_table l t))) (record { clock = natural t; rows = l.rows })
+unfoldable pub clock_call : Ledger → ℤ → Result Ledger (Refused Ledger)
+clock_call l t = giving (result_of (first (clock_table l t))) (record { clock = natural t; rows = l.rows }) l
 
 -- ---- clear
 
@@ -68,15 +68,15 @@ clear_shown l c =
       room = c.room;
     }
 
-unfoldable pub cleared : Ledger → Checks → Result Ledger Refusal
-cleared l c = giving (result_of (first (table (clear_shown l c)))) (record { clock = l.clock; rows = replicate max_streams 0 })
+unfoldable pub cleared : Ledger → Checks → Result Ledger (Refused Ledger)
+cleared l c = giving (result_of (first (table (clear_shown l c)))) (record { clock = l.clock; rows = replicate max_streams 0 }) l
 
 -- the call
 unfoldable pub clear_table : Ledger → List Check
 clear_table l = refuse Lent (not (ledger_sound l)) ∷ []
 
-unfoldable pub clear_call : Ledger → Result Ledger Refusal
-clear_call l = giving (result_of (first (clear_table l))) (record { clock = l.clock; rows = replicate max_streams 0 })
+unfoldable pub clear_call : Ledger → Result Ledger (Refused Ledger)
+clear_call l = giving (result_of (first (clear_table l))) (record { clock = l.clock; rows = replicate max_streams 0 }) l
 
 -- ---- row
 

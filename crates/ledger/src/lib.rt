@@ -9,7 +9,7 @@ ghost use Rattle.syntax.specs.Limits.{max_streams, max_columns, max_rows, is_val
 ghost use Rattle.ledger.specs.Records.{places_size, values_size, count_in, ledger_sound, undeclared_empty, times_steady, streams_steady, rows_sound, memory_sound};
 ghost use Rattle.ledger.specs.Calls.{begun, clocked, clock_call, cleared, clear_call, row_place, with_rows, row_shown, Enters, Stored, RowCall};
 
-use refusal::{Checks, Refusal};
+use refusal::{Checks, Refused};
 use schema::Stream;
 use text::{Number, Time};
 
@@ -75,7 +75,7 @@ impl Ledger {
     }
 
     // Returns what `clock` does for a time, None where a number is none, after what a line showed (`checks`).
-    pub fn clock_with(self, t: Option<u32>, checks: Checks) -> Result<Ledger, Refusal>
+    pub fn clock_with(self, t: Option<u32>, checks: Checks) -> Result<Ledger, Refused<Ledger>>
         ensures { result ≡ clocked self t checks }
     {
         let time = t.unwrap_or(0);
@@ -83,14 +83,14 @@ impl Ledger {
         c.lent = !self.sound();
         c.bound |= t.is_none();
         c.back = time < self.clock;
-        c.result()?;
+        c.result_holding(self)?;
         let mut next = self;
         next.clock = time;
         Ok(next)
     }
 
-    // The clock call. Returns the ledger with the time, which may be any number, or the refusal.
-    pub fn clock(self, t: i64) -> Result<Ledger, Refusal>
+    // The clock call. Returns the ledger with the time, which may be any number, or the refusal with the ledger as it was.
+    pub fn clock(self, t: i64) -> Result<Ledger, Refused<Ledger>>
         ensures { result ≡ clock_call self t }
     {
         let n = Number { value: t, next: 0 };
@@ -98,19 +98,19 @@ impl Ledger {
     }
 
     // Returns what `clear` does, after what a line showed (`checks`).
-    pub fn clear_with(self, checks: Checks) -> Result<Ledger, Refusal>
+    pub fn clear_with(self, checks: Checks) -> Result<Ledger, Refused<Ledger>>
         ensures { result ≡ cleared self checks }
     {
         let mut c = checks;
         c.lent = !self.sound();
-        c.result()?;
+        c.result_holding(self)?;
         let mut next = self;
         next.rows = [0; Stream::MOST];
         Ok(next)
     }
 
-    // The clear call. Returns the ledger with no rows and its clock, or the refusal.
-    pub fn clear(self) -> Result<Ledger, Refusal>
+    // The clear call. Returns the ledger with no rows and its clock, or the refusal with the ledger as it was.
+    pub fn clear(self) -> Result<Ledger, Refused<Ledger>>
         ensures { result ≡ clear_call self }
     {
         self.clear_with(Checks::new())
@@ -311,17 +311,17 @@ impl Ledger {
         times: &mut [u32],
         values: &mut [i32],
         checks: Checks,
-    ) -> Result<Ledger, Refusal>
-        ensures { Enters (record { ledger = self; names = names.now; times = times.old; values = values.old }) s vs.now checks (record { ledger = held_after result self; names = names.now; times = times.new; values = values.new }) (said_by result) }
+    ) -> Result<Ledger, Refused<Ledger>>
+        ensures { Enters (record { ledger = self; names = names.now; times = times.old; values = values.old }) s vs.now checks (record { ledger = held_after result; names = names.now; times = times.new; values = values.new }) (said_by result) }
     {
         let c = self.row_checks(names, s, vs.len(), times, values, checks);
-        c.result()?;
+        c.result_holding(self)?;
         self.store(s, vs, times, values);
         Ok(self.with_row(s))
     }
 
-    // The row call: one row more of the stream of a number. Returns the ledger with one row more, or the refusal. Leaves the clock in its time and the values in its places,
-    // and all else as it was; refused, all places as they were.
+    // The row call: one row more of the stream of a number. Returns the ledger with one row more, or the refusal with the ledger as it was.
+    // Leaves the clock in its time and the values in its places, and all else as it was; refused, all places as they were.
     pub fn row(
         self,
         names: &[u64],
@@ -329,8 +329,8 @@ impl Ledger {
         vs: &[i32],
         times: &mut [u32],
         values: &mut [i32],
-    ) -> Result<Ledger, Refusal>
-        ensures { RowCall (record { ledger = self; names = names.now; times = times.old; values = values.old }) s vs.now (record { ledger = held_after result self; names = names.now; times = times.new; values = values.new }) (said_by result) }
+    ) -> Result<Ledger, Refused<Ledger>>
+        ensures { RowCall (record { ledger = self; names = names.now; times = times.old; values = values.old }) s vs.now (record { ledger = held_after result; names = names.now; times = times.new; values = values.new }) (said_by result) }
     {
         known(vs);
         self.row_with(names, s, vs, times, values, Checks::new())

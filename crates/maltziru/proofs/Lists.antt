@@ -7,6 +7,7 @@ use lib.Dec.{eqb}
 use Rattle.std.specs.Prelude.{Result, Ok, Err}
 use Rattle.refusal.specs.Results.{said_by, held_after}
 use Rattle.refusal.specs.declared.Refusal.{Refusal}
+use Rattle.refusal.specs.declared.Refused.{Refused}
 use Rattle.refusal.specs.declared.Refusal.TheVariants.{Lent, Malformed, Bound, Undeclared, Repeated, Misplaced, WindowSize, ClockBack, StreamFull, NoRoute, ManyRoutes, NoRoom}
 use Rattle.refusal.specs.Numbers.{number_of}
 use Rattle.calls.specs.Calls.{Call}
@@ -43,10 +44,10 @@ some_number ManyRoutes = refl
 some_number NoRoom = refl
 
 -- a grant is kept where it is accepted
-pub kept_after : (r : Result Grant Refusal) (gs : List Grant) → grants_kept (grant_said r).refusal gs (grant_said r).grant ≡ grants_after r gs
+pub kept_after : (r : Result Grant (Refused Grant)) (gs : List Grant) → grants_kept (grant_said r).refusal gs (grant_said r).grant ≡ grants_after r gs
 unfolding grants_kept grants_after grant_said said_by held_after
 kept_after (Ok g) gs = refl
-kept_after (Err f) gs = rw (some_number f) refl
+kept_after (Err f) gs = rw (some_number f.refusal) refl
 
 -- what a call on the record leaves, by its ledger
 relaid : {c : Call} (m : Memory) {l k : Ledger} → l ≡ k → Promise c m (with_ledger m l) → Promise c m (with_ledger m k)
@@ -54,12 +55,12 @@ relaid {c} m h = subst (λ l. Promise c m (with_ledger m l)) h
 
 pub promised : {c : Call} {m n : Memory} {k : ℕ} → OnRecord c m n k → Promise c m n
 promised (C.stream_called c) = declared c.call
-promised (C.clock_called {m} {t} {r} h) = relaid m (same_ledger m.ledger (clock_call m.ledger t) h) (clocked refl)
+promised (C.clock_called {m} {t} {r} h) = relaid m (same_ledger (clock_call m.ledger t) h) (clocked refl)
 promised (C.row_called c) = rowed c.call
-promised (C.clear_called {m} {r} h) = relaid m (same_ledger m.ledger (clear_call m.ledger) h) (cleared refl)
-promised (C.clock_line_called {m} {bs} {r} h) = relaid m (same_ledger m.ledger (clock_line_call m.ledger bs) h) (clock_lined refl)
+promised (C.clear_called {m} {r} h) = relaid m (same_ledger (clear_call m.ledger) h) (cleared refl)
+promised (C.clock_line_called {m} {bs} {r} h) = relaid m (same_ledger (clock_line_call m.ledger bs) h) (clock_lined refl)
 promised (C.row_line_called c) = row_lined c.call
-promised (C.clear_line_called {m} {bs} {r} h) = relaid m (same_ledger m.ledger (clear_line_call m.ledger bs) h) (clear_lined refl)
+promised (C.clear_line_called {m} {bs} {r} h) = relaid m (same_ledger (clear_line_call m.ledger bs) h) (clear_lined refl)
 
 pub recorded : {cs : List Call} {m u : Memory} → Recorded m cs u → D.Recorded m cs u
 recorded C.stop = D.stop

@@ -4,6 +4,7 @@ use mathlib.Core.List.{List}
 use mathlib.Core.Option.{Option, none, some}
 use Prim.Native.Nat.{ℕ}
 use Rattle.refusal.specs.declared.Refusal.{Refusal}
+use Rattle.refusal.specs.declared.Refused.{Refused}
 use Rattle.std.specs.Prelude.{Result, Ok, Err}
 use Rattle.refusal.specs.Results.{Said, result_of, said_by, settled}
 use Rattle.refusal.proofs.Results.{said_giving, held_giving, settled_old}
@@ -43,18 +44,18 @@ said_first cs = by_result (first cs)
 record_said : {c : Call} {m m' : Memory} {n : ℕ} → OnRecord c m m' n → n ≡ said (result_of (first (record_table c m)))
 unfolding record_table clock_call clear_call clock_line_call clear_line_call
 record_said (C.stream_called c) = c.says ∙ ap said c.call.said
-record_said (C.clock_called {m} {t} {r} h) = same_number m.ledger (clock_call m.ledger t) h ∙ ap said (said_giving _ _)
+record_said (C.clock_called {m} {t} {r} h) = same_number (clock_call m.ledger t) h ∙ ap said (said_giving _ _ _)
 record_said (C.row_called c) = c.says ∙ ap said c.call.said
-record_said (C.clear_called {m} {r} h) = same_number m.ledger (clear_call m.ledger) h ∙ ap said (said_giving _ _)
-record_said (C.clock_line_called {m} {bs} {r} h) = same_number m.ledger (clock_line_call m.ledger bs) h ∙ ap said (said_giving _ _)
+record_said (C.clear_called {m} {r} h) = same_number (clear_call m.ledger) h ∙ ap said (said_giving _ _ _)
+record_said (C.clock_line_called {m} {bs} {r} h) = same_number (clock_line_call m.ledger bs) h ∙ ap said (said_giving _ _ _)
 record_said (C.row_line_called c) = c.says ∙ ap said c.call.said
-record_said (C.clear_line_called {m} {bs} {r} h) = same_number m.ledger (clear_line_call m.ledger bs) h ∙ ap said (said_giving _ _)
+record_said (C.clear_line_called {m} {bs} {r} h) = same_number (clear_line_call m.ledger bs) h ∙ ap said (said_giving _ _ _)
 
 says : {e : Event} {s t : Store} {n : ℕ} → Called e s t n → (e ≡ query → ⊥) → n ≡ said (result_of (first (table_of e s)))
 unfolding table_of identified grant_said caller_said
 says (C.record_called c) o = record_said c
 says (C.grant_called {s} {bs} {ws} {r} c) o = ap (λ (x : GrantReply). x.refusal) c.says ∙ ap said (c.call.said _ (catalogue_length s.memory.names s.grants s.words))
-says (C.caller_called {s} {bs} {r} h) o = ap (λ (x : CallerReply). x.refusal) h ∙ ap said (said_giving _ _)
+says (C.caller_called {s} {bs} {r} h) o = ap (λ (x : CallerReply). x.refusal) h ∙ ap said (said_giving _ _ _)
 says (C.ask_called gs ws w bs cells h) o = absurd (o refl)
 says (C.line_called gs ws w n bs out h) o = absurd (o refl)
 
@@ -66,7 +67,7 @@ says_first {e} {s} c o = says c o ∙ said_first (table_of e s)
 same : {A : Type 0} (v : Said) (old new : A) → (said v ≡ 0 → ⊥) → settled v old new ≡ old
 same v old new ne = settled_old v old new (λ a. ne (ap said a))
 
-same_grants : (r : Result Grant Refusal) (gs : List Grant) → (said (said_by r) ≡ 0 → ⊥) → grants_after r gs ≡ gs
+same_grants : (r : Result Grant (Refused Grant)) (gs : List Grant) → (said (said_by r) ≡ 0 → ⊥) → grants_after r gs ≡ gs
 unfolding said_by grants_after
 same_grants (Ok g) gs ne = absurd (ne refl)
 same_grants (Err f) gs ne = refl
@@ -80,18 +81,18 @@ unfolding clock_call clear_call clock_line_call clear_line_call
 record_stays (C.stream_called {m} c) ne = ap (with_names m) (c.call.left ∙ same c.verdict _ _ (other c.says ne))
 record_stays (C.clock_called {m} {t} {r} h) ne =
     let e = clock_call m.ledger t in
-    ap (with_ledger m) (sym (same_ledger m.ledger e h) ∙ held_giving _ _ m.ledger ∙ same _ _ _ (other (same_number m.ledger e h ∙ ap said (said_giving _ _)) ne))
+    ap (with_ledger m) (sym (same_ledger e h) ∙ held_giving _ _ _ ∙ same _ _ _ (other (same_number e h ∙ ap said (said_giving _ _ _)) ne))
 record_stays (C.row_called c) ne = c.call.left ∙ same c.verdict _ _ (other c.says ne)
 record_stays (C.clear_called {m} {r} h) ne =
     let e = clear_call m.ledger in
-    ap (with_ledger m) (sym (same_ledger m.ledger e h) ∙ held_giving _ _ m.ledger ∙ same _ _ _ (other (same_number m.ledger e h ∙ ap said (said_giving _ _)) ne))
+    ap (with_ledger m) (sym (same_ledger e h) ∙ held_giving _ _ _ ∙ same _ _ _ (other (same_number e h ∙ ap said (said_giving _ _ _)) ne))
 record_stays (C.clock_line_called {m} {bs} {r} h) ne =
     let e = clock_line_call m.ledger bs in
-    ap (with_ledger m) (sym (same_ledger m.ledger e h) ∙ held_giving _ _ m.ledger ∙ same _ _ _ (other (same_number m.ledger e h ∙ ap said (said_giving _ _)) ne))
+    ap (with_ledger m) (sym (same_ledger e h) ∙ held_giving _ _ _ ∙ same _ _ _ (other (same_number e h ∙ ap said (said_giving _ _ _)) ne))
 record_stays (C.row_line_called c) ne = c.call.left ∙ same c.verdict _ _ (other c.says ne)
 record_stays (C.clear_line_called {m} {bs} {r} h) ne =
     let e = clear_line_call m.ledger bs in
-    ap (with_ledger m) (sym (same_ledger m.ledger e h) ∙ held_giving _ _ m.ledger ∙ same _ _ _ (other (same_number m.ledger e h ∙ ap said (said_giving _ _)) ne))
+    ap (with_ledger m) (sym (same_ledger e h) ∙ held_giving _ _ _ ∙ same _ _ _ (other (same_number e h ∙ ap said (said_giving _ _ _)) ne))
 
 pub refused_stays : {e : Event} {s t : Store} {n : ℕ} → Called e s t n → (n ≡ 0 → ⊥) → t ≡ s
 unfolding with_memory with_grants with_caller identified grant_said caller_said
@@ -102,7 +103,7 @@ refused_stays (C.grant_called {s} {bs} {ws} {r} c) ne =
     let k : grants_kept r.refusal s.grants r.grant ≡ s.grants = ap (λ (x : GrantReply). grants_kept x.refusal s.grants x.grant) c.says ∙ kept_after g s.grants ∙ same_grants g s.grants ne' in
     ap (λ gs. with_grants s gs ws) k ∙ ap (λ l. with_grants s s.grants l) (c.call.left ∙ same (said_by g) _ _ ne')
 refused_stays (C.caller_called {s} {bs} {r} h) ne =
-    ap (λ w. with_caller s w) (ap (λ (x : CallerReply). x.caller) h ∙ held_giving _ _ s.caller ∙ same _ _ _ (other (ap (λ (x : CallerReply). x.refusal) h ∙ ap said (said_giving _ _)) ne))
+    ap (λ w. with_caller s w) (ap (λ (x : CallerReply). x.caller) h ∙ held_giving _ _ _ ∙ same _ _ _ (other (ap (λ (x : CallerReply). x.refusal) h ∙ ap said (said_giving _ _ _)) ne))
 refused_stays (C.ask_called gs ws w bs cells h) ne = refl
 refused_stays (C.line_called gs ws w n bs out h) ne = refl
 

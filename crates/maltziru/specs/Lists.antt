@@ -28,12 +28,12 @@ use Rattle.maltziru.specs.Calls.{ledger_said, caller_said, StreamCall, RowCalled
 -- One call on the record by its contract: the memory before it and after it, and the refusal that was returned, or 0.
 pub data OnRecord : Call → Memory → Memory → ℕ → Type 0 where
   stream_called : {m : Memory} {bs : Bytes} {ns : List ℕ} {n : ℕ} → StreamCall m.names bs ns n → OnRecord (stream bs) m (with_names m ns) n
-  clock_called : {m : Memory} {t : ℤ} {r : LedgerReply} → r ≡ ledger_said m.ledger (clock_call m.ledger t) → OnRecord (clock t) m (with_ledger m r.ledger) r.refusal
+  clock_called : {m : Memory} {t : ℤ} {r : LedgerReply} → r ≡ ledger_said (clock_call m.ledger t) → OnRecord (clock t) m (with_ledger m r.ledger) r.refusal
   row_called : {m m' : Memory} {i : ℕ} {vs : List ℤ} {n : ℕ} → RowCalled m i vs m' n → OnRecord (row i vs) m m' n
-  clear_called : {m : Memory} {r : LedgerReply} → r ≡ ledger_said m.ledger (clear_call m.ledger) → OnRecord clear m (with_ledger m r.ledger) r.refusal
-  clock_line_called : {m : Memory} {bs : Bytes} {r : LedgerReply} → r ≡ ledger_said m.ledger (clock_line_call m.ledger bs) → OnRecord (clock_line bs) m (with_ledger m r.ledger) r.refusal
+  clear_called : {m : Memory} {r : LedgerReply} → r ≡ ledger_said (clear_call m.ledger) → OnRecord clear m (with_ledger m r.ledger) r.refusal
+  clock_line_called : {m : Memory} {bs : Bytes} {r : LedgerReply} → r ≡ ledger_said (clock_line_call m.ledger bs) → OnRecord (clock_line bs) m (with_ledger m r.ledger) r.refusal
   row_line_called : {m m' : Memory} {bs : Bytes} {n : ℕ} → RowLineCalled m bs m' n → OnRecord (row_line bs) m m' n
-  clear_line_called : {m : Memory} {bs : Bytes} {r : LedgerReply} → r ≡ ledger_said m.ledger (clear_line_call m.ledger bs) → OnRecord (clear_line bs) m (with_ledger m r.ledger) r.refusal
+  clear_line_called : {m : Memory} {bs : Bytes} {r : LedgerReply} → r ≡ ledger_said (clear_line_call m.ledger bs) → OnRecord (clear_line bs) m (with_ledger m r.ledger) r.refusal
 
 -- ---- lists as the record meets them
 
@@ -43,7 +43,7 @@ pub data Recorded : Memory → List Call → Memory → Type 0 where
   stop : {m : Memory} → Recorded m [] m
   next : {c : Call} {cs : List Call} {m n u : Memory} {k : ℕ} → OnRecord c m n k → Recorded n cs u → Recorded m (c ∷ cs) u
   grant_between : {cs : List Call} {m u : Memory} (count : ℕ) (bs : Bytes) (words : List ℕ) {words' : List ℕ} {r : GrantReply} → GrantCall m.names count bs words words' r → Recorded m cs u → Recorded m cs u
-  caller_between : {cs : List Call} {m u : Memory} (w : Caller) (bs : Bytes) {r : CallerReply} → r ≡ caller_said w (identified w bs) → Recorded m cs u → Recorded m cs u
+  caller_between : {cs : List Call} {m u : Memory} (w : Caller) (bs : Bytes) {r : CallerReply} → r ≡ caller_said (identified w bs) → Recorded m cs u → Recorded m cs u
   ask_between : {cs : List Call} {m u : Memory} (gs : List Grant) (ws : List ℕ) (w : Caller) (bs : Bytes) (cells : List ℤ) {cells' : List ℤ} {r : Reply}
       → Replies (asked 0 (parse_query bs) (lending m gs ws w) bs cells) cells cells' r → Recorded m cs u → Recorded m cs u
   line_between : {cs : List Call} {m u : Memory} (gs : List Grant) (ws : List ℕ) (w : Caller) (route : ℤ) (bs out : Bytes) {out' : Bytes} {r : Reply}
@@ -60,7 +60,7 @@ pub data Called : Event → Store → Store → ℕ → Type 0 where
   record_called : {s : Store} {c : Call} {m : Memory} {n : ℕ} → OnRecord c s.memory m n → Called (call c) s (with_memory s m) n
   grant_called : {s : Store} {bs : Bytes} {ws : List ℕ} {r : GrantReply} → GrantCall s.memory.names (length s.grants) bs s.words ws r
       → Called (grant bs) s (with_grants s (grants_kept r.refusal s.grants r.grant) ws) r.refusal
-  caller_called : {s : Store} {bs : Bytes} {r : CallerReply} → r ≡ caller_said s.caller (identified s.caller bs) → Called (caller bs) s (with_caller s r.caller) r.refusal
+  caller_called : {s : Store} {bs : Bytes} {r : CallerReply} → r ≡ caller_said (identified s.caller bs) → Called (caller bs) s (with_caller s r.caller) r.refusal
   ask_called : {s : Store} (gs : List Grant) (ws : List ℕ) (w : Caller) (bs : Bytes) (cells : List ℤ) {cells' : List ℤ} {r : Reply}
       → Replies (asked 0 (parse_query bs) (lending s.memory gs ws w) bs cells) cells cells' r → Called query s s r.refusal
   line_called : {s : Store} (gs : List Grant) (ws : List ℕ) (w : Caller) (route : ℤ) (bs out : Bytes) {out' : Bytes} {r : Reply}

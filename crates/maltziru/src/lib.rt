@@ -18,7 +18,7 @@ use ask::Reply;
 use caller::Caller;
 use grant::Grant;
 use ledger::Ledger;
-use refusal::Refusal;
+use refusal::{Refusal, Refused};
 
 // What a call on the record says, and the ledger that it leaves.
 #[repr(C)]
@@ -55,24 +55,24 @@ fn number(r: Result<(), Refusal>) -> u32
     }
 }
 
-// A ledger and what a call with it gave.
-fn ledger_reply(ledger: Ledger, r: Result<Ledger, Refusal>) -> LedgerReply
-    ensures { result ≡ ledger_said ledger r }
+// The ledger that a call gives, or with a refusal the one that it gives back.
+fn ledger_reply(r: Result<Ledger, Refused<Ledger>>) -> LedgerReply
+    ensures { result ≡ ledger_said r }
 {
     match r {
         Ok(l) => LedgerReply {
             refusal: 0,
             ledger: l,
         },
-        Err(f) => LedgerReply {
-            refusal: f.number(),
-            ledger: ledger,
+        Err(e) => LedgerReply {
+            refusal: e.refusal.number(),
+            ledger: e.held,
         },
     }
 }
 
-// A grant, which is of zeros where it is refused.
-fn grant_reply(r: Result<Grant, Refusal>) -> GrantReply
+// The grant, or what a refusal gives in its place.
+fn grant_reply(r: Result<Grant, Refused<Grant>>) -> GrantReply
     ensures { result ≡ grant_said r }
 {
     match r {
@@ -80,25 +80,25 @@ fn grant_reply(r: Result<Grant, Refusal>) -> GrantReply
             refusal: 0,
             grant: g,
         },
-        Err(f) => GrantReply {
-            refusal: f.number(),
-            grant: grant_line::no_grant(),
+        Err(e) => GrantReply {
+            refusal: e.refusal.number(),
+            grant: e.held,
         },
     }
 }
 
-// A caller and what a line gave.
-fn caller_reply(caller: Caller, r: Result<Caller, Refusal>) -> CallerReply
-    ensures { result ≡ caller_said caller r }
+// The caller that a line gives, or with a refusal the one that it gives back.
+fn caller_reply(r: Result<Caller, Refused<Caller>>) -> CallerReply
+    ensures { result ≡ caller_said r }
 {
     match r {
         Ok(c) => CallerReply {
             refusal: 0,
             caller: c,
         },
-        Err(f) => CallerReply {
-            refusal: f.number(),
-            caller: caller,
+        Err(e) => CallerReply {
+            refusal: e.refusal.number(),
+            caller: e.held,
         },
     }
 }
@@ -126,9 +126,9 @@ pub extern "C" fn maltziru_fresh() -> Ledger
 // The clock call. Returns the ledger with the time; refused, the ledger as it was.
 #[unsafe(no_mangle)]
 pub extern "C" fn maltziru_clock(ledger: Ledger, time: i64) -> LedgerReply
-    ensures { result ≡ ledger_said ledger (clock_call ledger time) }
+    ensures { result ≡ ledger_said (clock_call ledger time) }
 {
-    ledger_reply(ledger, ledger.clock(time))
+    ledger_reply(ledger.clock(time))
 }
 
 // The row call: one row more of the stream of a number. Returns the ledger with one row more. Leaves the clock in the row's time and its values in their places,
@@ -145,23 +145,23 @@ pub extern "C" fn maltziru_row(
     ensures { RowCalled (record { ledger = ledger; names = names.now; times = times.old; values = values.old }) stream row.now (record { ledger = result.ledger; names = names.now; times = times.new; values = values.new }) result.refusal }
 {
     let r = ledger.row(names, stream, row, times, values);
-    ledger_reply(ledger, r)
+    ledger_reply(r)
 }
 
 // The clear call. Returns the ledger with no rows and its clock; refused, the ledger as it was.
 #[unsafe(no_mangle)]
 pub extern "C" fn maltziru_clear(ledger: Ledger) -> LedgerReply
-    ensures { result ≡ ledger_said ledger (clear_call ledger) }
+    ensures { result ≡ ledger_said (clear_call ledger) }
 {
-    ledger_reply(ledger, ledger.clear())
+    ledger_reply(ledger.clear())
 }
 
 // The clock line, which does what the clock call does.
 #[unsafe(no_mangle)]
 pub extern "C" fn maltziru_clock_line(ledger: Ledger, line: &[u8]) -> LedgerReply
-    ensures { result ≡ ledger_said ledger (clock_line_call ledger line.now) }
+    ensures { result ≡ ledger_said (clock_line_call ledger line.now) }
 {
-    ledger_reply(ledger, record_lines::clock_line(ledger, line))
+    ledger_reply(record_lines::clock_line(ledger, line))
 }
 
 // The row line, which does what the row call does.
@@ -176,15 +176,15 @@ pub extern "C" fn maltziru_row_line(
     ensures { RowLineCalled (record { ledger = ledger; names = names.now; times = times.old; values = values.old }) line.now (record { ledger = result.ledger; names = names.now; times = times.new; values = values.new }) result.refusal }
 {
     let r = record_lines::row_line(ledger, names, line, times, values);
-    ledger_reply(ledger, r)
+    ledger_reply(r)
 }
 
 // The clear line, which does what the clear call does.
 #[unsafe(no_mangle)]
 pub extern "C" fn maltziru_clear_line(ledger: Ledger, line: &[u8]) -> LedgerReply
-    ensures { result ≡ ledger_said ledger (clear_line_call ledger line.now) }
+    ensures { result ≡ ledger_said (clear_line_call ledger line.now) }
 {
-    ledger_reply(ledger, record_lines::clear_line(ledger, line))
+    ledger_reply(record_lines::clear_line(ledger, line))
 }
 
 // ---- grants and callers
@@ -215,9 +215,9 @@ pub extern "C" fn maltziru_nobody() -> Caller
 // The caller line. Returns the caller that the line names; refused, the caller as it was.
 #[unsafe(no_mangle)]
 pub extern "C" fn maltziru_caller(caller: Caller, line: &[u8]) -> CallerReply
-    ensures { result ≡ caller_said caller (identified caller line.now) }
+    ensures { result ≡ caller_said (identified caller line.now) }
 {
-    caller_reply(caller, caller.with_line(line))
+    caller_reply(caller.with_line(line))
 }
 
 // ---- queries

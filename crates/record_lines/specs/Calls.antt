@@ -4,7 +4,7 @@ use Rattle.std.proofs.Math.Option.{Option, none, some}
 use Rattle.refusal.specs.Results.{Said, result_of, giving, settled}
 use Rattle.refusal.specs.Checks.{Check, refuse, first}
 use Rattle.refusal.specs.declared.Refusal.TheVariants.{Lent}
-use Rattle.refusal.specs.declared.Refusal.{Refusal}
+use Rattle.refusal.specs.declared.Refused.{Refused}
 use Rattle.syntax.specs.Grammar as G
 use Rattle.syntax.specs.Grammar.{Bytes}
 use Rattle.syntax.specs.Limits.{max_streams, natural}
@@ -26,16 +26,16 @@ unfoldable pub with_clock : Ledger → Option ℤ → Ledger
 with_clock l none = l
 with_clock l (some n) = record { clock = natural n; rows = l.rows }
 
-unfoldable pub clock_line_call : Ledger → Bytes → Result Ledger Refusal
-clock_line_call l bs = giving (result_of (first (clock_line_table l bs))) (with_clock l (parse_as G.clock bs))
+unfoldable pub clock_line_call : Ledger → Bytes → Result Ledger (Refused Ledger)
+clock_line_call l bs = giving (result_of (first (clock_line_table l bs))) (with_clock l (parse_as G.clock bs)) l
 
 -- ---- clear
 
 unfoldable pub clear_line_table : Ledger → Bytes → List Check
 clear_line_table l bs = refuse Lent (not (ledger_sound l)) ∷ written 0 bs (parse_as G.clear bs) (λ u. [])
 
-unfoldable pub clear_line_call : Ledger → Bytes → Result Ledger Refusal
-clear_line_call l bs = giving (result_of (first (clear_line_table l bs))) (record { clock = l.clock; rows = replicate max_streams 0 })
+unfoldable pub clear_line_call : Ledger → Bytes → Result Ledger (Refused Ledger)
+clear_line_call l bs = giving (result_of (first (clear_line_table l bs))) (record { clock = l.clock; rows = replicate max_streams 0 }) l
 
 -- ---- row
 

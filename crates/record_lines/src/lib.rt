@@ -8,7 +8,7 @@ ghost use Rattle.record_lines.specs.Calls.{clock_line_call, clear_line_call, Row
 
 use items::{Names, Values};
 use ledger::Ledger;
-use refusal::{Checks, Refusal};
+use refusal::{Checks, Refused};
 use text::{Line, Name, Word};
 
 // What is read of a clock line; its time is None where its number is none.
@@ -127,30 +127,30 @@ pub fn read_row(s: &[u8]) -> RowLine
     }
 }
 
-// The clock line. Returns the ledger with its time, or the refusal.
-pub fn clock_line(l: Ledger, line: &[u8]) -> Result<Ledger, Refusal>
+// The clock line. Returns the ledger with its time, or the refusal with the ledger as it was.
+pub fn clock_line(l: Ledger, line: &[u8]) -> Result<Ledger, Refused<Ledger>>
     ensures { result ≡ clock_line_call l line.now }
 {
     let c = read_clock(line);
     l.clock_with(c.time, c.checks)
 }
 
-// The clear line. Returns the ledger with no rows, or the refusal.
-pub fn clear_line(l: Ledger, line: &[u8]) -> Result<Ledger, Refusal>
+// The clear line. Returns the ledger with no rows, or the refusal with the ledger as it was.
+pub fn clear_line(l: Ledger, line: &[u8]) -> Result<Ledger, Refused<Ledger>>
     ensures { result ≡ clear_line_call l line.now }
 {
     l.clear_with(read_clear(line))
 }
 
-// The row line. Returns the ledger with one row more, or the refusal. Leaves the row in its place, and all else as it was; refused, all places as they were.
+// The row line. Returns the ledger with one row more, or the refusal with the ledger as it was. Leaves the row in its place, and all else as it was; refused, all places as they were.
 pub fn row_line(
     l: Ledger,
     names: &[u64],
     line: &[u8],
     times: &mut [u32],
     values: &mut [i32],
-) -> Result<Ledger, Refusal>
-    ensures { RowLineCall (record { ledger = l; names = names.now; times = times.old; values = values.old }) line.now (record { ledger = held_after result l; names = names.now; times = times.new; values = values.new }) (said_by result) }
+) -> Result<Ledger, Refused<Ledger>>
+    ensures { RowLineCall (record { ledger = l; names = names.now; times = times.old; values = values.old }) line.now (record { ledger = held_after result; names = names.now; times = times.new; values = values.new }) (said_by result) }
 {
     let w = read_row(line);
     let s = schema::stream_number(names, w.name);

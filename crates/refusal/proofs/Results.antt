@@ -9,11 +9,12 @@ use Rattle.refusal.specs.Results.{Said, result_of, giving, said_by, held_after, 
 use Rattle.refusal.specs.Checks.{Check, first, passes, table, no_fault}
 use Rattle.refusal.specs.declared.Checks.{Checks}
 use Rattle.refusal.specs.declared.Refusal.{Refusal}
+use Rattle.refusal.specs.declared.Refused.{Refused}
 use Rattle.refusal.proofs.Passing.{passes_first}
 use Rattle.refusal.proofs.Passed.{passed}
 use Rattle.refusal.proofs.Verdicts.{stops}
 
-pub not_ok : {A : Type 0} {x : A} (why : Refusal) → ◌≡◌ {A = Result A Refusal} (Err why) (Ok x) → ⊥
+pub not_ok : {A E : Type 0} {x : A} (why : E) → ◌≡◌ {A = Result A E} (Err why) (Ok x) → ⊥
 not_ok why e = cc
 
 pub data Told (v : Said) (cs : List Check) : Type 0 where
@@ -41,25 +42,44 @@ result_passed c e = passed c (result_none (first (table c)) e)
 
 -- ---- what is held after a result
 
-module _ {A : Type 0} (v : Said) (new : A) {r : Result A Refusal} where
-  pub given_refused : {f : Refusal} → v ≡ Err f → r ≡ Err f → r ≡ giving v new
+-- what checks say that hold a value: it is held after a refusal
+module _ {A : Type 0} (v : Said) (old : A) {w : Result (Unit {0}) (Refused A)} (e : w ≡ giving v tt old) where
+  pub held_refused : {f : Refused A} → w ≡ Err f → (v ≡ Err f.refusal) × (f.held ≡ old)
   unfolding giving
-  given_refused e h = h ∙ sym (rw e)
+  held_refused {f} h = go v e
+    where
+      go : (u : Said) → w ≡ giving u tt old → (u ≡ Err f.refusal) × (f.held ≡ old)
+      go (Ok t) d = absurd (not_ok f (sym h ∙ d))
+      go (Err g) d = let q : f ≡ record { refusal = g; held = old } = cc in (ap (λ x. Err x.refusal) (sym q), ap (λ x. x.held) q)
 
-  pub given_accepted : v ≡ Ok tt → r ≡ Ok new → r ≡ giving v new
+  pub held_accepted : w ≡ Ok tt → v ≡ Ok tt
   unfolding giving
-  given_accepted e h = h ∙ sym (rw e)
+  held_accepted h = go v e
+    where
+      go : (u : Said) → w ≡ giving u tt old → u ≡ Ok tt
+      go (Ok t) d = refl
+      go (Err g) d = absurd (not_ok _ (sym d ∙ h))
+
+  module _ (new : A) {r : Result A (Refused A)} where
+    pub given_refused : {f : Refused A} → w ≡ Err f → r ≡ Err f → r ≡ giving v new old
+    unfolding giving
+    given_refused {f} h k = let (p, q) = held_refused h in k ∙ sym (rw (p, sym q))
+
+    pub given_accepted : w ≡ Ok tt → r ≡ Ok new → r ≡ giving v new old
+    unfolding giving
+    given_accepted h k = k ∙ sym (rw (held_accepted h))
+
+module _ {A B : Type 0} where
+  pub said_giving : (v : Said) (new : A) (old : B) → said_by (giving v new old) ≡ v
+  unfolding giving said_by
+  said_giving (Ok u) new old = refl
+  said_giving (Err f) new old = refl
 
 module _ {A : Type 0} where
-  pub said_giving : (v : Said) (x : A) → said_by (giving v x) ≡ v
-  unfolding giving said_by
-  said_giving (Ok u) x = refl
-  said_giving (Err f) x = refl
-
-  pub held_giving : (v : Said) (x old : A) → held_after (giving v x) old ≡ settled v old x
+  pub held_giving : (v : Said) (new old : A) → held_after (giving v new old) ≡ settled v old new
   unfolding giving held_after settled
-  held_giving (Ok u) x old = refl
-  held_giving (Err f) x old = refl
+  held_giving (Ok u) new old = refl
+  held_giving (Err f) new old = refl
 
   pub settled_old : (v : Said) (old new : A) → (v ≡ Ok tt → ⊥) → settled v old new ≡ old
   unfolding settled

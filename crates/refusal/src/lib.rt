@@ -3,7 +3,7 @@
 
 ghost use Rattle.std.specs.Prelude.{◌≡◌};
 ghost use Rattle.refusal.specs.Numbers.{number_of};
-ghost use Rattle.refusal.specs.Results.{result_of};
+ghost use Rattle.refusal.specs.Results.{result_of, giving};
 ghost use Rattle.refusal.specs.Checks.{first, no_fault, unread, shown, table};
 
 #[derive(Clone, Copy)]
@@ -20,6 +20,13 @@ pub enum Refusal {
     NoRoute,
     ManyRoutes,
     NoRoom,
+}
+
+// A refusal, and what is held after it: what was, where a call takes a value and gives it back.
+#[derive(Clone, Copy)]
+pub struct Refused<T> {
+    pub refusal: Refusal,
+    pub held: T,
 }
 
 // What is wrong with a call, check by check, in the order of the refusal table. `long` is a line over its bytes.
@@ -157,5 +164,15 @@ impl Checks {
             return Err(Refusal::NoRoom);
         }
         Ok(())
+    }
+
+    // Returns what `result` does, and with a refusal what is then held.
+    pub fn result_holding<T: Copy>(self, held: T) -> Result<(), Refused<T>>
+        ensures { result ≡ giving (result_of (first (table self))) tt held }
+    {
+        match self.result() {
+            Ok(()) => Ok(()),
+            Err(refusal) => Err(Refused { refusal, held }),
+        }
     }
 }

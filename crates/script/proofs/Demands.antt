@@ -8,8 +8,9 @@ use lib.IntN.{ℤ}
 use lib.Dec.{eqb}
 use borrow.Author.Tests.{eqb-true, eqb-false}
 use Rattle.std.specs.Prelude.{Result, Ok, Err}
-use Rattle.refusal.specs.Results.{Said, said_by, held_after, settled}
-use Rattle.refusal.specs.declared.Refusal.{Refusal}
+use Rattle.refusal.specs.Results.{Said, giving, said_by, held_after, settled}
+use Rattle.refusal.proofs.Results.{said_giving, held_giving}
+use Rattle.refusal.specs.declared.Refused.{Refused}
 use Rattle.refusal.specs.Checks.{Ordered}
 use Rattle.lists.specs.Lists.{gather}
 use Rattle.syntax.specs.Grammar as G
@@ -18,7 +19,9 @@ use Rattle.syntax.specs.Readers.{parse_as}
 use Rattle.model.specs.Alike.{Alike}
 use Rattle.calls.specs.Calls.{Call, after}
 use Rattle.ledger.specs.Records.{Memory, with_ledger, with_names}
+use Rattle.record_lines.specs.Calls.{clock_line_call, clear_line_call}
 use Rattle.caller.specs.Callers.{caller_of}
+use Rattle.caller.specs.Lines.{identified}
 use Rattle.grant.specs.declared.Grant.{Grant}
 use Rattle.grant.specs.Catalogues.{catalogue_of}
 use Rattle.grant_line.specs.Granting.{grants_after}
@@ -72,30 +75,28 @@ module _ {A : Type 0} where
   stays (Ok u) old new e = absurd (cc)
   stays (Err f) old new e = refl
 
-  held_stays : (r : Result A Refusal) (old : A) → {n : ℕ} → verdict_said (said_by r) ≡ Say.Refusal n → held_after r old ≡ old
-  unfolding said_by held_after
-  held_stays (Ok x) old e = absurd (cc)
-  held_stays (Err f) old e = refl
+  held_stays : {r : Result A (Refused A)} (v : Said) (new old : A) → r ≡ giving v new old → {n : ℕ} → verdict_said (said_by r) ≡ Say.Refusal n → held_after r ≡ old
+  held_stays v new old e k = ap held_after e ∙ held_giving v new old ∙ stays v old new (ap verdict_said (sym (ap said_by e ∙ said_giving v new old)) ∙ k)
 
-grants_stay : (r : Result Grant Refusal) (gs : List Grant) → {n : ℕ} → verdict_said (said_by r) ≡ Say.Refusal n → grants_after r gs ≡ gs
+grants_stay : (r : Result Grant (Refused Grant)) (gs : List Grant) → {n : ℕ} → verdict_said (said_by r) ≡ Say.Refusal n → grants_after r gs ≡ gs
 unfolding said_by grants_after
 grants_stay (Ok g) gs e = absurd (cc)
 grants_stay (Err f) gs e = refl
 
 -- over any memory, a line that is refused leaves the store, the cells and the bytes
 pub refused_stays : {bs : Bytes} {zs zs' : List ℤ} {ys ys' : Bytes} {v : Option Verb} {s t : Store} {y : Message} → Does bs zs ys v s t zs' ys' y → {n : ℕ} → y ≡ Say.Refusal n → (t ≡ s) × (zs' ≡ zs) × (ys' ≡ ys)
-unfolding with_memory with_grants with_caller
+unfolding with_memory with_grants with_caller clock_line_call clear_line_call identified
 refused_stays unread_does k = (refl, refl, refl)
 refused_stays (stream_does {s = s} {v = v} d) k = (ap (λ ns. with_memory s (with_names s.memory ns)) (d.left ∙ stays v _ _ k), refl, refl)
 refused_stays (grant_does {s = s} {ws} {r} g) k =
     (ap (λ gs. with_grants s gs ws) (grants_stay r _ k) ∙ ap (λ l. with_grants s s.grants l) (g.left ∙ stays (said_by r) _ _ k), refl, refl)
 refused_stays (clock_does {s = s} {r} e) k =
-    (ap (λ l. with_memory s (with_ledger s.memory l)) (held_stays r _ k), refl, refl)
+    (ap (λ l. with_memory s (with_ledger s.memory l)) (held_stays _ _ _ e k), refl, refl)
 refused_stays (row_does {s = s} {v = v} d) k = (ap (with_memory s) (d.left ∙ stays v _ _ k), refl, refl)
 refused_stays (clear_does {s = s} {r} e) k =
-    (ap (λ l. with_memory s (with_ledger s.memory l)) (held_stays r _ k), refl, refl)
+    (ap (λ l. with_memory s (with_ledger s.memory l)) (held_stays _ _ _ e k), refl, refl)
 refused_stays (caller_does {s = s} {r} e) k =
-    (ap (λ w. with_caller s w) (held_stays r _ k), refl, refl)
+    (ap (λ w. with_caller s w) (held_stays _ _ _ e k), refl, refl)
 refused_stays {bs} {zs} (ask_does {s = s} {r = r} h l) k =
     (refl, (R.asked_refusal (lending s) 1 (parse_as G.ask bs) bs zs h).1 (said_refused r (λ e. cc) k).0, refl)
 refused_stays {bs} {ys = ys} (line_does {s = s} {r = r} h l) k =

@@ -7,7 +7,7 @@ use lib.IntN.{ℤ}
 use lib.ListN.{length, take}
 use Rattle.std.specs.Prelude.{Result}
 use Rattle.refusal.specs.Results.{Said, said_by, held_after}
-use Rattle.refusal.specs.declared.Refusal.{Refusal}
+use Rattle.refusal.specs.declared.Refused.{Refused}
 use Rattle.syntax.specs.Grammar as G
 use Rattle.syntax.specs.Grammar.{Bytes}
 use Rattle.syntax.specs.Limits.{max_grants}
@@ -55,24 +55,24 @@ module _ (bs : Bytes) (zs : List ℤ) (ys : Bytes) (s : State) (ns ts : List ℕ
       (subst (λ (gs : List T.Grant). Does bs zs ys (some G.grant) here (record { memory = record { ledger = r.state.ledger; names = ns; times = ts; values = vs }; grants = gs; words = ws'; caller = r.state.caller }) zs ys (verdict_said (said_by g.granted))) (sym g.grants)
       (rw (g.ledger, g.caller) (grant_does g.call)))
 
-  pub clock_ends : v ≡ Clock → {e : Result Ledger Refusal} → e ≡ clock_line_call s.ledger bs → {r : Stepped} → r ≡ stepped_with (with_ledger_in s (held_after e s.ledger)) (verdict_said (said_by e))
+  pub clock_ends : v ≡ Clock → {e : Result Ledger (Refused Ledger)} → e ≡ clock_line_call s.ledger bs → {r : Stepped} → r ≡ stepped_with (with_ledger_in s (held_after e)) (verdict_said (said_by e))
       → Does bs zs ys (verb_of bs) here (store_of r.state ns ts vs ws) zs ys r.says
   unfolding verb_in with_memory
   clock_ends k d e = ends k e (clock_does d)
 
-  pub row_ends : v ≡ Row → (e : Result Ledger Refusal) {ts' : List ℕ} {vs' : List ℤ}
-      → RowLineCall (record { ledger = s.ledger; names = ns; times = ts; values = vs }) bs (record { ledger = held_after e s.ledger; names = ns; times = ts'; values = vs' }) (said_by e)
-      → {r : Stepped} → r ≡ stepped_with (with_ledger_in s (held_after e s.ledger)) (verdict_said (said_by e))
+  pub row_ends : v ≡ Row → (e : Result Ledger (Refused Ledger)) {ts' : List ℕ} {vs' : List ℤ}
+      → RowLineCall (record { ledger = s.ledger; names = ns; times = ts; values = vs }) bs (record { ledger = held_after e; names = ns; times = ts'; values = vs' }) (said_by e)
+      → {r : Stepped} → r ≡ stepped_with (with_ledger_in s (held_after e)) (verdict_said (said_by e))
       → Does bs zs ys (verb_of bs) here (store_of r.state ns ts' vs' ws) zs ys r.says
   unfolding verb_in with_memory
   row_ends k _ d e = ends k e (row_does d)
 
-  pub clear_ends : v ≡ Clear → {e : Result Ledger Refusal} → e ≡ clear_line_call s.ledger bs → {r : Stepped} → r ≡ stepped_with (with_ledger_in s (held_after e s.ledger)) (verdict_said (said_by e))
+  pub clear_ends : v ≡ Clear → {e : Result Ledger (Refused Ledger)} → e ≡ clear_line_call s.ledger bs → {r : Stepped} → r ≡ stepped_with (with_ledger_in s (held_after e)) (verdict_said (said_by e))
       → Does bs zs ys (verb_of bs) here (store_of r.state ns ts vs ws) zs ys r.says
   unfolding verb_in with_memory
   clear_ends k d e = ends k e (clear_does d)
 
-  pub caller_ends : v ≡ Caller → {i : Result W.Caller Refusal} → i ≡ identified s.caller bs → {r : Stepped} → r ≡ stepped_with (with_caller_in s (held_after i s.caller)) (verdict_said (said_by i))
+  pub caller_ends : v ≡ Caller → {i : Result W.Caller (Refused W.Caller)} → i ≡ identified s.caller bs → {r : Stepped} → r ≡ stepped_with (with_caller_in s (held_after i)) (verdict_said (said_by i))
       → Does bs zs ys (verb_of bs) here (store_of r.state ns ts vs ws) zs ys r.says
   unfolding verb_in with_caller
   caller_ends k d e = ends k e (caller_does d)

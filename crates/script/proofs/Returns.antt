@@ -11,6 +11,7 @@ use Rattle.refusal.specs.Numbers.{number_of}
 use Rattle.refusal.specs.Results.{Said, said_by, held_after}
 use Rattle.refusal.specs.Checks.{first}
 use Rattle.refusal.specs.declared.Refusal.{Refusal}
+use Rattle.refusal.specs.declared.Refused.{Refused}
 use Rattle.refusal.specs.declared.Refusal.TheVariants.{Malformed, Bound}
 use Rattle.refusal.proofs.Passing.{passes_first, pass_rest}
 use Rattle.refusal.proofs.Results.{result_none}
@@ -53,32 +54,32 @@ said_accepted s e = rw e
 pub said_refused : (s : State) {v : Said} {f : Refusal} → v ≡ Err f → {n : ℕ} → n ≡ number_of f → ◌≡◌ {A = Stepped} (record { state = s; says = Say.Refusal n }) (stepped_with s (verdict_said v))
 said_refused s e h = rw (e, h)
 
--- what a result gives, and on a refusal the state as it was
+-- what a result gives, accepted and refused
 module _ (s : State) where
-  abbrev with_new : Result Ledger Refusal → Stepped
-  with_new y = stepped_with (with_ledger_in s (held_after y s.ledger)) (verdict_said (said_by y))
+  abbrev with_new : Result Ledger (Refused Ledger) → Stepped
+  with_new y = stepped_with (with_ledger_in s (held_after y)) (verdict_said (said_by y))
 
-  abbrev with_named : Result Caller Refusal → Stepped
-  with_named y = stepped_with (with_caller_in s (held_after y s.caller)) (verdict_said (said_by y))
+  abbrev with_named : Result Caller (Refused Caller) → Stepped
+  with_named y = stepped_with (with_caller_in s (held_after y)) (verdict_said (said_by y))
 
-module _ (s : State) {r : Stepped} where
-  module _ {v : Result Ledger Refusal} where
-    pub entered_ok : {l : Ledger} → v ≡ Ok l → {x : State} → x ≡ with_ledger_in s l → r ≡ stepped_with x (verdict_said (Ok tt)) → r ≡ with_new s v
+module _ (s : State) {x : State} {r : Stepped} where
+  module _ {v : Result Ledger (Refused Ledger)} where
+    pub entered_ok : {l : Ledger} → v ≡ Ok l → x ≡ with_ledger_in s l → r ≡ stepped_with x (verdict_said (Ok tt)) → r ≡ with_new s v
     unfolding said_by held_after
     entered_ok e k h = h ∙ ap (λ (y : State). stepped_with y Say.Quiet) k ∙ ap (with_new s) (sym e)
 
-    pub entered_err : {f : Refusal} → v ≡ Err f → r ≡ stepped_with s (verdict_said (Err f)) → r ≡ with_new s v
+    pub entered_err : {f : Refused Ledger} → v ≡ Err f → x ≡ with_ledger_in s f.held → r ≡ stepped_with x (verdict_said (Err f.refusal)) → r ≡ with_new s v
     unfolding said_by held_after
-    entered_err e h = h ∙ ap (with_new s) (sym e)
+    entered_err {f} e k h = h ∙ ap (λ (y : State). stepped_with y (verdict_said (Err f.refusal))) k ∙ ap (with_new s) (sym e)
 
-  module _ {v : Result Caller Refusal} where
-    pub identified_ok : {w : Caller} → v ≡ Ok w → {x : State} → x ≡ with_caller_in s w → r ≡ stepped_with x (verdict_said (Ok tt)) → r ≡ with_named s v
+  module _ {v : Result Caller (Refused Caller)} where
+    pub identified_ok : {w : Caller} → v ≡ Ok w → x ≡ with_caller_in s w → r ≡ stepped_with x (verdict_said (Ok tt)) → r ≡ with_named s v
     unfolding said_by held_after
     identified_ok e k h = h ∙ ap (λ (y : State). stepped_with y Say.Quiet) k ∙ ap (with_named s) (sym e)
 
-    pub identified_err : {f : Refusal} → v ≡ Err f → r ≡ stepped_with s (verdict_said (Err f)) → r ≡ with_named s v
+    pub identified_err : {f : Refused Caller} → v ≡ Err f → x ≡ with_caller_in s f.held → r ≡ stepped_with x (verdict_said (Err f.refusal)) → r ≡ with_named s v
     unfolding said_by held_after
-    identified_err e h = h ∙ ap (with_named s) (sym e)
+    identified_err {f} e k h = h ∙ ap (λ (y : State). stepped_with y (verdict_said (Err f.refusal))) k ∙ ap (with_named s) (sym e)
 
 pub replied_refused : (s : State) (r : Reply) (y : Message) → (r.refusal ≡ 0 → ⊥) → ◌≡◌ {A = Stepped} (record { state = s; says = Say.Refusal r.refusal }) (stepped_with s (reply_said r y))
 unfolding reply_said
@@ -99,7 +100,7 @@ unread_formless s n h e = e ∙ rw (le-ltb max_line n h)
 -- ---- grants
 
 -- an accepted one has a place
-pub grant_placed : (ns : List ℕ) (n : ℕ) (bs : Bytes) (ws ws' : List ℕ) (g : Result Grant Refusal) → Grants ns n bs ws ws' g → {made : Grant} → g ≡ Ok made → n < max_grants
+pub grant_placed : (ns : List ℕ) (n : ℕ) (bs : Bytes) (ws ws' : List ℕ) (g : Result Grant (Refused Grant)) → Grants ns n bs ws ws' g → {made : Grant} → g ≡ Ok made → n < max_grants
 unfolding grant_table said_by
 grant_placed ns n bs ws ws' g c e =
     let gs : List M.Grant = replicate n (grant_of ns no_grant []) in
@@ -109,14 +110,14 @@ grant_placed ns n bs ws ws' g c e =
     let r = ltb→lt (length gs) max_grants (grant_accepted (schema_of ns) gs h q).room in
     omega arith)
 
-module _ (s : State) (full : length s.grants ≡ max_grants) (ns : List ℕ) (bs : Bytes) (ws ws' : List ℕ) {n : ℕ} (held : n ≡ min s.count max_grants) {g : Result Grant Refusal} (c : Grants ns n bs ws ws' g) where
+module _ (s : State) (full : length s.grants ≡ max_grants) (ns : List ℕ) (bs : Bytes) (ws ws' : List ℕ) {n : ℕ} (held : n ≡ min s.count max_grants) {g : Result Grant (Refused Grant)} (c : Grants ns n bs ws ws' g) where
   kept : n ≡ length (take s.count s.grants)
   kept = let e = length-take s.count s.grants in omega arith
 
   call : Grants ns (length (take s.count s.grants)) bs ws ws' g
   call = subst (λ k. Grants ns k bs ws ws' g) kept c
 
-  pub granting_refused : {f : Refusal} → g ≡ Err f → {r : Stepped} → r ≡ stepped_with s (verdict_said (Err f)) → Granting s ns bs ws ws' r
+  pub granting_refused : {f : Refused Grant} → g ≡ Err f → {r : Stepped} → r ≡ stepped_with s (verdict_said (Err f.refusal)) → Granting s ns bs ws ws' r
   unfolding grants_after said_by
   granting_refused {f} e {r} h =
       subst (λ (x : Stepped). Granting s ns bs ws ws' x) (sym h)

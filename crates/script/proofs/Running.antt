@@ -13,6 +13,7 @@ use Rattle.refusal.specs.Results.{Said, result_of, said_by}
 use Rattle.refusal.proofs.Results.{said_giving}
 use Rattle.refusal.specs.Checks.{refuse, first}
 use Rattle.refusal.specs.declared.Refusal.{Refusal}
+use Rattle.refusal.specs.declared.Refused.{Refused}
 use Rattle.refusal.specs.declared.Refusal.TheVariants.{Lent, Malformed, Bound, Undeclared, Repeated, Misplaced, WindowSize, ClockBack, StreamFull, NoRoute, ManyRoutes, NoRoom}
 use Rattle.refusal.proofs.Passing.{first_skip}
 use Rattle.lists.specs.Lists.{empty?}
@@ -152,7 +153,7 @@ module _ (s : Store) (ok : Sound s) (zs : List ℤ) (ys : Bytes) where
       ap (λ (v : Said). prints (verdict_said v) zs ys) ((step_call p ok.memory).said ∙ ap result_of (sym (first_skip Lent (valid_record (record_of s.memory)) _ valid_kept)))
       ∙ changed_said f _ (first (call_table (record_of s.memory) c)) zs ys
 
-  grant_said : (bs : Bytes) {ws : List ℕ} {r : Result Grant Refusal} → Grants s.memory.names (length s.grants) bs s.words ws r → prints (verdict_said (said_by r)) zs ys ≡ (perform f (act zs ys f bs (some G.grant))).outcome
+  grant_said : (bs : Bytes) {ws : List ℕ} {r : Result Grant (Refused Grant)} → Grants s.memory.names (length s.grants) bs s.words ws r → prints (verdict_said (said_by r)) zs ys ≡ (perform f (act zs ys f bs (some G.grant))).outcome
   unfolding perform act K.grant_table fixture_of record_of
   grant_said bs {ws} {r} g =
       let names = (sound_parts s.memory ok.memory.lent).names in
@@ -163,10 +164,10 @@ module _ (s : Store) (ok : Sound s) (zs : List ℤ) (ys : Bytes) where
       ∙ ap result_of (sym (first_skip Lent (valid_schema d) _ (N.sound_valid s.memory.names names) ∙ first_skip Lent (valid_catalogue d gs) _ (catalogue_valid s.memory.names s.grants s.words ok.grants))))
       ∙ changed_said f _ (first (K.grant_table d gs bs)) zs ys
 
-  caller_said : (bs : Bytes) {r : Result Caller Refusal} → r ≡ identified s.caller bs → prints (verdict_said (said_by r)) zs ys ≡ (perform f (act zs ys f bs (some G.caller))).outcome
+  caller_said : (bs : Bytes) {r : Result Caller (Refused Caller)} → r ≡ identified s.caller bs → prints (verdict_said (said_by r)) zs ys ≡ (perform f (act zs ys f bs (some G.caller))).outcome
   unfolding perform act identified
   caller_said bs e =
-      ap (λ (v : Said). prints (verdict_said v) zs ys) (ap said_by e ∙ said_giving (result_of (first (caller_table bs))) _)
+      ap (λ (v : Said). prints (verdict_said v) zs ys) (ap said_by e ∙ said_giving (result_of (first (caller_table bs))) _ _)
       ∙ changed_said f _ (first (caller_table bs)) zs ys
 
 -- a line prints what the definitions' line prints

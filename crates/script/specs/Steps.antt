@@ -3,7 +3,7 @@ use Rattle.std.specs.Prelude.{◌≡◌, List, cond, ℕ, ℤ, eqb, ltb, length,
 use Rattle.std.proofs.Math.Option.{Option, none, some}
 use Rattle.refusal.specs.Numbers.{number_of}
 use Rattle.refusal.specs.Results.{Said, said_by, held_after}
-use Rattle.refusal.specs.declared.Refusal.{Refusal}
+use Rattle.refusal.specs.declared.Refused.{Refused}
 use Rattle.refusal.specs.declared.Refusal.TheVariants.{Malformed, Bound}
 use Rattle.syntax.specs.Grammar as G
 use Rattle.syntax.specs.Grammar.{Bytes}
@@ -63,7 +63,7 @@ lending s = record { memory = s.memory; grants = s.grants; granted = s.words; ca
 
 -- the grant line, by the state
 pub record Granting (s : State) (ns : List ℕ) (bs : Bytes) (ws ws' : List ℕ) (r : Stepped) : Type 0 where
-  pub granted : Result T.Grant Refusal
+  pub granted : Result T.Grant (Refused T.Grant)
   pub call : Grants ns (length (take s.count s.grants)) bs ws ws' granted
   pub ledger : r.state.ledger ≡ s.ledger
   pub grants : take r.state.count r.state.grants ≡ grants_after granted (take s.count s.grants)
@@ -74,11 +74,11 @@ pub record Granting (s : State) (ns : List ℕ) (bs : Bytes) (ws ws' : List ℕ)
 pub data Does (bs : Bytes) (zs : List ℤ) (ys : Bytes) : Option G.Verb → Store → Store → List ℤ → Bytes → Message → Type 0 where
   unread_does : {s : Store} → Does bs zs ys none s s zs ys (unread_said (length bs))
   stream_does : {s : Store} {ns : List ℕ} {v : Said} → Declares s.memory.names bs ns v → Does bs zs ys (some G.stream) s (with_memory s (with_names s.memory ns)) zs ys (verdict_said v)
-  grant_does : {s : Store} {ws : List ℕ} {r : Result T.Grant Refusal} → Grants s.memory.names (length s.grants) bs s.words ws r
+  grant_does : {s : Store} {ws : List ℕ} {r : Result T.Grant (Refused T.Grant)} → Grants s.memory.names (length s.grants) bs s.words ws r
       → Does bs zs ys (some G.grant) s (with_grants s (grants_after r s.grants) ws) zs ys (verdict_said (said_by r))
-  clock_does : {s : Store} {r : Result Ledger Refusal} → r ≡ clock_line_call s.memory.ledger bs → Does bs zs ys (some G.clock) s (with_memory s (with_ledger s.memory (held_after r s.memory.ledger))) zs ys (verdict_said (said_by r))
+  clock_does : {s : Store} {r : Result Ledger (Refused Ledger)} → r ≡ clock_line_call s.memory.ledger bs → Does bs zs ys (some G.clock) s (with_memory s (with_ledger s.memory (held_after r))) zs ys (verdict_said (said_by r))
   row_does : {s : Store} {m : Memory} {v : Said} → RowLineCall s.memory bs m v → Does bs zs ys (some G.row) s (with_memory s m) zs ys (verdict_said v)
-  clear_does : {s : Store} {r : Result Ledger Refusal} → r ≡ clear_line_call s.memory.ledger bs → Does bs zs ys (some G.clear) s (with_memory s (with_ledger s.memory (held_after r s.memory.ledger))) zs ys (verdict_said (said_by r))
-  caller_does : {s : Store} {r : Result W.Caller Refusal} → r ≡ identified s.caller bs → Does bs zs ys (some G.caller) s (with_caller s (held_after r s.caller)) zs ys (verdict_said (said_by r))
+  clear_does : {s : Store} {r : Result Ledger (Refused Ledger)} → r ≡ clear_line_call s.memory.ledger bs → Does bs zs ys (some G.clear) s (with_memory s (with_ledger s.memory (held_after r))) zs ys (verdict_said (said_by r))
+  caller_does : {s : Store} {r : Result W.Caller (Refused W.Caller)} → r ≡ identified s.caller bs → Does bs zs ys (some G.caller) s (with_caller s (held_after r)) zs ys (verdict_said (said_by r))
   ask_does : {s : Store} {zs' : List ℤ} {r : Reply} → Replies (asked 1 (parse_as G.ask bs) (lending s) bs zs) zs zs' r → length zs' ≡ length zs → Does bs zs ys (some G.ask) s s zs' ys (reply_said r (Say.Cells r.count))
   line_does : {s : Store} {ys' : Bytes} {r : Reply} → LineReplies 1 (parse_as G.line bs) (lending s) bs ys ys' r → length ys' ≡ length ys → Does bs zs ys (some G.line) s s zs ys' (reply_said r (Say.Text r.count))

@@ -19,7 +19,7 @@ use catalogue::Opened;
 use grant::Grant;
 use ledger::Ledger;
 use needs::Needs;
-use refusal::Refusal;
+use refusal::{Refusal, Refused};
 use report::Message;
 use text::{Line, Word};
 
@@ -166,23 +166,23 @@ fn unread(s: State, bytes: usize) -> Stepped
     said(s, Err(Refusal::Malformed))
 }
 
-// The ledger that a line gives; where it is refused, the state is as it was.
-fn entered(s: State, r: Result<Ledger, Refusal>) -> Stepped
-    ensures { result ≡ stepped_with (with_ledger_in s (held_after r s.ledger)) (verdict_said (said_by r)) }
+// The ledger that a line gives, or with a refusal the one that it gives back.
+fn entered(s: State, r: Result<Ledger, Refused<Ledger>>) -> Stepped
+    ensures { result ≡ stepped_with (with_ledger_in s (held_after r)) (verdict_said (said_by r)) }
 {
     match r {
         Ok(l) => said(s.with_ledger(l), Ok(())),
-        Err(f) => said(s, Err(f)),
+        Err(e) => said(s.with_ledger(e.held), Err(e.refusal)),
     }
 }
 
 // The same of a caller.
-fn identified(s: State, r: Result<Caller, Refusal>) -> Stepped
-    ensures { result ≡ stepped_with (with_caller_in s (held_after r s.caller)) (verdict_said (said_by r)) }
+fn identified(s: State, r: Result<Caller, Refused<Caller>>) -> Stepped
+    ensures { result ≡ stepped_with (with_caller_in s (held_after r)) (verdict_said (said_by r)) }
 {
     match r {
         Ok(who) => said(s.with_caller(who), Ok(())),
-        Err(f) => said(s, Err(f)),
+        Err(e) => said(s.with_caller(e.held), Err(e.refusal)),
     }
 }
 
@@ -217,7 +217,7 @@ fn granted(s: State, names: &[u64], line: &[u8], words: &mut [u32]) -> Stepped
     let n = s.held();
     match grant_line::grant(names, n, line, words) {
         Ok(g) => said(s.with_grant(n, g), Ok(())),
-        Err(f) => said(s, Err(f)),
+        Err(e) => said(s, Err(e.refusal)),
     }
 }
 

@@ -5,4 +5,4 @@ pub returns-in-Ok : goal.returns-in-Ok
 returns-in-Ok c = grant_ok c.in-Ok.is
 
 pub returns-in-Err : goal.returns-in-Err
-returns-in-Err c = grant_err c.in-Err.is c.number.ensures c.no_grant.ensures
+returns-in-Err c = grant_err c.in-Err.is c.number.ensures

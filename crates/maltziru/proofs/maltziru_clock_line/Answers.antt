@@ -2,4 +2,4 @@ use Rattle.maltziru.proofs.Said.{ledger_later}
 use Rattle.maltziru.proofs.maltziru_clock_line.Goals as goal
 
 pub returns : goal.returns
-returns c = ledger_later _ c.ledger_reply.ensures c.clock_line.ensures
+returns c = ledger_later c.ledger_reply.ensures c.clock_line.ensures
