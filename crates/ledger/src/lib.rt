@@ -250,12 +250,14 @@ pub fn known(vs: &[i32])
     }
 }
 
-// Values from a place on.
+// Values from a place on. By a loop: as a copy of slices it calls memmove, which the library needs nowhere else.
 fn put(values: &mut [i32], at: usize, vs: &[i32])
     requires { at + length vs.now ≤ length values.old }
     ensures { values.new ≡ paste values.old at vs.now (length vs.now) }
 {
-    values[at..at + vs.len()].copy_from_slice(vs);
+    for c in 0..vs.len() {
+        values[at + c] = vs[c];
+    }
 }
 
 impl Ledger {

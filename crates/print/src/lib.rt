@@ -148,9 +148,6 @@ pub fn put_word(out: &mut [u8], p: u32, code: u64) -> u32
     ensures { Put (put_name (name_of code)) out.old p out.new result }
 {
     let n = word_length(code);
-    if out.len() <= p as usize {
-        return p.saturating_add(n);
-    }
     put_bytes(out, p, &code.to_be_bytes()[8 - n as usize..])
 }
 

@@ -13,7 +13,6 @@ use Rattle.lists.proofs.Laws.{append_nil}
 use Rattle.syntax.specs.Grammar.{Bytes}
 use Rattle.calls.specs.Scripts.{Outcome, script}
 use Rattle.history.specs.States as M
-use Rattle.console.specs.declared.Reading.{Reading}
 use Rattle.console.specs.declared.Reading.TheVariants.{Open, Ended}
 use Rattle.console.specs.Lines.{lines_of, ended, begun, closing, closer, is_over}
 use Rattle.console.specs.Output.{Writes}
@@ -157,15 +156,18 @@ rounds_end k x h =
 
 -- or the run is over before, after one round more
 pub rounds_over : {run r r' : Run} {p q u : Point} {b l l₁ l₂ m m₁ m₂ s : Bytes} {t : ℕ} → Lent run p b l m → Rounds run r p q l l₁ m m₁ t → Round s r r' q u l₁ l₂ m₁ m₂ → 1 ≤ length s → 1 ≤ length l₁
-    → {z : Bool} → z ≡ is_over r'.reading r'.output.lost → z ≡ true → All run r' p u l l₂ m m₂
+    → (r'.reading ≡ Open → r'.output.lost ≡ false → ⊥) → All run r' p u l l₂ m m₂
 unfolding blocks_more
-rounds_over {r' = r'} k x y i j e f =
+rounds_over k x y i j n =
     record {
       done = blocks_more x.done y i j;
       went = went_more x.goes y;
-      over = λ g h. absurd (true≢false (sym f ∙ e ∙ ap (λ (o : Reading). is_over o r'.output.lost) g ∙ h));
+      over = λ g h. absurd (n g h);
       prints = run_prints k (blocks_more x.done y i j);
     }
+
+pub not_both : {z v : Bool} → z ≡ true → z ≡ v → v ≡ false → ⊥
+not_both t e f = true≢false (sym t ∙ e ∙ f)
 
 -- ---- the program
 

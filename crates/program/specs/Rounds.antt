@@ -55,7 +55,7 @@ pub record Prints (b : Bytes) (zs : List ℤ) (ys : Bytes) (refused : Bool) : Ty
   pub written : Writes (texts (script zs ys (lines_of input))) []
   pub any : refused ≡ refused_after false (script zs ys (lines_of input))
 
--- Rounds, one after another, that did these blocks. None but the first was begun where the run was over: where its input had ended or could not be read, or output was lost.
+-- Rounds, one after another, that did these blocks. Each but the first was begun where the run was not over: where its input went on, neither ended nor unreadable, and no output was lost.
 pub data Went (run : Run) (p : Point) (l m : Bytes) : List Bytes → Run → Point → Bytes → Bytes → Type 0 where
   first : {s l' m' : Bytes} {r : Run} {q : Point} → (y : Round s run r p q l l' m m') → Went run p l m (take y.got.count s ∷ []) r q l' m'
   later : {bs : List Bytes} {s l₁ l₂ m₁ m₂ : Bytes} {r r' : Run} {q u : Point} → Went run p l m bs r q l₁ m₁ → is_over r.reading r.output.lost ≡ false → (y : Round s r r' q u l₁ l₂ m₁ m₂)
