@@ -6,11 +6,12 @@ use lib.Dec.{T, ltb}
 use lib.ListN.{length}
 use borrow.Author.Tests.{le-ltb}
 use Rattle.std.specs.Prelude.{Result, Ok, Err}
-use Rattle.refusal.specs.Results.{result_of, giving, said_by, held_after}
+use Rattle.refusal.specs.Results.{Said, result_of, giving, said_by, held_after}
 use Rattle.refusal.specs.Checks.{first, passes, table}
+use Rattle.refusal.specs.declared.Refusal.{Refusal}
 use Rattle.refusal.specs.declared.Refused.{Refused}
 use Rattle.refusal.proofs.Passing.{passes_first}
-use Rattle.refusal.proofs.Results.{Told, accepted, refused, told, result_none, held_accepted, given_refused, given_accepted, said_giving, held_giving, settled_old, settled_new}
+use Rattle.refusal.proofs.Results.{Told, accepted, refused, told, result_none, given_refused, given_accepted, said_giving, held_giving, settled_old, settled_new}
 use Rattle.lists.specs.Lists.{count_from}
 use Rattle.lists.proofs.Laws.{parts, true_T, T_true}
 use Rattle.syntax.specs.Grammar as G
@@ -47,19 +48,19 @@ module _ (bs : Bytes) (t : T (passes (caller_table bs))) where
 
 -- ---- each return
 
-module _ (w : Caller) (bs : Bytes) {l : CallerLine} {v : Result (Unit {0}) (Refused Caller)} (e : l ≡ caller_line bs) (u : v ≡ giving (result_of (first (table l.checks))) tt w) where
-  said : v ≡ giving (result_of (first (caller_table bs))) tt w
-  said = u ∙ ap (λ l. giving (result_of (first (table l.checks))) tt w) e ∙ ap (λ o. giving (result_of o) tt w) (line_first bs)
+module _ (w : Caller) (bs : Bytes) {l : CallerLine} {v : Said} (e : l ≡ caller_line bs) (u : v ≡ result_of (first (table l.checks))) where
+  said : v ≡ result_of (first (caller_table bs))
+  said = u ∙ ap (λ l. result_of (first (table l.checks))) e ∙ ap result_of (line_first bs)
 
-  pub line_refused : {f : Refused Caller} {r : Result Caller (Refused Caller)} → v ≡ Err f → r ≡ Err f → r ≡ identified w bs
+  pub line_refused : {f : Refusal} → v ≡ Err f → ◌≡◌ {A = Result Caller (Refused Caller)} (Err (record { refusal = f; held = w })) (identified w bs)
   unfolding identified
-  line_refused g h = given_refused _ _ said _ g h
+  line_refused g = given_refused _ _ _ (sym said ∙ g) refl
 
   pub line_accepted : v ≡ Ok tt → ◌≡◌ {A = Result Caller (Refused Caller)} (Ok l.caller) (identified w bs)
   unfolding identified
   line_accepted g =
-      let h = passes_first (caller_table bs) (result_none (first (caller_table bs)) (held_accepted _ _ said g)) in
-      given_accepted _ _ said _ g (ap Ok (ap (λ l. l.caller) e ∙ read_caller bs h w))
+      let h = passes_first (caller_table bs) (result_none (first (caller_table bs)) (sym said ∙ g)) in
+      given_accepted _ _ _ (sym said ∙ g) (ap Ok (ap (λ l. l.caller) e ∙ read_caller bs h w))
 
 -- ---- what the definition means
 

@@ -220,7 +220,12 @@ impl Caller {
         ensures { result ≡ identified self line.now }
     {
         let l = read(line);
-        l.checks.result_holding(self)?;
-        Ok(l.caller)
+        match l.checks.result() {
+            Ok(()) => Ok(l.caller),
+            Err(refusal) => Err(Refused {
+                refusal,
+                held: self,
+            }),
+        }
     }
 }

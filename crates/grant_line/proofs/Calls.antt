@@ -10,13 +10,13 @@ use lib.ListN.{length, replicate}
 use lib.Seq.{paste}
 use borrow.Author.Tests.{leb-false, ltb-false}
 use Rattle.std.specs.Prelude.{Result, Ok, Err}
-use Rattle.refusal.specs.Results.{result_of, giving, said_by, settled}
+use Rattle.refusal.specs.Results.{Said, result_of, giving, said_by, settled}
 use Rattle.refusal.specs.Checks.{first, table, refuse}
 use Rattle.refusal.specs.declared.Checks.{Checks}
 use Rattle.refusal.specs.declared.Refusal.{Refusal}
 use Rattle.refusal.specs.declared.Refused.{Refused}
 use Rattle.refusal.specs.declared.Refusal.TheVariants.{Lent, Malformed, Bound}
-use Rattle.refusal.proofs.Results.{result_none, held_refused, held_accepted}
+use Rattle.refusal.proofs.Results.{result_none}
 use Rattle.lists.proofs.Laws.{parts, true_T, or_first, or_last}
 use Rattle.grant_line.proofs.Lines.{unread_not}
 use Rattle.syntax.specs.Grammar as G
@@ -86,29 +86,21 @@ module _ (ns : List ℕ) (bs : Bytes) {l : GrantLine} (e : l ≡ grant_line ns b
 -- ---- the returns
 
 module _ (ns : List ℕ) (count : ℕ) (bs : Bytes) (ws : List ℕ) {l : GrantLine} {local : List ℕ} (read : LineRead ns bs (replicate 95 0) local l) {x a : Bool} (e : x ≡ lent_sound ns count (length ws)) (i : a ≡ (l.checks.bound || leb 24 count))
-    {none_is : Grant} (z : none_is ≡ no_grant) {v : Result (Unit {0}) (Refused Grant)} (m : v ≡ giving (result_of (first (table (flags_of (not x) a l)))) tt none_is) where
+    {v : Said} (m : v ≡ result_of (first (table (flags_of (not x) a l)))) where
   flags_are : flags_of (not x) a l ≡ flags ns count (length ws) (grant_line ns bs)
   flags_are =
       ap (λ y. flags_of (not y) a l) e ∙ ap (λ y. flags_of (not (lent_sound ns count (length ws))) y l) i ∙ ap (flags ns count (length ws)) read.is
 
-  said : v ≡ giving (result_of (first (table (flags_of (not x) a l)))) tt no_grant
-  said = m ∙ ap (giving (result_of (first (table (flags_of (not x) a l)))) tt) z
+  result_is : (gs : List M.Grant) → length gs ≡ count → v ≡ result_of (first (grant_table ns gs ws bs))
+  result_is gs h = m ∙ ap (λ y. result_of (first (table y))) flags_are ∙ ap result_of (flags_said ns count ws bs gs h)
 
-  result_is : (gs : List M.Grant) → length gs ≡ count → result_of (first (table (flags_of (not x) a l))) ≡ result_of (first (grant_table ns gs ws bs))
-  result_is gs h = ap (λ y. result_of (first (table y))) flags_are ∙ ap result_of (flags_said ns count ws bs gs h)
-
-  pub grant_refused : {f : Refused Grant} {r : Result Grant (Refused Grant)} → v ≡ Err f → r ≡ Err f → Grants ns count bs ws ws r
+  pub grant_refused : {f : Refusal} → v ≡ Err f → {g : Grant} → g ≡ no_grant → Grants ns count bs ws ws (Err (record { refusal = f; held = g }))
   unfolding giving said_by settled
-  grant_refused {f} d k =
-      let (p, q) = held_refused _ _ said d in
-      rw k (record { said = λ gs h. sym p ∙ result_is gs h; given = λ i. Err (record { refusal = f.refusal; held = q i }); left = refl })
+  grant_refused {f} d z = record { said = λ gs h. sym d ∙ result_is gs h; given = ap (λ g. Err (record { refusal = f; held = g })) z; left = refl }
 
   module _ (d : v ≡ Ok tt) where
-    accepted : result_of (first (table (flags_of (not x) a l))) ≡ Ok tt
-    accepted = held_accepted _ _ said d
-
     clear : (not x ≡ false) × (l.checks.long ≡ false) × (l.checks.malformed ≡ false) × (a ≡ false)
-    clear = early (flags_of (not x) a l) (result_none (first (table (flags_of (not x) a l))) accepted)
+    clear = early (flags_of (not x) a l) (result_none (first (table (flags_of (not x) a l))) (sym m ∙ d))
 
     unbound : l.checks.bound ≡ false
     unbound = or_first l.checks.bound (leb 24 count) (sym i ∙ clear.3)
@@ -133,7 +125,7 @@ module _ (ns : List ℕ) (count : ℕ) (bs : Bytes) (ws : List ℕ) {l : GrantLi
     unfolding giving said_by settled with_words
     grant_accepted k =
         record {
-          said = λ gs h. sym accepted ∙ result_is gs h;
+          said = λ gs h. sym d ∙ result_is gs h;
           given = ap (λ g. Ok g) (made_is ns bs read.is clear.2 unbound);
           left = k ∙ ap₂ (λ us n. paste ws (count * 95) us n) (read.stored clear.2 unbound) (made_words ns bs read.is clear.2 unbound);
         }

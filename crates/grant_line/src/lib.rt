@@ -469,8 +469,15 @@ pub fn grant(
     let mut checks = l.checks;
     checks.lent = !lendable(names, count, words.len());
     checks.bound = text::either(checks.bound, Grant::GRANTS <= count);
-    checks.result_holding(no_grant())?;
-    let g = l.grant;
-    copy(words, count * Grant::PLACE, &local, g.words as usize);
-    Ok(g)
+    match checks.result() {
+        Ok(()) => {
+            let g = l.grant;
+            copy(words, count * Grant::PLACE, &local, g.words as usize);
+            Ok(g)
+        }
+        Err(refusal) => Err(Refused {
+            refusal,
+            held: no_grant(),
+        }),
+    }
 }

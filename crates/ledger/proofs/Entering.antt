@@ -10,12 +10,13 @@ use lib.Dec.{T, leb, ltb, eqb}
 use lib.ListN.{length}
 use borrow.Author.Tests.{leb-false, eqb-true, not-false}
 use Rattle.std.specs.Prelude.{Result, Ok, Err}
-use Rattle.refusal.specs.Results.{result_of, giving, said_by, held_after, settled}
+use Rattle.refusal.specs.Results.{Said, result_of, giving, said_by, held_after, settled}
 use Rattle.refusal.specs.Checks.{refuse, first, table, no_fault}
 use Rattle.refusal.specs.declared.Checks.{Checks}
+use Rattle.refusal.specs.declared.Refusal.{Refusal}
 use Rattle.refusal.specs.declared.Refused.{Refused}
 use Rattle.refusal.specs.declared.Refusal.TheVariants.{Lent, Bound, ClockBack}
-use Rattle.refusal.proofs.Results.{result_passed, held_refused, held_accepted}
+use Rattle.refusal.proofs.Results.{result_passed}
 use Rattle.lists.proofs.Laws.{true_T, or_last}
 use Rattle.syntax.specs.Limits.{max_streams, max_columns, max_rows, is_time, natural}
 use Rattle.calls.specs.Tables.{clock_checks}
@@ -82,28 +83,22 @@ row_room m s n f =
     let b = width_most m.names s in
     record { stream = omega arith; short = omega arith; time = omega arith; values = omega arith }
 
-module _ (m : Memory) (s : ℕ) (c : Checks) {k : Checks} {w : Result (Unit {0}) (Refused Ledger)} where
-  told : (n : ℕ) → k ≡ row_shown m s n c → w ≡ giving (result_of (first (table k))) tt m.ledger → w ≡ giving (result_of (first (table (row_shown m s n c)))) tt m.ledger
-  told n e h = h ∙ ap (λ k. giving (result_of (first (table k))) tt m.ledger) e
+module _ (m : Memory) (s : ℕ) (c : Checks) {k : Checks} {v : Said} where
+  told : (n : ℕ) → k ≡ row_shown m s n c → v ≡ result_of (first (table k)) → v ≡ result_of (first (table (row_shown m s n c)))
+  told n e h = h ∙ ap (λ k. result_of (first (table k))) e
 
   -- what the store asks
-  pub store_room : (n : ℕ) → k ≡ row_shown m s n c → w ≡ giving (result_of (first (table k))) tt m.ledger → w ≡ Ok tt
+  pub store_room : (n : ℕ) → k ≡ row_shown m s n c → v ≡ result_of (first (table k)) → v ≡ Ok tt
       → (row_place m.ledger s < length m.times) × (row_place m.ledger s * max_columns + n ≤ length m.values) × (s < max_streams)
-  store_room n e h a = let r = row_room m s n (row_fits m s n c (held_accepted _ _ (told n e h) a)) in (r.time, r.values, r.stream)
+  store_room n e h a = let r = row_room m s n (row_fits m s n c (sym (told n e h) ∙ a)) in (r.time, r.values, r.stream)
 
-  module _ (vs : List ℤ) (e : k ≡ row_shown m s (length vs) c) (h : w ≡ giving (result_of (first (table k))) tt m.ledger) where
-    pub row_refused : {f : Refused Ledger} {r : Result Ledger (Refused Ledger)} → w ≡ Err f → r ≡ Err f
+  module _ (vs : List ℤ) (e : k ≡ row_shown m s (length vs) c) (h : v ≡ result_of (first (table k))) where
+    pub row_refused : {f : Refusal} {r : Result Ledger (Refused Ledger)} → v ≡ Err f → r ≡ Err (record { refusal = f; held = m.ledger })
         → Enters m s vs c (record { ledger = held_after r; names = m.names; times = m.times; values = m.values }) (said_by r)
     unfolding settled held_after said_by
-    row_refused a d =
-        let (p, q) = held_refused _ _ (told (length vs) e h) a in
-        rw d (record { said = sym p; left = λ i. record { ledger = q i; names = m.names; times = m.times; values = m.values } })
+    row_refused a d = rw d (record { said = sym a ∙ told (length vs) e h; left = refl })
 
-    pub row_stored : w ≡ Ok tt → {l : Ledger} {times : List ℕ} {values : List ℤ} → Stored m.ledger s vs m.times times m.values values → l ≡ with_rows m.ledger s
+    pub row_stored : v ≡ Ok tt → {l : Ledger} {times : List ℕ} {values : List ℤ} → Stored m.ledger s vs m.times times m.values values → l ≡ with_rows m.ledger s
         → Enters m s vs c (record { ledger = held_after {A = Ledger} (Ok l); names = m.names; times = times; values = values }) (said_by {B = Ledger} (Ok l))
     unfolding settled held_after said_by with_row
-    row_stored a p q =
-        record {
-          said = sym (held_accepted _ _ (told (length vs) e h) a);
-          left = λ i. record { ledger = q i; names = m.names; times = p.stamped i; values = p.put i };
-        }
+    row_stored a p q = record { said = sym a ∙ told (length vs) e h; left = λ i. record { ledger = q i; names = m.names; times = p.stamped i; values = p.put i } }

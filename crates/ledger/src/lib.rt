@@ -1,7 +1,7 @@
 // The clock and the four row counts, which go in with a call and come back with it. Rows stand in lent memory: a time and six values a place, 128 places a stream.
 #![tactic(auto)]
 
-ghost use Rattle.std.specs.Prelude.{◌≡◌, ◌+◌, ◌*◌, ◌-◌, ◌≤◌, ◌<◌, T, length, get_or};
+ghost use Rattle.std.specs.Prelude.{Err, ◌≡◌, ◌+◌, ◌*◌, ◌-◌, ◌≤◌, ◌<◌, T, length, get_or};
 ghost use Rattle.std.proofs.Math.Seq.{paste};
 ghost use Rattle.refusal.specs.Results.{said_by, held_after};
 ghost use Rattle.lists.specs.Lists.{every};
@@ -9,7 +9,7 @@ ghost use Rattle.syntax.specs.Limits.{max_streams, max_columns, max_rows, is_val
 ghost use Rattle.ledger.specs.Records.{places_size, values_size, count_in, ledger_sound, undeclared_empty, times_steady, streams_steady, rows_sound, memory_sound};
 ghost use Rattle.ledger.specs.Calls.{begun, clocked, clock_call, cleared, clear_call, row_place, with_rows, row_shown, Enters, Stored, RowCall};
 
-use refusal::{Checks, Refused};
+use refusal::{Checks, Refusal, Refused};
 use schema::Stream;
 use text::{Number, Time};
 
@@ -74,6 +74,16 @@ impl Ledger {
         true
     }
 
+    // A refused call: the refusal with the ledger as it was.
+    fn refused(self, refusal: Refusal) -> Result<Ledger, Refused<Ledger>>
+        ensures { result ≡ Err (record { refusal = refusal; held = self }) }
+    {
+        Err(Refused {
+            refusal,
+            held: self,
+        })
+    }
+
     // Returns what `clock` does for a time, None where a number is none, after what a line showed (`checks`).
     pub fn clock_with(self, t: Option<u32>, checks: Checks) -> Result<Ledger, Refused<Ledger>>
         ensures { result ≡ clocked self t checks }
@@ -83,10 +93,14 @@ impl Ledger {
         c.lent = !self.sound();
         c.bound |= t.is_none();
         c.back = time < self.clock;
-        c.result_holding(self)?;
-        let mut next = self;
-        next.clock = time;
-        Ok(next)
+        match c.result() {
+            Ok(()) => {
+                let mut next = self;
+                next.clock = time;
+                Ok(next)
+            }
+            Err(refusal) => self.refused(refusal),
+        }
     }
 
     // The clock call. Returns the ledger with the time, which may be any number, or the refusal with the ledger as it was.
@@ -103,10 +117,14 @@ impl Ledger {
     {
         let mut c = checks;
         c.lent = !self.sound();
-        c.result_holding(self)?;
-        let mut next = self;
-        next.rows = [0; Stream::MOST];
-        Ok(next)
+        match c.result() {
+            Ok(()) => {
+                let mut next = self;
+                next.rows = [0; Stream::MOST];
+                Ok(next)
+            }
+            Err(refusal) => self.refused(refusal),
+        }
     }
 
     // The clear call. Returns the ledger with no rows and its clock, or the refusal with the ledger as it was.
@@ -317,9 +335,13 @@ impl Ledger {
         ensures { Enters (record { ledger = self; names = names.now; times = times.old; values = values.old }) s vs.now checks (record { ledger = held_after result; names = names.now; times = times.new; values = values.new }) (said_by result) }
     {
         let c = self.row_checks(names, s, vs.len(), times, values, checks);
-        c.result_holding(self)?;
-        self.store(s, vs, times, values);
-        Ok(self.with_row(s))
+        match c.result() {
+            Ok(()) => {
+                self.store(s, vs, times, values);
+                Ok(self.with_row(s))
+            }
+            Err(refusal) => self.refused(refusal),
+        }
     }
 
     // The row call: one row more of the stream of a number. Returns the ledger with one row more, or the refusal with the ledger as it was.

@@ -42,32 +42,14 @@ result_passed c e = passed c (result_none (first (table c)) e)
 
 -- ---- what is held after a result
 
--- what checks say that hold a value: it is held after a refusal
-module _ {A : Type 0} (v : Said) (old : A) {w : Result (Unit {0}) (Refused A)} (e : w ≡ giving v tt old) where
-  pub held_refused : {f : Refused A} → w ≡ Err f → (v ≡ Err f.refusal) × (f.held ≡ old)
+module _ {A B : Type 0} (v : Said) (new : A) (old : B) {r : Result A (Refused B)} where
+  pub given_refused : {f : Refusal} → v ≡ Err f → r ≡ Err (record { refusal = f; held = old }) → r ≡ giving v new old
   unfolding giving
-  held_refused {f} h = go v e
-    where
-      go : (u : Said) → w ≡ giving u tt old → (u ≡ Err f.refusal) × (f.held ≡ old)
-      go (Ok t) d = absurd (not_ok f (sym h ∙ d))
-      go (Err g) d = let q : f ≡ record { refusal = g; held = old } = cc in (ap (λ x. Err x.refusal) (sym q), ap (λ x. x.held) q)
+  given_refused e h = h ∙ sym (rw e)
 
-  pub held_accepted : w ≡ Ok tt → v ≡ Ok tt
+  pub given_accepted : v ≡ Ok tt → r ≡ Ok new → r ≡ giving v new old
   unfolding giving
-  held_accepted h = go v e
-    where
-      go : (u : Said) → w ≡ giving u tt old → u ≡ Ok tt
-      go (Ok t) d = refl
-      go (Err g) d = absurd (not_ok _ (sym d ∙ h))
-
-  module _ (new : A) {r : Result A (Refused A)} where
-    pub given_refused : {f : Refused A} → w ≡ Err f → r ≡ Err f → r ≡ giving v new old
-    unfolding giving
-    given_refused {f} h k = let (p, q) = held_refused h in k ∙ sym (rw (p, sym q))
-
-    pub given_accepted : w ≡ Ok tt → r ≡ Ok new → r ≡ giving v new old
-    unfolding giving
-    given_accepted h k = k ∙ sym (rw (held_accepted h))
+  given_accepted e h = h ∙ sym (rw e)
 
 module _ {A B : Type 0} where
   pub said_giving : (v : Said) (new : A) (old : B) → said_by (giving v new old) ≡ v

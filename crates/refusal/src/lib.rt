@@ -3,7 +3,7 @@
 
 ghost use Rattle.std.specs.Prelude.{◌≡◌};
 ghost use Rattle.refusal.specs.Numbers.{number_of};
-ghost use Rattle.refusal.specs.Results.{result_of, giving};
+ghost use Rattle.refusal.specs.Results.{result_of};
 ghost use Rattle.refusal.specs.Checks.{first, no_fault, unread, shown, table};
 
 #[derive(Clone, Copy)]
@@ -164,15 +164,5 @@ impl Checks {
             return Err(Refusal::NoRoom);
         }
         Ok(())
-    }
-
-    // Returns what `result` does, and with a refusal what is then held.
-    pub fn result_holding<T: Copy>(self, held: T) -> Result<(), Refused<T>>
-        ensures { result ≡ giving (result_of (first (table self))) tt held }
-    {
-        match self.result() {
-            Ok(()) => Ok(()),
-            Err(refusal) => Err(Refused { refusal, held }),
-        }
     }
 }

@@ -1,22 +1,22 @@
-use mathlib.Core.Path.{◌≡◌, refl, ◌∙◌}
-use borrow.Author.Rules.{rules}
-use Rattle.refusal.specs.Results.{result_of, giving}
+use mathlib.Core.Path.{◌≡◌, refl, sym, ◌∙◌}
+use Rattle.std.specs.Prelude.{Ok, Err}
+use Rattle.refusal.specs.Results.{Said, result_of}
 use Rattle.refusal.specs.Checks.{first, table}
 use Rattle.ledger.specs.Calls.{clock_shown, clocked}
 use Rattle.refusal.proofs.Results.{given_refused, given_accepted}
 use Rattle.text.proofs.Found.{none_is}
 use Rattle.ledger.proofs.Ledger.clock_with.Goals as goal
 
-pub returns-in_err-result_holding : goal.returns-in_err-result_holding
+pub returns-in-Ok : goal.returns-in-Ok
 unfolding clocked clock_shown
-returns-in_err-result_holding c =
-    let e : c.result_holding.result ≡ giving (result_of (first (table (clock_shown c.args.self c.args.t c.args.checks)))) tt c.args.self = c.result_holding.ensures
+returns-in-Ok c =
+    let e : ◌≡◌ {A = Said} (Ok tt) (result_of (first (table (clock_shown c.args.self c.args.t c.args.checks)))) = c.in-Ok.ensures
     ∙ rw (c.sound.ensures, none_is _ c.is_none.ensures, c.unwrap_or-time.ensures) refl in
-    given_refused _ _ e _ c.in_err-result_holding.was (search rules)
+    given_accepted _ _ _ (sym e) (rw c.unwrap_or-time.ensures refl)
 
-pub returns : goal.returns
+pub returns-in-Err : goal.returns-in-Err
 unfolding clocked clock_shown
-returns c =
-    let e : c.result_holding.result ≡ giving (result_of (first (table (clock_shown c.args.self c.args.t c.args.checks)))) tt c.args.self = c.result_holding.ensures
+returns-in-Err c =
+    let e : ◌≡◌ {A = Said} (Err c.in-Err.refusal) (result_of (first (table (clock_shown c.args.self c.args.t c.args.checks)))) = c.in-Err.ensures
     ∙ rw (c.sound.ensures, none_is _ c.is_none.ensures, c.unwrap_or-time.ensures) refl in
-    given_accepted _ _ e _ c.in_ok-result_holding.was (rw c.unwrap_or-time.ensures refl)
+    given_refused _ _ _ (sym e) c.refused.ensures
