@@ -13,6 +13,7 @@ use Rattle.lists.proofs.Laws.{append_nil}
 use Rattle.syntax.specs.Grammar.{Bytes}
 use Rattle.calls.specs.Scripts.{Outcome, script}
 use Rattle.history.specs.States as M
+use Rattle.console.specs.declared.Reading.{Reading}
 use Rattle.console.specs.declared.Reading.TheVariants.{Open, Ended}
 use Rattle.console.specs.Lines.{lines_of, ended, begun, closing, closer, is_over}
 use Rattle.console.specs.Output.{Writes}
@@ -24,7 +25,7 @@ use Rattle.script.specs.States.{new_state}
 use Rattle.script.proofs.Running.{script_runs, new_fresh}
 use Rattle.lines.specs.declared.Run.{Run}
 use Rattle.lines.specs.Runs.{Point, point, Runs, stop, then, texts, Advances, refused_after, Known}
-use Rattle.program.specs.Rounds.{Round, joined, Closed, Lent, Blocks, Prints, Went, first, later, All}
+use Rattle.program.specs.Rounds.{Round, joined, Closed, Lent, Blocks, Prints, All}
 use Rattle.lines.proofs.Advancing.{advances_then, advances_none}
 use Rattle.program.proofs.Cut.{script_cut}
 
@@ -51,31 +52,16 @@ wide h e = omega arith
 pub wide_line : {a b : ℕ} → a ≡ 513 → b ≡ a → 1 ≤ b
 wide_line h e = omega arith
 
--- where a further round may begin: before the first, or after some where the run is not over
-pub data Goes (run : Run) (p : Point) (l m : Bytes) : List Bytes → Run → Point → Bytes → Bytes → Type 0 where
-  none_yet : Goes run p l m [] run p l m
-  not_over : {bs : List Bytes} {l' m' : Bytes} {r : Run} {q : Point} → Went run p l m bs r q l' m' → is_over r.reading r.output.lost ≡ false → Goes run p l m bs r q l' m'
-
-went_more : {run r r' : Run} {p q u : Point} {l l₁ l₂ m m₁ m₂ s : Bytes} {bs : List Bytes} → Goes run p l m bs r q l₁ m₁ → (y : Round s r r' q u l₁ l₂ m₁ m₂) → Went run p l m (bs ++ (take y.got.count s ∷ [])) r' u l₂ m₂
-went_more none_yet y = first y
-went_more (not_over w e) y = later w e y
-
-went_all : {run r : Run} {p q : Point} {l l' m m' : Bytes} {bs : List Bytes} → Goes run p l m bs r q l' m' → 1 ≤ length bs → Went run p l m bs r q l' m'
-went_all none_yet h = absurd (omega arith)
-went_all (not_over w e) h = w
-
--- after t rounds, where a further one may begin
+-- after t rounds
 pub record Rounds (run r : Run) (p q : Point) (l l' m m' : Bytes) (t : ℕ) : Type 0 where
   pub done : Blocks run r p q l l' m m'
   pub count : length done.blocks ≡ t
-  pub goes : Goes run p l m done.blocks r q l' m'
 
 pub rounds_start : (run : Run) {p : Point} {l m : Bytes} → run.reading ≡ Open → Rounds run run p p l l m m 0
 rounds_start run {p} {l} {m} e =
     record {
       done = record { blocks = []; advances = λ w k. unfold joined in advances_none run w k; written = λ u. u; closed = λ x. absurd (cc) };
       count = refl;
-      goes = none_yet;
     }
 
 module _ {run r r' : Run} {p q u : Point} {l l₁ l₂ m m₁ m₂ s : Bytes} (x : Blocks run r p q l l₁ m m₁) (y : Round s r r' q u l₁ l₂ m₁ m₂) (i : 1 ≤ length s) (j : 1 ≤ length l₁) where
@@ -98,16 +84,9 @@ module _ {run r r' : Run} {p q u : Point} {l l₁ l₂ m m₁ m₂ s : Bytes} (x
         };
       }
 
--- one round more, after which the run is not over
-pub rounds_more : {run r r' : Run} {p q u : Point} {l l₁ l₂ m m₁ m₂ s : Bytes} {t : ℕ} → Rounds run r p q l l₁ m m₁ t → Round s r r' q u l₁ l₂ m₁ m₂ → 1 ≤ length s → 1 ≤ length l₁
-    → {z : Bool} → z ≡ is_over r'.reading r'.output.lost → z ≡ false → Rounds run r' p u l l₂ m m₂ (t + 1)
+pub rounds_more : {run r r' : Run} {p q u : Point} {l l₁ l₂ m m₁ m₂ s : Bytes} {t : ℕ} → Rounds run r p q l l₁ m m₁ t → Round s r r' q u l₁ l₂ m₁ m₂ → 1 ≤ length s → 1 ≤ length l₁ → Rounds run r' p u l l₂ m m₂ (t + 1)
 unfolding blocks_more
-rounds_more {s = s} x y i j e f =
-    record {
-      done = blocks_more x.done y i j;
-      count = let n = length-append x.done.blocks (take y.got.count s ∷ []) in let c = x.count in omega arith;
-      goes = not_over (went_more x.goes y) (sym e ∙ f);
-    }
+rounds_more {s = s} x y i j = record { done = blocks_more x.done y i j; count = let n = length-append x.done.blocks (take y.got.count s ∷ []) in let c = x.count in omega arith }
 
 -- ---- what a run prints
 
@@ -146,28 +125,11 @@ module _ {run r : Run} {p q : Point} {b l l' m m' : Bytes} (lent : Lent run p b 
 
 -- every round was done
 pub rounds_end : {run r : Run} {p q : Point} {b l l' m m' : Bytes} {t : ℕ} → Lent run p b l m → Rounds run r p q l l' m m' t → t ≡ 2 ^ 64 - 1 → All run r p q l l' m m'
-rounds_end k x h =
-    record {
-      done = x.done;
-      went = went_all x.goes (let c = x.count in omega arith);
-      over = λ e f. x.count ∙ h;
-      prints = run_prints k x.done;
-    }
+rounds_end k x h = record { done = x.done; over = λ e f. x.count ∙ h; prints = run_prints k x.done }
 
--- or the run is over before, after one round more
-pub rounds_over : {run r r' : Run} {p q u : Point} {b l l₁ l₂ m m₁ m₂ s : Bytes} {t : ℕ} → Lent run p b l m → Rounds run r p q l l₁ m m₁ t → Round s r r' q u l₁ l₂ m₁ m₂ → 1 ≤ length s → 1 ≤ length l₁
-    → (r'.reading ≡ Open → r'.output.lost ≡ false → ⊥) → All run r' p u l l₂ m m₂
-unfolding blocks_more
-rounds_over k x y i j n =
-    record {
-      done = blocks_more x.done y i j;
-      went = went_more x.goes y;
-      over = λ g h. absurd (n g h);
-      prints = run_prints k (blocks_more x.done y i j);
-    }
-
-pub not_both : {z v : Bool} → z ≡ true → z ≡ v → v ≡ false → ⊥
-not_both t e f = true≢false (sym t ∙ e ∙ f)
+-- or the run is over before
+pub rounds_over : {run r : Run} {p q : Point} {b l l' m m' : Bytes} {t : ℕ} → Lent run p b l m → Rounds run r p q l l' m m' t → {z : Bool} → z ≡ is_over r.reading r.output.lost → z ≡ true → All run r p q l l' m m'
+rounds_over {r = r} k x e f = record { done = x.done; over = λ g h. absurd (true≢false (sym f ∙ e ∙ ap (λ (o : Reading). is_over o r.output.lost) g ∙ h)); prints = run_prints k x.done }
 
 -- ---- the program
 

@@ -11,6 +11,10 @@ use Rattle.script.specs.Runs.{store}
 use Rattle.lines.specs.declared.Run.{Run}
 use Rattle.lines.specs.Runs.{Point, text_room, texts, refused_after, Advances, Known}
 
+-- A round is begun only where the run is not over: its input went on, neither ended nor unreadable, and no output was lost.
+abbrev pub Goes : Run → Type 0
+Goes run = is_over run.reading run.output.lost ≡ false
+
 -- A part of the input is read, and stands at the start of s; it is done, and all that its lines print is written.
 pub record Round (s : Bytes) (run r : Run) (p q : Point) (l l' m m' : Bytes) : Type 0 where
   pub got : Got
@@ -55,15 +59,8 @@ pub record Prints (b : Bytes) (zs : List ℤ) (ys : Bytes) (refused : Bool) : Ty
   pub written : Writes (texts (script zs ys (lines_of input))) []
   pub any : refused ≡ refused_after false (script zs ys (lines_of input))
 
--- Rounds, one after another, that did these blocks. Each but the first was begun where the run was not over: where its input went on, neither ended nor unreadable, and no output was lost.
-pub data Went (run : Run) (p : Point) (l m : Bytes) : List Bytes → Run → Point → Bytes → Bytes → Type 0 where
-  first : {s l' m' : Bytes} {r : Run} {q : Point} → (y : Round s run r p q l l' m m') → Went run p l m (take y.got.count s ∷ []) r q l' m'
-  later : {bs : List Bytes} {s l₁ l₂ m₁ m₂ : Bytes} {r r' : Run} {q u : Point} → Went run p l m bs r q l₁ m₁ → is_over r.reading r.output.lost ≡ false → (y : Round s r r' q u l₁ l₂ m₁ m₂)
-      → Went run p l m (bs ++ (take y.got.count s ∷ [])) r' u l₂ m₂
-
--- The input is done, block by block, to its end; unless it could not be read, output was lost, or 2 ^ 64 - 1 blocks were read. Where the run is over no further round is begun.
+-- The input is done, block by block, to its end; unless it could not be read, output was lost, or 2 ^ 64 - 1 blocks were read.
 pub record All (run r : Run) (p q : Point) (l l' m m' : Bytes) : Type 0 where
   pub done : Blocks run r p q l l' m m'
-  pub went : Went run p l m done.blocks r q l' m'
   pub over : r.reading ≡ Open → r.output.lost ≡ false → length done.blocks ≡ 2 ^ 64 - 1
   pub prints : r.reading ≡ Ended → r.output.lost ≡ false → Prints (joined done.blocks) p.cells p.bytes r.refused

@@ -3,7 +3,7 @@
 #![tactic(auto)]
 
 ghost use Rattle.lines.specs.Runs.{point};
-ghost use Rattle.program.specs.Rounds.{Round, Lent, All};
+ghost use Rattle.program.specs.Rounds.{Goes, Round, Lent, All};
 // Named since a State holds one: the checker knows the types of the crates that are named here alone.
 use caller::Caller;
 use console::{Got, Output, Reading};
@@ -44,6 +44,7 @@ fn do_some(
     bytes: &mut [u8],
     out: &mut [u8],
 ) -> Run
+    requires { Goes run }
     ensures { Round block.new run result (point run.state names.old times.old values.old words.old cells.old bytes.old) (point result.state names.new times.new values.new words.new cells.new bytes.new) line.old line.new out.old out.new }
 {
     let got = console::read_some(rt, block, run.kept);
@@ -85,12 +86,12 @@ fn do_all(
 {
     let mut r = run;
     'rounds: for _ in 0..u64::MAX {
-        r = do_some(
-            rt, r, block, names, times, values, words, line, cells, bytes, out,
-        );
         if console::is_over(r.reading, r.output.lost) {
             return r;
         }
+        r = do_some(
+            rt, r, block, names, times, values, words, line, cells, bytes, out,
+        );
     }
     r
 }
