@@ -22,11 +22,11 @@ pub enum Refusal {
     NoRoom,
 }
 
-// A refusal, and what is held after it: what was, where a call takes a value and gives it back.
+// A refusal, and what is held after it: what was, where a call takes a value and gives it back. That stands first, where an Ok has its value, so that neither is moved for the other.
 #[derive(Clone, Copy)]
 pub struct Refused<T> {
-    pub refusal: Refusal,
     pub held: T,
+    pub refusal: Refusal,
 }
 
 // What is wrong with a call, check by check, in the order of the refusal table. `long` is a line over its bytes.
