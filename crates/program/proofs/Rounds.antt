@@ -1,17 +1,20 @@
 -- What is read at once, and how many times.
-use mathlib.Core.Path.{◌≡◌, ap, ◌∙◌, subst}
+use mathlib.Core.Path.{◌≡◌, refl, ap, ◌∙◌, subst}
 use mathlib.Core.List.{◌++◌}
+use mathlib.Core.Bool.{false, true≢false}
 use Prim.Native.Nat.{ℕ, ◌-◌}
 use native.Mathlib.Omega.{arith}
 use lib.ListN.{take, drop}
 use Rattle.lists.proofs.Laws.{append_nil}
 use Rattle.syntax.specs.Grammar.{Bytes}
 use Rattle.console.specs.declared.Got.{Got}
-use Rattle.console.specs.Lines.{Reads}
+use Rattle.console.specs.declared.Reading.{Reading}
+use Rattle.console.specs.declared.Reading.TheVariants.{Open, Ended, Failed}
+use Rattle.console.specs.Lines.{Reads, is_over}
 use Rattle.console.specs.Output.{Lasts}
 use Rattle.lines.specs.declared.Run.{Run}
 use Rattle.lines.specs.Runs.{Point, Advances, Block}
-use Rattle.program.specs.Rounds.{Round}
+use Rattle.program.specs.Rounds.{Goes, Round}
 
 -- ---- a part of the input that is read
 
@@ -39,3 +42,16 @@ round_done s run b r got {p} {q} {l} {l'} {m} {m'} x y kept lines refused explai
           counts = record { lines = lines ∙ a.counts.lines; refused = refused ∙ a.counts.refused; explains = explains ∙ a.counts.explains; lost = λ h. used.1 (a.counts.lost h) };
           sized = a.sized;
         }
+
+-- ---- where a round is begun: where the input went on and no output was lost, and nowhere else
+
+pub goes_open : (run : Run) → Goes run → (run.reading ≡ Open) × (run.output.lost ≡ false)
+goes_open run g = go run.reading refl g
+  where
+    go : (o : Reading) → run.reading ≡ o → is_over o run.output.lost ≡ false → (run.reading ≡ Open) × (run.output.lost ≡ false)
+    go Open e h = (e, h)
+    go Ended e h = absurd (true≢false h)
+    go Failed e h = absurd (true≢false h)
+
+pub open_goes : (run : Run) → run.reading ≡ Open → run.output.lost ≡ false → Goes run
+open_goes run e h = ap (λ (o : Reading). is_over o run.output.lost) e ∙ h
